@@ -1,4 +1,4 @@
--- A stream's gate counts each cycle anew: what becomes of a cycle's frames doesn't hang on those of other cycles.
+-- A stream's gate counts each cycle anew: the verdicts on a cycle's frames don't depend on those of other cycles.
 use Rattle.std.proofs.Common.{◌≡◌, ℕ, ◌+◌, ◌*◌, ◌<◌, List, [], ◌∷◌, ◌++◌, ◌==◌, ◌&&◌, if◌then◌else◌, nat_le, sym, ap}
 use Rattle.std.proofs.Common.{refl, ◌∙◌, arith, append_assoc, append-nil, Contains}
 use Rattle.std.proofs.Common.{ne_eqb, zero-add}
@@ -31,7 +31,7 @@ module _ (reserves : GateIsReservation) (d : Domain) (some : 0 < d.cycle_time) (
       cond-false (is_queued_of number p.verdict && (cycle_of d p.received.at == cycle)) p.received.octets 0
       (and_right (is_queued_of number p.verdict) (cycle_of d p.received.at == cycle) (ne_eqb (cycle_of d p.received.at) cycle (others p h))))
 
-  -- so behind them it counts what it counts alone
+  -- so after them it counts what it counts alone
   counts_alone : (number : ℕ) (now : List Policed) → octets_before d number cycle (earlier ++ now) ≡ octets_before d number cycle now
   counts_alone number now =
       sum_by-append (counted number) earlier now
@@ -49,14 +49,14 @@ module _ (reserves : GateIsReservation) (d : Domain) (some : 0 < d.cycle_time) (
       ∙ ap (λ (n : ℕ). nat_le (n + x.octets) (reserved_in row (depth_behind row (came_by x.way)) (cycle_of d x.at))) same
       ∙ sym (reserves d now row x some)
 
-  -- so the same becomes of a frame of the cycle
+  -- so the verdict on a frame of the cycle is the same
   same_verdict : (now : List Policed) (x : Received) → cycle_of d x.at ≡ cycle → police d tables bridge (earlier ++ now) x ≡ police d tables bridge now x
   same_verdict now x here = λ i. record {
     received = x;
     verdict = verdict_by d (table_of tables (cycle_of d x.at)) bridge (cycle_of d x.at) (λ row. same_gate now x here row i) x.way;
   }
 
-  -- and of all of them
+  -- and on all of them
   same_verdicts : (now : List Policed) (xs : List Received) → ((x : Received) → Contains xs x → cycle_of d x.at ≡ cycle) →
       police_all d tables bridge (earlier ++ now) xs ≡ police_all d tables bridge now xs
   same_verdicts now [] here = refl
@@ -67,7 +67,7 @@ module _ (reserves : GateIsReservation) (d : Domain) (some : 0 < d.cycle_time) (
       ∙ ap (λ (ps : List Policed). p ∷ ps) (same_verdicts (now ++ p ∷ []) xs (λ y h. here y (contains_later x xs y h)))
 
 module _ (run : Run) (carried : Carried) (bridge cycle : ℕ) where
-  -- what becomes of the frames of a cycle is what becomes of them behind no others
+  -- the verdicts on the frames of a cycle are those without earlier frames
   pub policed_anew : GateIsReservation → 0 < run.domain.cycle_time → policed_in run carried bridge cycle [] ≡ policed_of run carried bridge cycle
   policed_anew reserves some =
       let d = run.domain in

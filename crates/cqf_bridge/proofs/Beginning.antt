@@ -1,4 +1,4 @@
--- A bridge before its first cycle, and the background frames that it is handed.
+-- A bridge before its first cycle, and the background frames that it is given.
 use Rattle.std.proofs.Common.{◌≡◌, ℕ, ◌+◌, ◌*◌, ◌<◌, ◌≤◌, true, List, [], ◌∷◌, ◌==◌, length, filter, ap, refl, ◌∙◌, inl, inr, arith, subst, Contains, eqb-true}
 use Rattle.std.specs.List.{enumerate_from}
 use Rattle.std.proofs.lemmas.Bool.{and_parts}
@@ -19,7 +19,7 @@ use Rattle.cqf_bridge.specs.BridgeState.{AreBackedOf, links_from, new_bridge}
 use Rattle.cqf_bridge.specs.PortRecord.{PortRecord, new_record, rules_on}
 use Rattle.cqf_bridge.specs.Follows.{FollowsTheNetwork, HasTaken}
 
--- up to instant 0 nothing started is legal for nothing that came
+-- if nothing arrived, no starts are legal up to instant 0
 none_legal : (rules : PortRules) (end : ℕ) → end ≡ 0 → AreLegal rules [] end []
 none_legal rules end first = record {
   in_order = pairs_none (λ (a b : Transmission). a.1 < b.1);
@@ -32,7 +32,7 @@ none_legal rules end first = record {
   work_conserving = λ t other before idle waits eligible. absurd (omega (arith, before, first));
 }
 
--- a port that has recorded nothing has what came before cycle 0
+-- a port with nothing recorded has what arrived before cycle 0
 new_port : (run : Run) (net : Network) (link : ℕ) →
     HasTaken run.domain (0 * run.domain.cycle_time) (comes_before run net.carried link 0) (new_record run.domain link)
 new_port run net link = record {
@@ -75,11 +75,11 @@ is_of_run d background x good h =
     subst (λ (y : Background). IsBackground d y) (k.2 ∙ ap (λ (y : Backed). y.background) w.2) (good k.0 w.0.1 k.1)
 
 module _ (d : Domain) (background : List Background) (bridge cycle : ℕ) where
-  -- those of an instant of the cycle
+  -- the background frames at an instant of the cycle
   abbrev at_offset : ℕ → List Backed
   at_offset offset = filter (is_backed_for d bridge (cycle * d.cycle_time + offset)) (numbered_background background)
 
-  -- wait at it on a link that leaves the bridge
+  -- arrive then on a link that leaves the bridge
   of_offset : (offset : ℕ) (x : Backed) → Contains (at_offset offset) x →
       (leaves d x.background.link bridge ≡ true) × (x.background.at.0 ≡ cycle * d.cycle_time + offset)
   of_offset offset x h =

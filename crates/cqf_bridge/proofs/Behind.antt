@@ -1,4 +1,4 @@
--- What becomes of a frame by the gates is what becomes of it behind the frames that they have counted.
+-- The verdict on a frame by the gates is its verdict after the frames that they have counted.
 use Rattle.std.proofs.Common.{◌≡◌, ◌+◌, ◌<◌, ℕ, Bool, true, false, List, [], ◌∷◌, ◌++◌, ◌∙◌, sym, ap, refl, arith, map, filter}
 use Rattle.std.specs.Prelude.{◌==◌, if◌then◌else◌, slice_get, sum_by}
 use Rattle.std.specs.Option.{option_map_or}
@@ -21,7 +21,7 @@ use Rattle.cqf_bridge.proofs.Counting.{counted_at, octets_by_cycle}
 use Rattle.cqf_bridge.specs.declared.policing.FrameVerdict.{FrameVerdict}
 use Rattle.cqf_bridge.specs.Taking.{IsPolicedBehind, Polices, passes_by, verdict_taken}
 
--- the calls of a stream in a cycle, behind one more frame of it
+-- the calls of a stream in a cycle, after one more frame of it
 calls_more : (time cycle number : ℕ) (policed : List Policed) (p : Policed) → (cycle_at time p.received.at == cycle) ≡ true →
     octets_of_cycle time cycle (calls_of number (policed ++ p ∷ []))
     ≡ octets_of_cycle time cycle (calls_of number policed) + (if is_queued_of number p.verdict then p.received.octets else 0)
@@ -58,20 +58,20 @@ module _ (d : Domain) (tables : List (List Row)) (rows : List Row) (bridge cycle
       ∙ ap (λ (c : ℕ). octets_of_cycle d.cycle_time c (calls_of row.no policed)) (sym here)
       ∙ sym (octets_by_cycle counts d.cycle_time row.octets row.pace depth some (calls_of row.no policed) x.at)
 
-  -- so it lets pass what these leave room for
+  -- so it passes what these leave room for
   gates_agree : (row : Row) → passes_by d gates x row ≡ within_gate d policed row x
   gates_agree row =
       let entries = gate_behind d row (came_by x.way) in
       ap (λ (n : ℕ). option_map_or (λ (entry : StreamEntry). within entry.octet_max (n + x.octets)) (slice_get entries (place_at entries x.at)) false)
       (same_counted row)
 
-  -- and the verdict is the one of the definitions
+  -- and the verdict is that of the definitions
   pub verdict_behind : verdict_taken d rows bridge cycle gates x ≡ (police d tables bridge policed x).verdict
   verdict_behind =
       (λ i. verdict_by d (sym table i) bridge cycle (λ row. gates_agree row i) x.way)
       ∙ ap (λ (c : ℕ). verdict_by d (table_of tables c) bridge c (λ row. within_gate d policed row x) x.way) (sym here)
 
-  -- and where the gates count the frame they have counted it behind the others
+  -- and gates that count the frame have counted it after the others
   pub counted_behind : (gates_after : List KeptGate) →
       ((number : ℕ) → counted_in gates_after number cycle
       ≡ counted_in gates number cycle + (if is_queued_of number (verdict_taken d rows bridge cycle gates x) then x.octets else 0)) →
@@ -81,7 +81,7 @@ module _ (d : Domain) (tables : List (List Row)) (rows : List Row) (bridge cycle
       ∙ (λ i. counted number i + (if is_queued_of number (verdict_behind i) then x.octets else 0))
       ∙ sym (calls_more d.cycle_time cycle number policed (police d tables bridge policed x) (eq-eqb (cycle_of d x.at) cycle here))
 
-  -- so what becomes of it is what becomes of it behind them
+  -- so its verdict is the one after them
   pub policed_behind : (gates_after : List KeptGate) (made : FrameVerdict) → Polices d rows bridge cycle x gates gates_after made →
       IsPolicedBehind d tables bridge cycle x policed gates_after made
   policed_behind gates_after made p = record { verdict = p.verdict ∙ verdict_behind; counted = counted_behind gates_after p.counted }

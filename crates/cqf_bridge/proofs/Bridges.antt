@@ -25,11 +25,11 @@ use Rattle.cqf_bridge.specs.BridgeState.{AreBackedOf, BridgeState, IsBridge, IsI
 use Rattle.cqf_bridge.specs.Sending.{FirstSend}
 use Rattle.cqf_bridge.specs.Taking.{IsKept}
 
--- the state of which a bridge's invariant speaks
+-- the state in a bridge's invariant
 abbrev pub state_kept : {b : BridgeState} {gates : List KeptGate} {incoming : List ℕ} → IsKept b gates incoming → BridgeState
 state_kept {b} {gates} {incoming} kept = b
 
--- a member of the firsts of pairs
+-- an element of the first components of pairs
 first_of_pair : {A B : Type 0} (xs : List A) (ys : List B) (p : A × B) → length ys ≡ length xs → Contains (zip xs ys) p → Contains xs p.0
 first_of_pair {A} {B} xs ys p even held = subst (λ (zs : List A). Contains zs p.0) (firsts-zip xs ys even)
     (contains_map (λ (q : A × B). q.0) (zip xs ys) p held)
@@ -43,7 +43,7 @@ one_port_more d number link here =
     sym (map-append (new_record d) so_far (link ∷ []))
     ∙ ap (λ (ls : List ℕ). map (new_record d) (so_far ++ ls)) (sym (cond-true (leaves d link number) (link ∷ []) [] here))
 
--- a link that another bridge sends by adds no port
+-- a link that leaves another bridge adds no port
 pub no_port_more : (d : Domain) (number link : ℕ) → leaves d link number ≡ false →
     map (new_record d) (each_below (λ l. if leaves d l number then l ∷ [] else []) link)
     ≡ map (new_record d) (each_below (λ l. if leaves d l number then l ∷ [] else []) (suc link))
@@ -51,7 +51,7 @@ no_port_more d number link other =
     let so_far = each_below (λ l. if leaves d l number then l ∷ [] else []) link in
     ap (map (new_record d)) (sym (append-nil so_far) ∙ ap (λ (ls : List ℕ). so_far ++ ls) (sym (cond-false (leaves d link number) (link ∷ []) [] other)))
 
--- a bridge that has done nothing is a bridge
+-- a bridge that has done nothing satisfies the invariant
 pub bridge_begins : (d own : Domain) (number : ℕ) (ports : List PortRecord) (background : List Started) → IsAccepted d → number < length d.bridges →
     own ≡ d → ports ≡ (new_bridge d number).ports →
     IsBridge (record { domain = own; number = number; sent = 0; received = 0; spent = false; ports = ports; background = background })
@@ -102,7 +102,7 @@ module _ (b : BridgeState) (is : IsBridge b) (fresh : b.spent ≡ false) (cycle 
     all_ports = h.ports ∙ ap (λ (rs : List PortRecord). map (port_behind b.domain cycle backed) (zip b.ports h.made) ++ rs) (drop-length b.ports)
         ∙ append-nil (map (port_behind b.domain cycle backed) (zip b.ports h.made))
 
-    -- what a port has behind the cycle
+    -- a port after the cycle
     in_step_behind : (p : PortRecord × List Transmission) → Contains (zip b.ports h.made) p →
         IsInStep b.domain (b.sent + 1) b.received (port_behind b.domain cycle backed p)
     in_step_behind p held =
@@ -154,7 +154,7 @@ module _ (b : BridgeState) (is : IsBridge b) (fresh : b.spent ≡ false) (cycle 
       background = others;
     }
 
-    -- it is a bridge again
+    -- it satisfies the invariant again
     pub bridge_behind : cycle < 100000 → IsBridge behind
     bridge_behind early = record {
       accepted = is.accepted;
@@ -173,7 +173,7 @@ module _ (b : BridgeState) (is : IsBridge b) (fresh : b.spent ≡ false) (cycle 
           subst (IsInStep b.domain (b.sent + 1) b.received) f.2 (in_step_behind f.0 f.1);
     }
 
-    -- which has sent the cycle
+    -- and has sent the cycle
     pub cycle_sent : SendsCycle b behind cycle backed given batches
     cycle_sent = record {
       made = h.made;
@@ -191,7 +191,7 @@ module _ (b : BridgeState) (is : IsBridge b) (fresh : b.spent ≡ false) (cycle 
       batches = h.batches;
     }
 
--- a spent bridge is a bridge
+-- a spent bridge satisfies the invariant
 pub bridge_spent : (b : BridgeState) (ports : List PortRecord) → IsBridge b → IsBridge (record b { spent = true; ports = ports })
 bridge_spent b ports is = record {
   accepted = is.accepted;

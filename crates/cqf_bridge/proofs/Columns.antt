@@ -1,4 +1,4 @@
--- Columns that stand side by side.
+-- Columns of equal length, side by side.
 use Rattle.std.proofs.Common.{◌≡◌, ◌<◌, ◌+◌, ◌^◌, ℕ, List, [], ◌∷◌, ◌++◌, ◌∙◌, sym, ap, refl, arith, length, map, Some, sum, sum_by}
 use Rattle.std.specs.Prelude.{option_map, slice_get}
 use Rattle.std.specs.List.{zip}
@@ -11,18 +11,18 @@ use Rattle.cqf_units.specs.declared.timing.Nanos.{Nanos}
 use Rattle.cqf_model.specs.declared.frames.Sent.{Sent}
 use Rattle.cqf_bridge.specs.Batch.{AreColumns, sent_across, sents_across}
 
--- two equally long columns with an element more
+-- two equally long columns with one more element each
 pub zip_more : {A B : Type 0} (xs : List A) (ys : List B) (x : A) (y : B) → length ys ≡ length xs → zip (xs ++ x ∷ []) (ys ++ y ∷ []) ≡ zip xs ys ++ (x, y) ∷ []
 zip_more [] [] x y even = refl
 zip_more [] (b ∷ ys) x y even = absurd (omega (arith, even))
 zip_more (a ∷ xs) [] x y even = absurd (omega (arith, even))
 zip_more {A} {B} (a ∷ xs) (b ∷ ys) x y even = ap (λ (zs : List (A × B)). (a, b) ∷ zs) (zip_more xs ys x y (omega (arith, even)))
 
--- how long they are together
+-- their length together
 pub zip_even : {A B : Type 0} (xs : List A) (ys : List B) → length ys ≡ length xs → length (zip xs ys) ≡ length xs
 zip_even xs ys even = length-zip xs ys ∙ omega (arith, even)
 
--- what stands in two columns at a place
+-- the elements of two columns at an index
 pub get_zip : {A B : Type 0} (xs : List A) (ys : List B) (place : ℕ) (x : A) (y : B) → slice_get xs place ≡ Some x → slice_get ys place ≡ Some y →
     slice_get (zip xs ys) place ≡ Some (x, y)
 get_zip {A} {B} xs ys place x y here beside =
@@ -61,7 +61,7 @@ module _ (starts : List Nanos) (frames streams octets : List ℕ) (even : AreCol
   pub sum_across : sum octets ≡ sum_by (λ (sent : Sent). sent.octets) (sents_across starts frames streams octets)
   sum_across = ap sum (sym octets_across) ∙ sum-map (λ (sent : Sent). sent.octets) (sents_across starts frames streams octets)
 
-  -- a frame more, in each column
+  -- one more frame, in each column
   pub across_more : (sent : Sent) →
       sents_across (starts ++ sent.start ∷ []) (frames ++ sent.frame ∷ []) (streams ++ sent.stream ∷ []) (octets ++ sent.octets ∷ [])
       ≡ sents_across starts frames streams octets ++ sent ∷ []
@@ -74,7 +74,7 @@ module _ (starts : List Nanos) (frames streams octets : List ℕ) (even : AreCol
       ∙ ap (map sent_across) whole
       ∙ map-append sent_across (zip starts (zip frames (zip streams octets))) ((sent.start, (sent.frame, (sent.stream, sent.octets))) ∷ [])
 
-  -- the frame at a place is made of what stands there in each column
+  -- the frame at an index consists of the elements there of all columns
   pub across_at : (place : ℕ) (sent : Sent) → slice_get starts place ≡ Some sent.start → slice_get frames place ≡ Some sent.frame →
       slice_get streams place ≡ Some sent.stream → slice_get octets place ≡ Some sent.octets →
       slice_get (sents_across starts frames streams octets) place ≡ Some sent
@@ -86,7 +86,7 @@ module _ (starts : List Nanos) (frames streams octets : List ℕ) (even : AreCol
   module _ (sent : Sent) (starts_after : List Nanos) (frames_after streams_after octets_after : List ℕ)
       (start : starts_after ≡ starts ++ sent.start ∷ []) (frame : frames_after ≡ frames ++ sent.frame ∷ [])
       (stream : streams_after ≡ streams ++ sent.stream ∷ []) (size : octets_after ≡ octets ++ sent.octets ∷ []) where
-    -- columns that are those with a frame more
+    -- columns with one more frame
     pub columns_pushed : length starts + 1 < 2 ^ 32 → AreColumns starts_after frames_after streams_after octets_after
     columns_pushed few =
         let more = length-append starts (sent.start ∷ []) in
@@ -98,7 +98,7 @@ module _ (starts : List Nanos) (frames streams octets : List ℕ) (even : AreCol
           few = omega (arith, more, long, few);
         }
 
-    -- have its frames, and that one
+    -- have its frames, and this one
     pub across_pushed : sents_across starts_after frames_after streams_after octets_after ≡ sents_across starts frames streams octets ++ sent ∷ []
     across_pushed =
         (λ i. sents_across (start i) (frame i) (stream i) (size i)) ∙ across_more sent

@@ -1,4 +1,4 @@
--- What may come to a bridge: the batches of the links that end in it.
+-- What may arrive at a bridge: the batches of the links that end in it.
 use Rattle.std.proofs.Common.{◌≡◌, ◌+◌, ◌≤◌, ◌<◌, ℕ, true, List, ◌∙◌, inl, inr, sym, ap, arith, length, map, get_or, Contains, Some, subst}
 use Rattle.std.specs.Prelude.{slice_get}
 use Rattle.std.proofs.lemmas.Bool.{cases_lt}
@@ -30,7 +30,7 @@ one_more_place {X} P xs n x is here before k y less at = elim (cases_lt k n) [
 ]
 
 module _ (d : Domain) (bridge cycle : ℕ) (rows : List Row) (batches : List LinkBatch) where
-  -- batches of which each is of the cycle are those of the bridge
+  -- batches that are all of the cycle are those of the bridge
   pub are_batches_of : map (λ (x : LinkBatch). x.link) batches ≡ links_into d bridge → (count : ℕ) → length batches ≤ count →
       ((k : ℕ) (b : LinkBatch) → k < count → slice_get batches k ≡ Some b → IsBatchOf d bridge cycle rows b) → AreBatchesOf d bridge cycle rows batches
   are_batches_of are count past each = record {
@@ -44,6 +44,6 @@ module _ (d : Domain) (bridge cycle : ℕ) (rows : List Row) (batches : List Lin
           let p = place_of_member batches b held in
           each p.0 b (omega (arith, past, slice_get_within batches p.0 b p.1)) p.1
 
-  -- one that isn't of the cycle is none of them
+  -- a batch that isn't of the cycle isn't one of them
   pub not_batches_of : (b : LinkBatch) → Contains batches b → ¬ IsBatchOf d bridge cycle rows b → ¬ AreBatchesOf d bridge cycle rows batches
   not_batches_of b held not are = not (record { of_cycle = are.of_cycle b held; frames = λ sent inside. are.frames b sent held inside })

@@ -1,4 +1,4 @@
--- What the gate of a reservation has counted and lets pass, by the cycle.
+-- What the gate of a reservation has counted and passes, by the cycle.
 use Rattle.std.proofs.Common.{◌≡◌, ◌+◌, ◌*◌, ◌<◌, ℕ, Bool, true, false, List, [], ◌∷◌, sym, refl, ap, ap₂, ◌∙◌, Option, None, Some, arith}
 use Rattle.std.specs.Prelude.{◌==◌, if◌then◌else◌, nat_le}
 use Rattle.std.proofs.Math.Nat.{mul-div_cancel}
@@ -15,7 +15,7 @@ use Rattle.cqf_bridge.specs.declared.cycle_gate.KeptGate.{KeptGate}
 use Rattle.cqf_bridge.specs.Gates.{counted_by, gate_or, octets_of_cycle}
 
 module _ (counts : GateCountsCycles) (n reserved : ℕ) (pace : Pace) (depth : ℕ) (some : 0 < n) where
-  -- the gate's list, and what it lets pass in a cycle
+  -- the gate's list, and what it passes in a cycle
   abbrev entries : List StreamEntry
   entries = stream_list n reserved pace depth
 
@@ -26,7 +26,7 @@ module _ (counts : GateCountsCycles) (n reserved : ℕ) (pace : Pace) (depth : �
   pub counted_at : (found : Option KeptGate) (t : ℕ) → taken_at (gate_or n entries found) t ≡ counted_by found (cycle_at n t)
   counted_at None t = nothing (same_interval entries 0 t)
     where
-      -- either way nothing
+      -- in both cases nothing
       nothing : (b : Bool) → ◌≡◌ {A = ℕ} (if b then 0 else 0) 0
       nothing true = refl
       nothing false = refl
@@ -34,7 +34,7 @@ module _ (counts : GateCountsCycles) (n reserved : ℕ) (pace : Pace) (depth : �
       ap (λ (b : Bool). if b then k.taken else 0)
       (counts n reserved pace depth (k.cycle * n) t some ∙ ap (λ (c : ℕ). c == cycle_at n t) (mul-div_cancel k.cycle some))
 
-  -- and so have the definitions of calls
+  -- and so do the definitions of calls
   pub octets_by_cycle : (calls : List Call) (t : ℕ) → octets_in entries calls t ≡ octets_of_cycle n (cycle_at n t) calls
   octets_by_cycle [] t = refl
   octets_by_cycle (call ∷ calls) t =
@@ -47,21 +47,21 @@ module _ (counts : GateCountsCycles) (n reserved : ℕ) (pace : Pace) (depth : �
     abbrev gate : Gate
     gate = gate_or n entries found
 
-    -- what is kept of the cycle as a frame comes
+    -- the octets counted in the cycle when a frame arrives
     abbrev counted : ℕ
     counted = counted_by found (cycle_at n t)
 
-    -- the frame passes where it is within what is reserved there
+    -- the frame passes if it is within what is reserved
     pub passes_within : lets_pass gate t octets ≡ nat_le (counted + octets) (most t)
     passes_within =
         within_reservation n reserved pace depth t some (taken_at gate t + octets)
         ∙ ap (λ (k : ℕ). nat_le (k + octets) (most t)) (counted_at found t)
 
-    -- and what is kept behind it
+    -- and the octets counted after it
     pub taken_after : (gate_after gate t octets).taken ≡ (if nat_le (counted + octets) (most t) then counted + octets else counted)
     taken_after = ap₂ (λ (o : Option ℕ) (k : ℕ). taken_behind o k octets) (max_of_reservation n reserved pace depth t some) (counted_at found t)
 
-    -- where it passes it is counted
+    -- if it passes, it is counted
     pub counted_more : (gate_after gate t octets).taken ≡ counted + (if lets_pass gate t octets then octets else 0)
     counted_more =
         taken_after

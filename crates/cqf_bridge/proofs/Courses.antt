@@ -1,4 +1,4 @@
--- Bridges that pass on their batches follow the network together.
+-- Bridges that exchange their batches follow the network together.
 use Rattle.std.proofs.Common.{refl, ◌≡◌, ℕ, zero, suc, ◌+◌, ◌≤◌, ◌<◌, List, ◌++◌, length, map, sym, ap, ◌∙◌, arith, subst, Contains}
 use Rattle.std.proofs.lemmas.List.{append_cancel_left, map-id}
 use Rattle.std.proofs.lemmas.Simd.{map-map}
@@ -34,7 +34,7 @@ pub record IsBefore (run : Run) (net : Network) (course : DrivenCourse) (bridge 
 
 module _ (run : Run) (cycles : ℕ) (net : Network) (course : DrivenCourse) (compiled : IsCompiledNetwork run cycles net) (sending : SendingFollows)
     (receiving : ReceivingFollows) where
-  -- it gives the network's batches in the cycle
+  -- it returns the network's batches in the cycle
   gives : (bridge cycle : ℕ) → cycle < cycles → IsBefore run net course bridge cycle → SendsInCourse run course bridge cycle →
       GivesTheBatches run cycle net (course.before bridge cycle) (course.halfway bridge cycle) (course.given bridge cycle)
       (course.given bridge cycle ++ course.sent bridge cycle)
@@ -63,7 +63,7 @@ module _ (run : Run) (cycles : ℕ) (net : Network) (course : DrivenCourse) (com
 
   module _ (cycle : ℕ) (within : cycle < cycles) (all : (bridge : ℕ) → bridge < length run.domain.bridges → IsBefore run net course bridge cycle)
       (send : (bridge : ℕ) → bridge < length run.domain.bridges → SendsInCourse run course bridge cycle) where
-    -- a batch that a bridge is handed is the network's
+    -- a batch that a bridge is given is the network's
     handed_is : (bridge : ℕ) → ArePassedOn run.domain course bridge cycle → (x : LinkBatch) → Contains (course.handed bridge cycle) x →
         x ≡ batch_of run.domain net.carried cycle x.link
     handed_is bridge passed x held =
@@ -78,7 +78,7 @@ module _ (run : Run) (cycles : ℕ) (net : Network) (course : DrivenCourse) (com
         let f = contains_from_map (batch_of d net.carried cycle) (links_from d from) x of_network in
         sym f.2 ∙ ap (batch_of d net.carried cycle) (ap (λ (y : LinkBatch). y.link) f.2)
 
-    -- so all that it is handed are
+    -- so all that it is given are
     handed_are : (bridge : ℕ) → ArePassedOn run.domain course bridge cycle → course.handed bridge cycle ≡ batches_into run.domain net.carried bridge cycle
     handed_are bridge passed =
         let of_link = batch_of run.domain net.carried cycle in
@@ -120,7 +120,7 @@ module _ (run : Run) (cycles : ℕ) (net : Network) (course : DrivenCourse) (com
         let r = drops bridge inside through in
         record { follows = r.follows; received = r.one_on; number = r.number ∙ (halfway_is bridge inside).2 }
 
-    -- what it gives in a cycle is what the network has for it
+    -- its output in a cycle is the network's part for it
     course_is : (bridge : ℕ) → bridge < length run.domain.bridges → GoesThrough run course bridge cycle →
         page_of_course course bridge cycle
         ≡ page_given (batches_from run.domain net.carried bridge cycle) (on_links_of run.domain bridge (background_in run.domain net.backed cycle))
@@ -133,7 +133,7 @@ module _ (run : Run) (cycles : ℕ) (net : Network) (course : DrivenCourse) (com
         let dropped = (drops bridge inside through).are_drops ∙ ap (λ (b : ℕ). drops_of_cycle run net b cycle) (halfway_is bridge inside).2 in
         λ i. page_given (sent i) (others i) (dropped i)
 
-    -- and where nothing is lost it receives, but for want of memory
+    -- and if nothing is lost, it refuses to receive only if memory is refused
     receives_then : ReceivesButForMemory → LosesNothing run cycles net → (bridge : ℕ) (after : BridgeState) (fault : BridgeFault) →
         bridge < length run.domain.bridges → ArePassedOn run.domain course bridge cycle →
         IsReceiveFault run (course.halfway bridge cycle) after cycle (handed_with run cycle (course.handed bridge cycle)) fault → fault ≡ Memory
@@ -169,7 +169,7 @@ module _ (run : Run) (cycles : ℕ) (net : Network) (course : DrivenCourse) (com
         (halfway_is cycle (omega (arith, within, few)) (all_before cycle (omega (arith, within))) (λ b in_bridges. (are.go_on b cycle in_bridges within).sends)
         bridge inside).0
 
-    -- and what it gives is what the network has for it
+    -- and its output is the network's part for it
     pub all_given : (cycle : ℕ) → cycle < driven → (bridge : ℕ) → bridge < length run.domain.bridges →
         page_of_course course bridge cycle
         ≡ page_given (batches_from run.domain net.carried bridge cycle) (on_links_of run.domain bridge (background_in run.domain net.backed cycle))
@@ -178,14 +178,14 @@ module _ (run : Run) (cycles : ℕ) (net : Network) (course : DrivenCourse) (com
         course_is cycle (omega (arith, within, few)) (all_before cycle (omega (arith, within))) (λ b in_bridges. (are.go_on b cycle in_bridges within).sends)
         bridge inside (are.go_on bridge cycle inside within)
 
-    -- the next cycle it sends, but for want of memory
+    -- the next cycle it refuses to send only if memory is refused
     pub all_send : SendsButForMemory → (bridge : ℕ) (after : BridgeState) (fault : BridgeFault) → bridge < length run.domain.bridges →
         IsSendFault (course.before bridge driven) after driven fault → fault ≡ Memory
     all_send but_for_memory bridge after fault inside h =
         let is = all_before driven (omega arith) bridge inside in
         but_for_memory driven (course.before bridge driven) after fault is.follows.of_run.not_spent (sym is.received, is.follows.turn) h
 
-    -- and where nothing is lost it receives it, but for want of memory
+    -- and if nothing is lost, it refuses to receive it only if memory is refused
     pub all_receive : ReceivesButForMemory → LosesNothing run cycles net → driven < cycles →
         ((bridge : ℕ) → bridge < length run.domain.bridges → SendsInCourse run course bridge driven) → (bridge : ℕ) (after : BridgeState)
         (fault : BridgeFault) → bridge < length run.domain.bridges → ArePassedOn run.domain course bridge driven →
@@ -195,7 +195,7 @@ module _ (run : Run) (cycles : ℕ) (net : Network) (course : DrivenCourse) (com
 module _ (begins : NewBridgeFollows) (sending : SendingFollows) (receiving : ReceivingFollows) (page_follows : PageFollows)
     (run : Run) (cycles : ℕ) (course : DrivenCourse) (book : Contents) (accepted : IsAccepted run.domain)
     (is : IsBook run (compiled_lists run.domain) cycles book) (are : AreDriven run cycles course) where
-  -- what a bridge gave in a cycle is its page
+  -- a bridge's output in a cycle is its page
   pub page_is_of_course : (bridge cycle : ℕ) → bridge < length run.domain.bridges → cycle < cycles →
       page_of run.domain bridge cycle book ≡ page_of_course course bridge cycle
   page_is_of_course bridge cycle inside within =
@@ -203,7 +203,7 @@ module _ (begins : NewBridgeFollows) (sending : SendingFollows) (receiving : Rec
       page_follows run cycles cycle bridge is.net book compiled is inside within
       ∙ sym (all_given run cycles is.net course compiled sending receiving cycles (omega arith) are begins cycle within bridge inside)
 
-  -- and all that they gave is the book
+  -- and their whole output is the book
   pub book_is_of_course : BookIsItsPages → book ≡ book_of_pages run.domain cycles (page_of_course course)
   book_is_of_course are_pages =
       let d = run.domain in

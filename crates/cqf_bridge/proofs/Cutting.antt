@@ -13,7 +13,7 @@ use Rattle.cqf_units.proofs.Cycles.{cycle_from, cycle_is, cycle_upto}
 use Rattle.cqf_units.specs.Timing.{cycle_at}
 
 module _ {X : Type 0} (key : X → ℕ) where
-  -- what stands before a cut is sooner
+  -- elements before a cut are sooner
   sooner : (t : ℕ) (xs : List X) (n : ℕ) → IsPartitionPoint (λ y. nat_lt (key y) t ≡ true) (λ y. nat_lt (key y) t ≡ false) xs n → n ≤ length xs →
       (x : X) → Contains (take n xs) x → key x < t
   sooner t xs n cut upto x held =
@@ -21,7 +21,7 @@ module _ {X : Type 0} (key : X → ℕ) where
       let at : get_or xs held.0 x ≡ x = sym (get_or-take n xs held.0 x within) ∙ held.2 in
       ltb-true (key x) t (ap (λ (y : X). nat_lt (key y) t) (sym at) ∙ cut.0 held.0 x (omega arith) within)
 
-  -- and what stands behind it isn't
+  -- and elements after it aren't
   later : (t : ℕ) (xs : List X) (n : ℕ) → IsPartitionPoint (λ y. nat_lt (key y) t ≡ true) (λ y. nat_lt (key y) t ≡ false) xs n → n ≤ length xs →
       (x : X) → Contains (drop n xs) x → t ≤ key x
   later t xs n cut upto x held =
@@ -37,7 +37,7 @@ module _ {X : Type 0} (key : X → ℕ) where
         | inr g ↦ g
       ]
 
-  -- so what stands from the one cut to the other is of the cycle, and nothing else
+  -- so exactly the elements from the one cut to the other are of the cycle
   pub cut_is : (time cycle : ℕ) (xs : List X) (from count : ℕ) → 0 < time →
       IsPartitionPoint (λ y. nat_lt (key y) (cycle * time) ≡ true) (λ y. nat_lt (key y) (cycle * time) ≡ false) xs from → from ≤ length xs →
       IsPartitionPoint (λ y. nat_lt (key y) (cycle * time + time) ≡ true) (λ y. nat_lt (key y) (cycle * time + time) ≡ false) (drop from xs) count →
@@ -66,7 +66,7 @@ module _ {X : Type 0} (key : X → ℕ) where
       ∙ (λ i. each i ++ none_behind i)
       ∙ append-nil (take count rest))
 
-  -- the same of a rest that is taken whole
+  -- the same if the rest is taken whole
   pub cut_of : (time cycle begin : ℕ) (xs rest : List X) (from count : ℕ) → begin ≡ cycle → 0 < time → IsNonDecreasingBy key xs →
       (IsPartitionedBy (λ y. nat_lt (key y) (begin * time)) xs →
       IsPartitionPoint (λ y. nat_lt (key y) (begin * time) ≡ true) (λ y. nat_lt (key y) (begin * time) ≡ false) xs from) → from ≤ length xs →

@@ -1,4 +1,4 @@
--- What the gate of a row says of a frame, and what is kept of it behind the frame.
+-- A row's gate's verdict on a frame, and its state after the frame.
 use Rattle.std.proofs.Common.{◌≡◌, ◌+◌, ◌≤◌, ◌<◌, ℕ, Bool, sym, ap, ◌∙◌, Some}
 use Rattle.std.specs.Prelude.{◌==◌, if◌then◌else◌, nat_le}
 use Rattle.std.proofs.lemmas.Bool.{cond-false, cond-true, le-leb, lt-leb}
@@ -14,7 +14,7 @@ use Rattle.cqf_bridge.specs.declared.cycle_gate.KeptGate.{KeptGate}
 use Rattle.cqf_bridge.specs.Gates.{gate_or, kept_after}
 use Rattle.cqf_bridge.proofs.Counting.{passes_within, taken_after}
 
--- a gate that is kept for a number, and a frame of a row's stream in a cycle, so deep on its way, as which comes so much counts
+-- a kept gate of a number, and a frame of a row's stream in a cycle, at a hop number, when a number of octets is counted
 module _ (counts : GateCountsCycles) (n : ℕ) (row : Row) (depth : ℕ) (kept : KeptGate) (t octets cycle taken : ℕ) (some : 0 < n)
     (here : cycle ≡ cycle_at n t) (is : taken ≡ (if kept.cycle == cycle then kept.taken else 0)) where
   abbrev gate : Gate
@@ -39,7 +39,7 @@ module _ (counts : GateCountsCycles) (n : ℕ) (row : Row) (depth : ℕ) (kept :
       passes_within counts n row.octets row.pace depth some (Some kept) t octets
       ∙ (λ i. nat_le (is_counted i + octets) (is_reserved i))
 
-  -- what is kept behind it
+  -- the state after it
   abbrev kept_with : ℕ → KeptGate
   kept_with sum = record { number = kept.number; cycle = cycle; taken = sum }
 
@@ -50,7 +50,7 @@ module _ (counts : GateCountsCycles) (n : ℕ) (row : Row) (depth : ℕ) (kept :
       ∙ e in
       λ i. record { number = kept.number; cycle = here i; taken = sym is_taken i }
 
-  -- a frame that isn't within it doesn't pass, and takes nothing
+  -- a frame that isn't within it doesn't pass, and uses no octets
   pub over : most < taken + octets → (OverOctets ≡ verdict_on gate t octets) × (kept_with taken ≡ kept_after n kept.number gate t octets)
   over more =
       let test = lt-leb (taken + octets) most more in (

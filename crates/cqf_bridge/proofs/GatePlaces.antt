@@ -1,5 +1,4 @@
--- Where the gate of a number stands among those that are kept: the first few are looked through, and the numbers of the others
--- are listed.
+-- The index of the gate of a number among the kept gates: the first few are searched, and the numbers of the others are listed.
 use Rattle.std.proofs.Common.{◌≡◌, ◌+◌, ◌<◌, ◌≤◌, ℕ, Bool, false, not, List, [], ◌∷◌, ◌++◌, ◌∙◌, inl, inr, sym, ap, ap₂}
 use Rattle.std.proofs.Common.{refl, arith, length, map, nat_eq, nat_lt, position, drop, take, Option, Some, None}
 use Rattle.std.specs.Prelude.{◌==◌, ◌||◌, if◌then◌else◌, is_some, option_map}
@@ -14,18 +13,18 @@ use Rattle.indexmap.specs.IndexSet.{insert_key}
 use Rattle.cqf_lists.proofs.Any.{position_any}
 use Rattle.cqf_bridge.specs.declared.cycle_gate.KeptGate.{KeptGate}
 
--- a test of two numbers goes either way round
+-- equality of two numbers is symmetric
 eqb_turned : (a b : ℕ) → (a == b) ≡ (b == a)
 eqb_turned a b = elim (cases_eq a b) [
   | inl same ↦ eq-eqb a b same ∙ sym (eq-eqb b a (sym same))
   | inr other ↦ ne_eqb a b other ∙ sym (ne_eqb b a (λ e. other (sym e)))
 ]
 
--- a place, where it is below a length
+-- an index, if it is below a length
 abbrev place_below : ℕ → ℕ → Option ℕ
 place_below place length = if nat_lt place length then Some place else None
 
--- so many before both
+-- the same offset added to both
 below_behind : (front place length : ℕ) → place_below (front + place) (front + length) ≡ option_map (λ (k : ℕ). front + k) (place_below place length)
 below_behind front place length = elim (cases_lt place length) [
   | inl less ↦
@@ -36,14 +35,14 @@ below_behind front place length = elim (cases_lt place length) [
       ∙ ap (option_map (λ (k : ℕ). front + k)) (sym (cond-false (nat_lt place length) (Some place) None (le-ltb place length more)))
 ]
 
--- what isn't below is no less
+-- an index that isn't below is not less
 not_below : (place length : ℕ) → place_below place length ≡ None → length ≤ place
 not_below place length none = elim (cases_lt place length) [
   | inl less ↦ absurd (none-some place (sym none ∙ cond-true (nat_lt place length) (Some place) None (lt-ltb place length less)))
   | inr more ↦ more
 ]
 
--- where none of a front passes a test, the first place that passes is behind it
+-- if no element of a front passes a test, the first index that passes is after it
 position_behind : {X : Type 0} (p : X → Bool) (xs ys : List X) → position p xs ≡ None →
     position p (xs ++ ys) ≡ option_map (λ (k : ℕ). length xs + k) (position p ys)
 position_behind {X} p xs ys none =
@@ -55,18 +54,18 @@ position_behind {X} p xs ys none =
     ∙ cond-true (prefix_len q xs == length xs) (length xs + prefix_len q ys) (prefix_len q xs) (eq-eqb (prefix_len q xs) (length xs) all) in
     ap₂ place_below place (length-append xs ys) ∙ below_behind (length xs) (prefix_len q ys) (length ys)
 
--- the place of a number is that of its gate
+-- the index of a number is that of its gate
 number_place : (number : ℕ) (gates : List KeptGate) →
     position (nat_eq number) (map (λ (g : KeptGate). g.number) gates) ≡ position (λ (g : KeptGate). g.number == number) gates
 number_place number gates = ap₂ place_below (before gates) (length-map gates (λ (g : KeptGate). g.number))
   where
-    -- so many stand before it
+    -- this many are before it
     before : (gs : List KeptGate) →
         prefix_len (λ (n : ℕ). not (nat_eq number n)) (map (λ (g : KeptGate). g.number) gs) ≡ prefix_len (λ (g : KeptGate). not (g.number == number)) gs
     before [] = refl
     before (g ∷ gs) = ap₂ (λ (b : Bool) (n : ℕ). if not b then 1 + n else 0) (eqb_turned number g.number) (before gs)
 
--- the place of a number that isn't among the first few
+-- the index of a number that isn't among the first few
 pub place_behind : (number few : ℕ) (gates : List KeptGate) (numbers : List ℕ) (o : Option ℕ) → few ≤ length gates →
     numbers ≡ drop few (map (λ (g : KeptGate). g.number) gates) → None ≡ position (λ (g : KeptGate). g.number == number) (take few gates) →
     o ≡ position (nat_eq number) numbers → option_map (λ (k : ℕ). few + k) o ≡ position (λ (g : KeptGate). g.number == number) gates
@@ -78,7 +77,7 @@ place_behind number few gates numbers o long are none is =
     ∙ sym (position_behind p (take few gates) (drop few gates) (sym none))
     ∙ ap (position p) (take-append-drop few gates)
 
--- one gate more, among the first few
+-- one more gate, among the first few
 pub among_few : (few : ℕ) (gates : List KeptGate) (g : KeptGate) (numbers : List ℕ) → length gates < few →
     numbers ≡ drop few (map (λ (k : KeptGate). k.number) gates) → numbers ≡ drop few (map (λ (k : KeptGate). k.number) (gates ++ g ∷ []))
 among_few few gates g numbers short are =
@@ -87,7 +86,7 @@ among_few few gates g numbers short are =
     ∙ drop_of_length-le (map number gates) (omega (arith, short, length-map gates number))
     ∙ sym (drop_of_length-le (map number (gates ++ g ∷ [])) (omega (arith, short, length-map (gates ++ g ∷ []) number, length-append gates (g ∷ []))))
 
--- a number that has no place isn't listed
+-- a number that has no index isn't listed
 not_listed : (number few : ℕ) (gates : List KeptGate) → position (λ (g : KeptGate). g.number == number) gates ≡ None →
     list_any (nat_eq number) (drop few (map (λ (g : KeptGate). g.number) gates)) ≡ false
 not_listed number few gates none =
@@ -100,7 +99,7 @@ not_listed number few gates none =
     ∙ position_any p (drop few gates)
     ∙ (or_parts (list_any p (take few gates)) (list_any p (drop few gates)) apart).1
 
--- one gate more behind them, whose number is put in
+-- one more gate after them, whose number is inserted
 pub behind_few : (few : ℕ) (gates : List KeptGate) (g : KeptGate) (numbers after : List ℕ) → few ≤ length gates →
     numbers ≡ drop few (map (λ (k : KeptGate). k.number) gates) → position (λ (k : KeptGate). k.number == g.number) gates ≡ None →
     after ≡ insert_key nat_eq numbers g.number → after ≡ drop few (map (λ (k : KeptGate). k.number) (gates ++ g ∷ []))

@@ -1,4 +1,4 @@
--- Bridges that go on each at its own pace follow the network of their run.
+-- Bridges that each go on at their own pace follow the network of their run.
 use Rattle.std.proofs.Common.{◌≡◌, ℕ, zero, suc, ◌+◌, ◌≤◌, ◌<◌, List, ◌++◌, [], ◌∷◌, Some, length, sym, ap, ◌∙◌, arith, subst, Contains, inl, inr, refl}
 use Rattle.std.specs.Prelude.{slice_get, true}
 use Rattle.std.specs.Option.{option_to_list}
@@ -35,7 +35,7 @@ use Rattle.cqf_bridge.specs.CourseLaws.{HasAll, HasGone, handed_next}
 use Rattle.cqf_bridge.specs.Courses.{AreUnderWay, Course, HasWorked, IsGiven, Traffic, posted, taken_in}
 use Rattle.cqf_bridge.proofs.LinkNumbers.{link_into}
 
--- the run of what a domain is given, with these tables
+-- the run of a domain's input, with these tables
 abbrev pub run_with : Traffic → List (List Row) → Run
 run_with t tables = record { domain = t.domain; tables = tables; offers = t.offers; background = t.background }
 
@@ -45,7 +45,7 @@ pub record IsBefore (run : Run) (net : Network) (bridge cycle : ℕ) (b : Bridge
   pub received : b.received ≡ cycle
   pub number : b.number ≡ bridge
 
--- and one that has sent as it does, halfway
+-- and one that has sent as the network does, halfway
 pub record IsHalfway (run : Run) (net : Network) (bridge cycle : ℕ) (b : BridgeState) : Type 0 where
   pub has_sent : HasSentOfTheNetwork run net b
   pub received : b.received ≡ cycle
@@ -62,7 +62,7 @@ pub record IsFollowed (t : Traffic) (course : Course) (tables : List (List Row))
 
 module _ (t : Traffic) (course : Course) (tables : List (List Row)) (cycles : ℕ) (net : Network) (is : IsFollowed t course tables cycles net)
     (sending : SendingFollows) (receiving : ReceivingFollows) where
-  -- a bridge that follows the network gives its batches in the next cycle
+  -- a bridge that follows the network returns its batches in the next cycle
   gives : (bridge cycle : ℕ) (w : HasWorked t course bridge) → cycle < cycles → cycle < course.sent bridge →
       IsBefore (run_with t tables) net bridge cycle (w.before cycle) →
       GivesTheBatches (run_with t tables) cycle net (w.before cycle) (w.halfway cycle) [] (w.batches cycle)
@@ -163,7 +163,7 @@ module _ (t : Traffic) (course : Course) (tables : List (List Row)) (cycles : �
         let h = halfway_is bridge w inside (omega (arith, has, w.not_behind)) in
         record { follows = r.follows; received = r.one_on; number = r.number ∙ h.number }
 
-    -- what it gives in the cycle is what the network has for it
+    -- its output in the cycle is the network's part for it
     page_is : (bridge : ℕ) (w : HasWorked t course bridge) → bridge < length t.domain.bridges → cycle < posted course bridge →
         page_given (w.batches cycle) (w.halfway cycle).background (w.dropped cycle)
         ≡ page_given (batches_from t.domain net.carried bridge cycle) (on_links_of t.domain bridge (background_in t.domain net.backed cycle))
@@ -196,7 +196,7 @@ module _ (t : Traffic) (course : Course) (tables : List (List Row)) (cycles : �
       bridge < length t.domain.bridges → cycle < course.sent bridge → IsHalfway (run_with t tables) net bridge cycle (w.halfway cycle)
   all_halfway begins cycle within = halfway_is cycle within (all_before begins cycle (omega (arith, within)))
 
-  -- what it gives is what the network has for it
+  -- its output is the network's part for it
   pub all_pages : NewBridgeFollows → (cycle : ℕ) → cycle < cycles → (bridge : ℕ) (w : HasWorked t course bridge) →
       bridge < length t.domain.bridges → cycle < posted course bridge →
       page_given (w.batches cycle) (w.halfway cycle).background (w.dropped cycle)
@@ -256,7 +256,7 @@ module _ (t : Traffic) (entries : List Recorded) (course : Course) (given : IsGi
         (follow_history (seals entries + 1) one_more.0 one_more.1) sending receiving begins cycle
         (omega (arith, has, w.had_table, are.sealed bridge inside)) bridge w inside has
 
-    -- so it stands where its lists say
+    -- so it is in the cycle that its lists say
     pub stands_before : (bridge cycle : ℕ) (w : HasWorked t course bridge) → bridge < length t.domain.bridges → cycle ≤ posted course bridge →
         HasGone t bridge cycle cycle (w.before cycle)
     stands_before bridge cycle w inside has =
@@ -269,7 +269,7 @@ module _ (t : Traffic) (entries : List Recorded) (course : Course) (given : IsGi
           has_received = b.received;
         }
 
-    -- and so it does halfway
+    -- and so it is halfway
     pub stands_halfway : (bridge cycle : ℕ) (w : HasWorked t course bridge) → bridge < length t.domain.bridges → cycle < course.sent bridge →
         HasGone t bridge (cycle + 1) cycle (w.halfway cycle)
     stands_halfway bridge cycle w inside sent =
@@ -284,14 +284,14 @@ module _ (t : Traffic) (entries : List Recorded) (course : Course) (given : IsGi
           has_received = b.received;
         }
 
-    -- it sends its next cycle, but for want of memory
+    -- it refuses to send its next cycle only if memory is refused
     pub send_wants_memory : SendsButForMemory → (bridge : ℕ) (w : HasWorked t course bridge) (after : BridgeState) (fault : BridgeFault) →
         bridge < length t.domain.bridges → IsSendFault (w.before (posted course bridge)) after (posted course bridge) fault → fault ≡ Memory
     send_wants_memory but_for_memory bridge w after fault inside h =
         let b = before_is bridge (posted course bridge) w inside (omega arith) in
         but_for_memory (posted course bridge) (w.before (posted course bridge)) after fault b.follows.of_run.not_spent (sym b.received, b.follows.turn) h
 
-    -- and receives it, but for want of memory
+    -- and to receive it only if memory is refused
     pub receive_wants_memory : ReceivesButForMemory → RunOfHistoryLosesNothing → (bridge : ℕ) (w : HasWorked t course bridge) (after : BridgeState)
         (fault : BridgeFault) → bridge < length t.domain.bridges → HasAll t course bridge →
         ((run : Run) → IsRunOfBridge t.domain bridge (posted course bridge) (table_of (course.tables bridge) (posted course bridge))

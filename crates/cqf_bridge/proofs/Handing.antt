@@ -22,7 +22,7 @@ pub record HasHanded (frames : List QueuedFrame) (made : List Transmission) (cou
       ≡ background ++ map (started_backed before.cycle before.link) (flat_map (backed_of frames) made)
   pub few : length after.frames + length (drop count made) ≤ length before.frames + length made
 
--- a start is one frame of the batch at most
+-- a start is at most one frame of the batch
 one_at_most : (t : ℕ) (x : Arrival) (stream : Option ℕ) → length (sent_by t x stream) ≤ 1
 one_at_most t x None = omega arith
 one_at_most t x (Some s) = omega arith
@@ -32,7 +32,7 @@ module _ (frames : List QueuedFrame) (made : List Transmission) (before : LinkBa
   pub none_handed : HasHanded frames made 0 before before background background
   none_handed = record { link = refl; cycle = refl; sent = refl; others = refl; few = omega arith }
 
-  -- the next is handed on, by its arrival and stream
+  -- the next is handed on, with its arrival and stream
   pub one_handed : (count : ℕ) (x e : Transmission) (arrival : Arrival) (stream : Option ℕ) (after more : LinkBatch) (behind later : List Started) →
       HasHanded frames made count before after background behind → count < length made → x ≡ get_or made count e →
       sent_of frames x ≡ sent_by x.1 arrival stream → backed_of frames x ≡ backed_by x.1 arrival stream →

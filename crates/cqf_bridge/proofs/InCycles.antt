@@ -1,4 +1,4 @@
--- What is in order of instant is so cycle by cycle.
+-- A list in order of instant is in order cycle by cycle.
 use Rattle.std.proofs.Common.{◌≡◌, ◌&&◌, ℕ, ◌<◌, Bool, true, false, List, [], sym, refl, ap, ◌∙◌}
 use Rattle.std.specs.Prelude.{◌==◌, filter}
 use Rattle.std.proofs.lemmas.List.Kept.{IsNonDecreasingBy-filter}
@@ -16,19 +16,19 @@ use Rattle.cqf_laws_cycle.specs.Gathered.{BackgroundStandsInOrder, IsInOrderOf, 
 use Rattle.cqf_bridge.specs.Agenda.{AgendaOf, IsAgendaOf, instant_of_backed, instant_of_offer}
 use Rattle.cqf_bridge.specs.Picking.{is_backed_from, is_offered_to}
 
--- both tests in either order
+-- both tests in the other order
 and_turned : (a b : Bool) → (a && b) ≡ (b && a)
 and_turned true true = refl
 and_turned true false = refl
 and_turned false true = refl
 and_turned false false = refl
 
--- two filters in either order
+-- two filters in the other order
 turned : {X : Type 0} (p q : X → Bool) (xs : List X) → filter p (filter q xs) ≡ filter (λ x. q x && p x) xs
 turned p q xs = filter_twice p q xs ∙ filter_alike (λ x. p x && q x) (λ x. q x && p x) xs (λ x held. and_turned (p x) (q x))
 
 module _ {X : Type 0} (key : X → ℕ) where
-  -- what a test keeps of what is in order is in order
+  -- filtering keeps the order
   pub kept_in_order : (here kept : X → Bool) (xs ys : List X) → IsInOrderOf key (filter here xs) ys →
       IsInOrderOf key (filter (λ x. here x && kept x) xs) (filter kept ys)
   kept_in_order here kept xs ys h = record {
@@ -40,7 +40,7 @@ module _ {X : Type 0} (key : X → ℕ) where
         ∙ ap (filter at) (turned kept here xs));
   }
 
--- an offer and a background frame of any instant
+-- an offer at a given instant
 pub offer_at : ℕ → Offered
 offer_at t = record { frame = 0; offer = record { at = record { 0 = t }; bridge = 0; stream = []; octets = 0 } }
 
@@ -58,7 +58,7 @@ pub backed_at_instants : (t : ℕ) → instant_of_backed (backed_at t) ≡ t
 unfolding backed_at
 backed_at_instants t = refl
 
--- so what is the bridge's, in order of instant, is its agenda
+-- so the bridge's part, in order of instant, is its agenda
 pub is_agenda : (d : Domain) (offers : List Offer) (background : List Background) (bridge : ℕ) (a : AgendaOf) → OffersStandInOrder → BackgroundStandsInOrder →
     0 < d.cycle_time → a.cycle_time ≡ d.cycle_time →
     IsInOrderOf instant_of_offer (filter (is_offered_to bridge) (numbered offers)) a.offers →

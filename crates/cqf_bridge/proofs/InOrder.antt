@@ -21,7 +21,7 @@ module _ {X : Type 0} (key : X → ℕ) (probe : ℕ → X) (probes : (t : ℕ) 
     stable = λ t. stable_at key probe probes xs ys t stable;
   }
 
--- what is in order is so as what it is mapped to
+-- a list in order stays in order when its elements are mapped
 pub mapped_in_order : {X Y : Type 0} (f : X → Y) (key : Y → ℕ) (xs ys : List X) (d : X) → IsInOrderOf (λ (x : X). key (f x)) xs ys →
     IsInOrderOf key (map f xs) (map f ys)
 mapped_in_order {X} {Y} f key xs ys d h = record {
@@ -33,7 +33,7 @@ mapped_in_order {X} {Y} f key xs ys d h = record {
   stable = λ k. filter-map f (λ (y : Y). key y == k) ys ∙ ap (map f) (h.stable k) ∙ sym (filter-map f (λ (y : Y). key y == k) xs);
 }
 
--- the instant of a frame that comes, and the number of one that is dropped
+-- the instant of a frame that arrives
 abbrev pub instant_of_frame : Incoming → ℕ
 instant_of_frame x = x.at.0
 
@@ -41,7 +41,7 @@ instant_of_frame x = x.at.0
 abbrev pub frame_of_drop : Dropped → ℕ
 frame_of_drop x = x.frame
 
--- a frame of any instant
+-- a frame at a given instant
 pub at_instant : ℕ → Incoming
 at_instant t = record { at = record { 0 = t }; octets = 0; frame = 0; came = ByLink 0 0 }
 
@@ -50,7 +50,7 @@ pub at_instants : (t : ℕ) → instant_of_frame (at_instant t) ≡ t
 unfolding at_instant
 at_instants t = refl
 
--- a drop of any number
+-- a drop of a given frame number
 pub of_frame : ℕ → Dropped
 of_frame n = record { cycle = record { 0 = 0 }; bridge = 0; frame = n; octets = 0; reason = Unknown }
 
@@ -59,7 +59,7 @@ pub of_frames : (n : ℕ) → frame_of_drop (of_frame n) ≡ n
 unfolding of_frame
 of_frames n = refl
 
--- a frame more is gathered
+-- one more frame is gathered
 pub gathered_more : {X : Type 0} (f : X → Received) (xs : List X) (count : ℕ) (d : X) (front : List Received) (list after : List Incoming) (new : Incoming) →
     count < length xs → received_as new ≡ f (get_or xs count d) → after ≡ list ++ new ∷ [] →
     map received_as list ≡ front ++ map f (take count xs) → map received_as after ≡ front ++ map f (take (count + 1) xs)

@@ -10,14 +10,14 @@ use Rattle.cqf_model.specs.declared.gates.StreamEntry.{StreamEntry}
 use Rattle.cqf_bridge.specs.declared.cycle_gate.KeptGate.{KeptGate}
 use Rattle.cqf_bridge.specs.Gates.{gate_or, with_gate}
 
--- the gate of a number stands at this place, and another of the number takes its place there
+-- the gate of a number is at this index, and another gate of the number replaces it there
 pub record FoundAt (number : ℕ) (gates : List KeptGate) (place : ℕ) (k : KeptGate) : Type 0 where
   pub found : find (λ (g : KeptGate). g.number == number) gates ≡ Some k
   pub of_number : k.number ≡ number
   pub placed : (g : KeptGate) → g.number ≡ number → slice_set gates place g ≡ with_gate gates g
   pub numbers : (g : KeptGate) → g.number ≡ number → map (λ (h : KeptGate). h.number) gates ≡ map (λ (h : KeptGate). h.number) (slice_set gates place g)
 
--- the first place that has the number
+-- the first index with the number
 at_first : (number place : ℕ) (gates : List KeptGate) (k : KeptGate) → place < length gates → k ≡ get_or gates place k →
     ((get_or gates place k).number == number) ≡ true → ((j : ℕ) → j < place → ((get_or gates j k).number == number) ≡ false) → FoundAt number gates place k
 at_first number place [] k inside is here before = absurd (omega (arith, inside))
@@ -41,14 +41,14 @@ at_first number (suc place) (x ∷ gates) k inside is here before =
       numbers = λ g e. ap (λ (ns : List ℕ). x.number ∷ ns) (rest.numbers g e);
     }
 
--- the gate at the place of a number
+-- the gate at the index of a number
 pub found_at : (number : ℕ) (gates : List KeptGate) (place : ℕ) (k : KeptGate) →
     position (λ (g : KeptGate). g.number == number) gates ≡ Some place → k ≡ get_or gates place k → FoundAt number gates place k
 found_at number gates place k is at =
     let p = position-Some (λ (g : KeptGate). g.number == number) gates place k is in
     at_first number place gates k p.0 at p.1 p.2
 
--- a gate of a number that no other has stands behind the others
+-- a gate of a number that no other has is appended
 behind_others : (number : ℕ) (gates : List KeptGate) → ((k : KeptGate) → Contains gates k → (k.number == number) ≡ false) →
     (find (λ (g : KeptGate). g.number == number) gates ≡ None) × ((g : KeptGate) → g.number ≡ number → with_gate gates g ≡ gates ++ g ∷ [])
 behind_others number [] none = (refl, λ g e. refl)
@@ -61,7 +61,7 @@ behind_others number (x ∷ gates) none =
           ∙ ap (λ (gs : List KeptGate). x ∷ gs) (rest.1 g e),
     )
 
--- a number that has no place
+-- a number that has no index
 pub not_found : (number : ℕ) (gates : List KeptGate) → position (λ (g : KeptGate). g.number == number) gates ≡ None →
     (find (λ (g : KeptGate). g.number == number) gates ≡ None) × ((g : KeptGate) → g.number ≡ number → with_gate gates g ≡ gates ++ g ∷ [])
 not_found number gates is =

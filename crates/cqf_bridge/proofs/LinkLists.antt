@@ -1,4 +1,4 @@
--- The links of a bridge, and what stands for each of them.
+-- The links of a bridge, and an element for each of them.
 use Rattle.std.proofs.Common.{◌≡◌, ℕ, zero, suc, ◌<◌, Bool, true, false, List, [], ◌++◌, ◌==◌, if◌then◌else◌, length, sym, ap, ap₂, refl, ◌∙◌, inl, inr, arith}
 use Rattle.std.proofs.Common.{Option, append-nil, eqb-true, eq-eqb, ne_eqb}
 use Rattle.std.specs.Option.{option_map_or}
@@ -18,7 +18,7 @@ use Rattle.cqf_bridge.specs.Batch.{LinkBatch}
 use Rattle.cqf_bridge.specs.Receiving.{carried_by, links_into}
 use Rattle.cqf_bridge.specs.Follows.{batch_of, batches_into}
 
--- lists of which all but one are empty are that one
+-- lists end to end are equal to one of them if all others are empty
 pub one_below : {X : Type 0} (f : ℕ → List X) (n k : ℕ) → k < n → ((j : ℕ) → (j ≡ k → ⊥) → f j ≡ []) → each_below f n ≡ f k
 one_below f zero k l others = absurd (omega (arith, l))
 one_below {X} f (suc n) k l others =
@@ -30,7 +30,7 @@ one_below {X} f (suc n) k l others =
           ap (λ (xs : List X). xs ++ f n) (none_below f n (λ j before. others j (λ e. omega (arith, before, last, e)))) ∙ ap f last
     ]
 
--- a link leaves one bridge
+-- a link leaves only one bridge
 pub bridge_it_leaves : (d : Domain) (l bridge : ℕ) → l < length d.links → leaves d l bridge ≡ true → bridge_of d l ≡ bridge
 bridge_it_leaves d l bridge h here =
     elim (slice_get_cases d.links l).1 [
@@ -40,7 +40,7 @@ bridge_it_leaves d l bridge h here =
       | inr w ↦ absurd (omega (arith, h, w.0))
     ]
 
--- the batches of the links that end in a bridge bring what these send
+-- the batches of the links that end in a bridge have what these links send
 pub brings_its_batch : (d : Domain) (carried : Carried) (bridge cycle m : ℕ) → enters d m bridge ≡ true →
     carried_by (batches_into d carried bridge cycle) m ≡ batch d carried m cycle
 brings_its_batch d carried bridge cycle m here =
@@ -54,7 +54,7 @@ brings_its_batch d carried bridge cycle m here =
     ∙ cond-true (enters d m bridge) (frames_of m) [] here
     ∙ cond-true (m == m) (batch d carried m cycle) [] (eq-eqb m m refl)
   where
-    -- another link brings none of it
+    -- another link has none of it
     nothing : (in_bridge of_link : Bool) (frames : List Sent) → of_link ≡ false →
         (if in_bridge then (if of_link then frames else []) else []) ≡ []
     nothing true of_link frames other = cond-false of_link frames [] other

@@ -1,4 +1,4 @@
--- Where nothing is lost inside, what the links bring in a cycle goes on, and want of memory is the only fault.
+-- If nothing is lost inside, the frames that the links bring in a cycle go on, and refused memory is the only fault.
 use Rattle.std.proofs.Common.{◌≡◌, ℕ, ◌+◌, ◌-◌, ◌*◌, ◌<◌, ◌≤◌, ◌==◌, Bool, true, false, not, if◌then◌else◌, List, []}
 use Rattle.std.proofs.Common.{◌∷◌, ◌++◌, length, map, filter, sym, ap, refl, ◌∙◌, arith, inl, inr, subst, Contains}
 use Rattle.std.proofs.Common.{eq-eqb}
@@ -35,7 +35,7 @@ use Rattle.cqf_bridge.specs.Follows.{batch_of, batches_into, handed_in}
 use Rattle.cqf_bridge.specs.Verdicts.{LosesNothingIn}
 use Rattle.cqf_bridge.proofs.TakenCycles.{verdicts_are}
 
--- each frame that comes gets its verdict, behind some others
+-- each frame that arrives gets its verdict, after some others
 verdict_on : (d : Domain) (tables : List (List Row)) (bridge : ℕ) (earlier : List Policed) (xs : List Received) (x : Received) → Contains xs x →
     (before : List Policed) × Contains (police_all d tables bridge earlier xs) (police d tables bridge before x)
 verdict_on d tables bridge earlier [] x h = absurd (contains_none x h)
@@ -49,7 +49,7 @@ verdict_on d tables bridge earlier (y ∷ xs) x h =
           (r.0, contains_later first rest (police d tables bridge r.0 x) r.1)
     ]
 
--- a frame that came by a link and isn't lost has a row that leads on
+-- a frame that arrived by a link and isn't lost has a row that leads on
 kept_has_row : (d : Domain) (bridge m : ℕ) (passes : Row → Bool) (found : Option Row) → (IsLoss (inside_verdict d bridge m passes found) → ⊥) →
     (row : Row) × (found ≡ Some row) × (goes_on d row (Some m) bridge ≡ true)
 kept_has_row d bridge m passes None kept = absurd (kept tt)
@@ -60,7 +60,7 @@ kept_has_row d bridge m passes (Some row) kept = (row, refl, leads (goes_on d ro
     leads true fits stays = refl
     leads false fits stays = absurd (stays tt)
 
--- what a link brings in a cycle comes to the bridge in it
+-- what a link sends in a cycle arrives at the bridge in it
 comes_in_cycle : (run : Run) (carried : Carried) (cycle bridge m : ℕ) (sent : Sent) → 0 < run.domain.cycle_time → enters run.domain m bridge ≡ true →
     Contains (carried m) sent → cycle_of run.domain (whole_at run.domain m sent) ≡ cycle →
     Contains (received_in run carried bridge cycle) (sent_received run.domain m sent)
@@ -87,7 +87,7 @@ comes_in_cycle run carried cycle bridge m sent some here inside in_time =
 
 module _ (run : Run) (cycles cycle bridge : ℕ) (net : Network) (compiled : IsCompiledNetwork run cycles net) (none : LosesNothingIn run net bridge cycle)
     (whole : BatchIsWholeInItsCycle) where
-  -- where nothing is lost there in the cycle, a frame that a link sends in it to the bridge may come
+  -- if nothing is lost there in the cycle, a frame that a link sends in it to the bridge may arrive
   unlost_frame : (m : ℕ) (sent : Sent) → enters run.domain m bridge ≡ true → Contains (batch run.domain net.carried m cycle) sent →
       MayCome run.domain bridge cycle (table_of run.tables cycle) m sent
   unlost_frame m sent here h =
@@ -145,7 +145,7 @@ none_over whole brings losses reserves run cycles cycle bridge frame net compile
     subst (λ (ps : List Policed). Contains ps over.over) taken (contains_at (verdicts_in run bridge cycle batches) over.place over.over over.there) in
     none_lost_in run cycles cycle bridge net compiled loses in_cycles whole losses over.over inside (subst IsLoss (sym over.exceeds) tt)
 
--- so a bridge that has sent the cycle doesn't receive it for want of memory alone
+-- so a bridge that has sent the cycle refuses to receive it only if memory is refused
 pub memory_alone : BatchIsWholeInItsCycle → CycleBringsItsBatches → LossesAreOfCycles → GateIsReservation → (run : Run) (cycles cycle : ℕ) (net : Network)
     (before after : BridgeState) (fault : BridgeFault) → IsCompiledNetwork run cycles net → LosesNothing run cycles net →
     before.domain ≡ run.domain → MayReceive before cycle (handed_in run net before.number cycle) → cycle < cycles →

@@ -1,4 +1,4 @@
--- What a port's transmissions are as a batch.
+-- A port's transmissions as a batch.
 use Rattle.std.proofs.Common.{◌≡◌, ◌+◌, ◌≤◌, ◌<◌, ℕ, List, [], ◌∷◌, ◌++◌, ◌∙◌, sym, ap, arith, length, map}
 use Rattle.std.proofs.Common.{flat_map, Option, None, AllPairs, Contains}
 use Rattle.std.specs.Prelude.{slice_index_or}
@@ -21,7 +21,7 @@ use Rattle.cqf_bridge.specs.Batch.{LinkBatch}
 use Rattle.cqf_bridge.specs.PortRecord.{AreDemanded, PortRecord, RunsTo, frame_with, frames_of, recorded, with_starts}
 
 module _ (arrivals : List Arrival) (streams : List (Option ℕ)) (even : length streams ≡ length arrivals) where
-  -- the frame at a place is the arrival and the stream there
+  -- the frame at an index has the arrival and the stream there
   pub frame_at : (place : ℕ) → place < length arrivals →
       slice_index_or (map frame_with (zip arrivals streams)) place no_frame
       ≡ frame_with (slice_index_or arrivals place no_arrival, slice_index_or streams place None)
@@ -29,7 +29,7 @@ module _ (arrivals : List Arrival) (streams : List (Option ℕ)) (even : length 
       get_or-map frame_with (zip arrivals streams) place (no_arrival, None) no_frame (omega (arith, inside, even, length-zip arrivals streams))
       ∙ ap frame_with (get_or-zip arrivals streams place (no_arrival, None) inside (omega (arith, inside, even)))
 
-  -- so what a transmission sends goes by its arrival and its stream
+  -- so what a transmission sends is determined by its arrival and stream
   pub sent_at : (x : Transmission) (d : Arrival) (e : Option ℕ) → x.0 < length arrivals →
       sent_of (frames_of arrivals streams) x ≡ sent_by x.1 (get_or arrivals x.0 d) (get_or streams x.0 e)
   sent_at x d e inside =
@@ -42,7 +42,7 @@ module _ (arrivals : List Arrival) (streams : List (Option ℕ)) (even : length 
       ap (λ (f : QueuedFrame). backed_by x.1 f.arrival f.stream) (frame_at x.0 inside)
       ∙ (λ i. backed_by x.1 (get_or_default arrivals x.0 no_arrival d inside i) (get_or_default streams x.0 None e (omega (arith, inside, even)) i))
 
--- instants that ascend within a stretch are no more than it has
+-- ascending instants within an interval are at most as many as the interval has
 pub few_between : (first end : ℕ) (made : List Transmission) → first ≤ end → AllPairs (λ (a b : Transmission). a.1 < b.1) made →
     ((x : Transmission) → Contains made x → first ≤ x.1) → ((x : Transmission) → Contains made x → x.1 < end) → length made + first ≤ end
 few_between first end [] within ascend from upto = omega (arith, within)
@@ -53,14 +53,14 @@ few_between first end (x ∷ made) within ascend from upto =
     (λ y h. omega (arith, pairs_head (λ (a b : Transmission). a.1 < b.1) x made y ascend h)) (λ y h. upto y (contains_later x made y h)) in
     omega (arith, rest, from x here)
 
--- a port has run to an instant, and made these
+-- a port has run to an instant, and made these starts
 pub record HasRunTo (r : PortRecord) (after : PortState) (until : ℕ) (made : List Transmission) : Type 0 where
   pub demanded : AreDemanded r until made
   pub value : after ≡ (with_starts r until made).port
   pub inside : (x : Transmission) → Contains made x → x.0 < length r.port.arrivals
   pub few : length made + r.port.reached ≤ until
 
--- it is so where it ran up to it, of what stands behind the starts that it had
+-- this is so if it ran up to the instant, with the starts after those that it had
 pub has_run_to : (r : PortRecord) (after : PortState) (until : ℕ) (starts kept behind : List Transmission) →
     r.port.reached < until → RunsUpTo until r.port after → IsPort after →
     starts ≡ after.starts → kept ≡ r.port.starts → behind ≡ take (length starts - length kept) (drop (length kept) starts) →
@@ -85,7 +85,7 @@ has_run_to r after until starts kept behind forward a port all had is =
           (λ x h. a.from_reached x.0 x.1 h) (λ x h. legal.before_end x.0 x.1 (Contains-append_right r.port.starts made x h));
     })
 
--- so what it hands on is the batch, and the background frames
+-- so it returns the batch and the background frames
 pub runs_to : (r seen : PortRecord) (after : PortState) (until cycle : ℕ) (made : List Transmission)
     (arrivals : List Arrival) (streams : List (Option ℕ)) (fresh batch : LinkBatch) (background background_after : List Started) →
     r ≡ seen → HasRunTo r after until made → arrivals ≡ after.arrivals → streams ≡ r.streams →

@@ -1,4 +1,4 @@
--- Offers as they are listed.
+-- Offers in the order of the list.
 use Rattle.std.proofs.Common.{◌≡◌, ◌+◌, ◌≤◌, ◌<◌, ◌∙◌, ℕ, true, false, List, [], ◌∷◌, ◌++◌, length, map, filter, take, get_or, refl, sym, ap, arith, append-nil}
 use Rattle.std.specs.Prelude.{if◌then◌else◌}
 use Rattle.std.specs.List.{enumerate_from}
@@ -12,11 +12,11 @@ use Rattle.cqf_model.specs.Domain.{Domain}
 use Rattle.cqf_model.specs.Traffic.{numbered}
 use Rattle.cqf_laws_cycle.specs.Gathered.{is_offered_in}
 
--- the offer at a place, with its number
+-- the offer at an index, with its number
 abbrev at_place : List Offer → ℕ → Offer → Offered
 at_place offers k d = record { frame = k + 1; offer = get_or offers k d }
 
--- the numbered offers before a place, and one more
+-- the numbered offers before an index, and one more
 numbered_more : (offers : List Offer) (k : ℕ) (d : Offer) → k < length offers → numbered (take (k + 1) offers) ≡ numbered (take k offers)
     ++ at_place offers k d ∷ []
 numbered_more offers k d below =
@@ -40,7 +40,7 @@ module _ (d : Domain) (offers : List Offer) (bridge cycle k : ℕ) (offer : Offe
       ∙ ap (λ (o : Offer). numbered (take k offers) ++ record { frame = k + 1; offer = o } ∷ []) (sym is))
       ∙ filter-append (is_offered_in d bridge cycle) (numbered (take k offers)) (own ∷ [])
 
-  -- an offer more is listed
+  -- one more offer is listed
   pub one_listed : is_offered_in d bridge cycle own ≡ true → (list after : List Offered) → list
       ≡ filter (is_offered_in d bridge cycle) (numbered (take k offers)) →
       after ≡ list ++ own ∷ [] → after ≡ filter (is_offered_in d bridge cycle) (numbered (take (k + 1) offers))
@@ -50,7 +50,7 @@ module _ (d : Domain) (offers : List Offer) (bridge cycle k : ℕ) (offer : Offe
       (sym (cond-true (is_offered_in d bridge cycle own) (own ∷ []) [] hit))
       ∙ sym more
 
-  -- or it is passed by
+  -- or it is skipped
   pub one_passed : is_offered_in d bridge cycle own ≡ false → (list : List Offered) → list ≡ filter (is_offered_in d bridge cycle) (numbered (take k offers)) →
       list ≡ filter (is_offered_in d bridge cycle) (numbered (take (k + 1) offers))
   one_passed miss list before =
@@ -59,7 +59,7 @@ module _ (d : Domain) (offers : List Offer) (bridge cycle k : ℕ) (offer : Offe
       (sym (cond-false (is_offered_in d bridge cycle own) (own ∷ []) [] miss))
       ∙ sym more
 
--- the instant of an offer, and an offer of any instant
+-- the instant of an offer
 abbrev pub instant_of_offer : Offered → ℕ
 instant_of_offer x = x.offer.at.0
 

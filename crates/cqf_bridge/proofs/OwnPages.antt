@@ -1,4 +1,4 @@
--- What a bridge gives in a cycle is its page of the book.
+-- A bridge's output in a cycle is its page of the book.
 use Rattle.std.proofs.Common.{◌≡◌, ℕ, ◌*◌, ◌<◌, length, sym, ap, ◌∙◌}
 use Rattle.std.specs.List.{flat_map}
 use Rattle.std.proofs.lemmas.List.Folds.{flat_map-map}
@@ -26,7 +26,7 @@ module _ (unique : LegalNetworkIsUnique) (says_starts : PageSaysWhatItsLinksSend
     (says_drops : PageSaysWhatIsDropped) (of_the_cycle : DropsAreOfTheCycle) (run : Run) (cycles cycle bridge : ℕ) (net : Network) (book : Contents)
     (compiled : IsCompiledNetwork run cycles net) (is : IsBook run (compiled_lists run.domain) cycles book)
     (in_bridges : bridge < length run.domain.bridges) (in_cycles : cycle < cycles) where
-  -- the book's network is the one that is legal
+  -- the book's network is the legal one
   same_network : is.net ≡ net
   same_network = unique run (compiled_lists run.domain) cycles is.net net is.legal compiled.legal
 
@@ -57,7 +57,7 @@ module _ (unique : LegalNetworkIsUnique) (says_starts : PageSaysWhatItsLinksSend
       ∙ of_the_cycle run is.net.carried cycles cycle bridge places in_cycles
       ∙ ap (λ (n : Network). drops_of_cycle run n bridge cycle) same_network
 
-  -- are what the bridge gave
+  -- are the bridge's output
   pub page_is_given : page_of run.domain bridge cycle book
       ≡ page_given (batches_from run.domain net.carried bridge cycle) (on_links_of run.domain bridge (background_in run.domain net.backed cycle))
       (drops_of_cycle run net bridge cycle)

@@ -5,7 +5,7 @@ use Rattle.std.proofs.lemmas.List.{map-append, take_more}
 use Rattle.std.proofs.lemmas.Option.{get_or_from_slice_get, slice_get_within}
 use Rattle.cqf_model.specs.declared.frames.Sent.{Sent}
 
--- what is made of a batch's frames, and of one more
+-- the results for a batch's frames, and for one more
 pub batch_more : {Y : Type 0} (f : Sent → Y) (place : ℕ) (frames : List Sent) (sent : Sent) (front list after : List Y) → slice_get frames place ≡ Some sent →
     list ≡ front ++ map f (take place frames) → after ≡ list ++ f sent ∷ [] → after ≡ front ++ map f (take (place + 1) frames)
 batch_more {Y} f place frames sent front list after there so pushed =

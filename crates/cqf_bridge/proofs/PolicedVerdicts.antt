@@ -1,4 +1,4 @@
--- What becomes of a frame at a bridge, and what its stream's gate counts.
+-- The verdict on a frame at a bridge, and what its stream's gate counts.
 use Rattle.std.proofs.Common.{◌≡◌, ◌≢◌, ◌+◌, ◌*◌, ◌≤◌, ◌<◌, ◌%◌, ◌⊎◌, ℕ, Bool, true, false, not, List, [], ◌∷◌, ◌++◌}
 use Rattle.std.proofs.Common.{◌∙◌, inl, inr, sym, ap, refl, arith, map, Contains, Option, Some, None}
 use Rattle.std.proofs.Common.{subst, append-nil}
@@ -37,12 +37,12 @@ use Rattle.cqf_bridge.proofs.PutGates.{gate_beside, gate_put, kept_cases}
 use Rattle.cqf_bridge.proofs.Counting.{counted_more}
 use Rattle.cqf_bridge.proofs.Taking.{frames_none, not_out_of_order}
 
--- what a gate's word tells of it
+-- what a gate's answer implies
 pub word_class : (b : Bool) (k m : ℕ) → Class k ≡ (if b then Class m else OverOctets) → (b ≡ true) × (k ≡ m)
 word_class true k m said = (refl, cc)
 word_class false k m said = absurd cc
 
--- and that it lets nothing pass
+-- and that it passes nothing
 pub word_over : (b : Bool) (m : ℕ) → OverOctets ≡ (if b then Class m else OverOctets) → b ≡ false
 word_over true m said = absurd cc
 word_over false m said = refl
@@ -50,14 +50,14 @@ word_over false m said = refl
 module _ (d : Domain) (cycle : ℕ) (x : Received) (row : Row) (gates gates_after : List KeptGate) (some : 0 < d.cycle_time)
     (here : cycle_of d x.at ≡ cycle)
     (after : gates_after ≡ with_gate gates (kept_after d.cycle_time row.no (gate_in d gates row (came_by x.way)) x.at x.octets)) where
-  -- the gate of the row, and what is kept of it behind the frame
+  -- the gate of the row, and its state after the frame
   abbrev gate : Gate
   gate = gate_in d gates row (came_by x.way)
 
   abbrev put : KeptGate
   put = kept_after d.cycle_time row.no gate x.at x.octets
 
-  -- the gates that were called by the cycle's end were so then
+  -- if the gates were called before the cycle's end, they still were
   kept_again : AreKept (cycle + 1) gates → AreKept (cycle + 1) gates_after
   kept_again kept k held = elim (kept_cases gates put k (subst (λ (gs : List KeptGate). Contains gs k) after held)) [
     | inl old ↦ kept k old
@@ -69,7 +69,7 @@ module _ (d : Domain) (cycle : ℕ) (x : Received) (row : Row) (gates gates_afte
     abbrev went : Bool
     went = passes_by d gates x row
 
-    -- what is counted of the row's own number
+    -- what is counted for the row's own number
     own_counted : counted_in gates_after row.no cycle
         ≡ counted_in gates row.no cycle + (if is_queued_of row.no (verdict_if went row) then x.octets else 0)
     own_counted =
@@ -84,7 +84,7 @@ module _ (d : Domain) (cycle : ℕ) (x : Received) (row : Row) (gates gates_afte
         own true = eq-eqb row.no row.no refl
         own false = refl
 
-    -- and of another
+    -- and for another number
     other_counted : (number : ℕ) → row.no ≢ number → counted_in gates_after number cycle
         ≡ counted_in gates number cycle + (if is_queued_of number (verdict_if went row) then x.octets else 0)
     other_counted number apart =
@@ -100,7 +100,7 @@ module _ (d : Domain) (cycle : ℕ) (x : Received) (row : Row) (gates gates_afte
         none true = ne_eqb row.no number apart
         none false = refl
 
-    -- so the frame went by its gate
+    -- so the frame passed its gate, or didn't
     pub went_by_gate : (class : Option ℕ) → class ≡ (if went then Some (class_in d x row) else None) → PassesGate d cycle x row gates gates_after class
     went_by_gate class decided = record {
       decided = decided;
@@ -152,12 +152,12 @@ module _ (d : Domain) (cycle : ℕ) (x : Received) (row : Row) (ports : List Por
         omega (arith, (each_waits r held).sooner b inside high, ap (λ (a : Arrival). a.at.0) is)),
   )
 
--- a frame that is dropped goes to no port
+-- a dropped frame is queued to no port
 pub none_queued : (d : Domain) (x : Received) (reason : Reason) (ports : List PortRecord) → ports ≡ map (with_verdict d x (DroppedFor reason)) ports
 none_queued d x reason [] = refl
 none_queued d x reason (r ∷ ports) = λ i. sym (frames_none r) i ∷ none_queued d x reason ports i
 
--- frames that go to the ports in the class that their gate gives are queued as the verdict has it
+-- frames that get to the ports in the class that their gate gives are queued as the verdict says
 pub queued_as : (d : Domain) (x : Received) (row : Row) (class : ℕ) (way : Option ℕ) (ports after : List PortRecord) → class ≡ class_in d x row
     → way ≡ came_by x.way →
     after ≡ map (queue_on row way (record { at = record { 0 = x.at }; class = class; octets = x.octets; frame = x.frame })) ports →
@@ -168,7 +168,7 @@ queued_as d x row class way ports after gives came is =
     is ∙ (λ i. map (on (came i) (gives i)) ports)
 
 module _ (d : Domain) (rows : List Row) (bridge cycle : ℕ) (x : Received) (gates gates_after : List KeptGate) where
-  -- a frame that goes on by no gate
+  -- a frame that reaches no gate
   pub polices_none : (made : FrameVerdict) → verdict_as made ≡ verdict_taken d rows bridge cycle gates x → HasClass d x made →
       ((number : ℕ) → is_queued_of number (verdict_as made) ≡ false) → gates_after ≡ gates → Polices d rows bridge cycle x gates gates_after made
   polices_none made is class none same = record {
@@ -185,7 +185,7 @@ module _ (d : Domain) (rows : List Row) (bridge cycle : ℕ) (x : Received) (gat
       plus_none : (n : ℕ) → n ≡ n + 0
       plus_none n = omega arith
 
-  -- one that goes by the gate of its row
+  -- a frame that reaches the gate of its row
   pub polices_row : (row : Row) (class : Option ℕ) → PassesGate d cycle x row gates gates_after class → (made : FrameVerdict) →
       verdict_as made ≡ verdict_taken d rows bridge cycle gates x → HasClass d x made →
       ((number : ℕ) → is_queued_of number (verdict_if (passes_by d gates x row) row) ≡ is_queued_of number (verdict_as made)) →
@@ -202,7 +202,7 @@ module _ (d : Domain) (rows : List Row) (bridge cycle : ℕ) (x : Received) (gat
 
   module _ (ports ports_after : List PortRecord) (drops drops_after : List Dropped) (made : FrameVerdict)
       (p : Polices d rows bridge cycle x gates gates_after made) where
-    -- a frame that is policed is taken, where the ports and the drops get it
+    -- a frame that is policed is taken if the ports and the drops get it
     takes_so : ports_after ≡ map (with_verdict d x (verdict_as made)) ports → drops_after ≡ drops ++ drop_by cycle bridge x (verdict_as made) →
         ¬ IsLoss (verdict_as made) → TakesFrame d rows bridge cycle x gates gates_after ports ports_after drops drops_after
     takes_so queued dropped not_lost = record {
@@ -238,7 +238,7 @@ verdict_at_edge d rows bridge cycle gates x name found came is =
     ap (verdict_by d rows bridge cycle (passes_by d gates x)) came
     ∙ ap (edge_verdict d bridge cycle (passes_by d gates x)) (sym is)
 
--- and on a frame that came by a link, of a row that leads on
+-- and on a frame that arrived by a link, with a row that leads on
 pub verdict_inside : (d : Domain) (rows : List Row) (bridge cycle : ℕ) (gates : List KeptGate) (x : Received) (link stream : ℕ) (row : Row) →
     x.way ≡ Relayed link stream → Some row ≡ row_of rows stream → goes_on d row (Some link) bridge ≡ true →
     verdict_taken d rows bridge cycle gates x ≡ verdict_if (passes_by d gates x row) row
@@ -254,7 +254,7 @@ verdict_inside d rows bridge cycle gates x link stream row came is goes =
     turned true = refl
     turned false = refl
 
--- or of no row, or one that doesn't lead on
+-- or with no row, or one that doesn't lead on
 pub verdict_lacking : (d : Domain) (rows : List Row) (bridge cycle : ℕ) (gates : List KeptGate) (x : Received) (link stream : ℕ) →
     x.way ≡ Relayed link stream → None ≡ row_of rows stream → verdict_taken d rows bridge cycle gates x ≡ LacksRow
 verdict_lacking d rows bridge cycle gates x link stream came is =
@@ -272,12 +272,12 @@ verdict_not_leading d rows bridge cycle gates x link stream row came is goes =
     ∙ ap (inside_verdict d bridge link passes) (sym is)
     ∙ ap (λ (b : Bool). if not b then LacksRow else rest) goes
 
--- what a gate gives tells whether it let the frame pass
+-- what a gate gives implies whether it passed the frame
 pub class_given : (b : Bool) (k m : ℕ) → Some k ≡ (if b then Some m else None) → (b ≡ true) × (k ≡ m)
 class_given true k m given = (refl, cc)
 class_given false k m given = absurd cc
 
--- nothing is given only where the test fails
+-- nothing is given only if the test fails
 pub none_given : (b : Bool) (m : ℕ) → None ≡ (if b then Some m else None) → b ≡ false
 none_given true m given = absurd cc
 none_given false m given = refl
@@ -287,7 +287,7 @@ edge_lacks_none : (d : Domain) (bridge cycle : ℕ) (passes : Row → Bool) (fou
 edge_lacks_none d bridge cycle passes None lacks = absurd cc
 edge_lacks_none d bridge cycle passes (Some row) lacks = reasons (not (is_live row cycle)) (not (begins_at d row bridge)) (not (passes row)) lacks
   where
-    -- whichever reason fits
+    -- for each of the reasons
     reasons : (a b c : Bool) → (if a then DroppedFor Withdrawn else (if b then DroppedFor OtherBridge else (if c then DroppedFor Octets else Queued row)))
         ≡ LacksRow → ⊥
     reasons true b c e = absurd cc
@@ -300,12 +300,12 @@ pub lacks_none : (d : Domain) (rows : List Row) (bridge cycle : ℕ) (gates : Li
     verdict_taken d rows bridge cycle gates x ≡ LacksRow → ⊥
 lacks_none d rows bridge cycle gates x may lacks = by_way x.way refl
   where
-    -- one that passes its gate or not
+    -- a frame that passes its gate, or doesn't
     either : (b : Bool) (row : Row) → verdict_if b row ≡ LacksRow → ⊥
     either true row e = absurd cc
     either false row e = absurd cc
 
-    -- by the way that it came
+    -- by the way it arrived
     by_way : (way : Way) → x.way ≡ way → ⊥
     by_way (Offering name) came =
         edge_lacks_none d bridge cycle (passes_by d gates x) (row_named rows name)
@@ -314,6 +314,6 @@ lacks_none d rows bridge cycle gates x may lacks = by_way x.way refl
         let k = may.leads_on link stream came in
         either (passes_by d gates x k.0) k.0 (sym (verdict_inside d rows bridge cycle gates x link stream k.0 came (sym k.1) k.2) ∙ lacks)
 
--- one row is found
+-- only one row is found
 pub one_found : (a b : Row) → Some a ≡ Some b → a ≡ b
 one_found a b e = cc

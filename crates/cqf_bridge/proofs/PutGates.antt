@@ -1,4 +1,4 @@
--- Gates that are put among others, and those beside them.
+-- Inserting a gate among others, and the gates beside it.
 use Rattle.std.proofs.Common.{◌≡◌, ◌≢◌, ℕ, List, [], ◌∷◌, ◌∙◌, ◌⊎◌, inl, inr, sym, ap, refl, find, Contains, Some, None, subst}
 use Rattle.std.specs.Prelude.{◌==◌, if◌then◌else◌}
 use Rattle.std.proofs.lemmas.Bool.{cases_eq, cond-false, cond-true, eq-eqb, ne_eqb}
@@ -6,7 +6,7 @@ use Rattle.cqf_lists.proofs.Members.{contains_cases, contains_here, contains_lat
 use Rattle.cqf_bridge.specs.declared.cycle_gate.KeptGate.{KeptGate}
 use Rattle.cqf_bridge.specs.Gates.{with_gate}
 
--- a gate that is put in is the one of its number
+-- an inserted gate is the one of its number
 pub gate_put : (gates : List KeptGate) (g : KeptGate) → find (λ (k : KeptGate). k.number == g.number) (with_gate gates g) ≡ Some g
 gate_put [] g = cond-true (g.number == g.number) (Some g) None (eq-eqb g.number g.number refl)
 gate_put (x ∷ gates) g = elim (cases_eq x.number g.number) [
@@ -34,7 +34,7 @@ gate_beside (x ∷ gates) g number apart = elim (cases_eq x.number g.number) [
       ∙ ap (λ rest. if x.number == number then Some x else rest) (gate_beside gates g number apart)
 ]
 
--- what is kept then was kept, or is the gate
+-- a gate that is kept then was kept before, or is the inserted one
 pub kept_cases : (gates : List KeptGate) (g k : KeptGate) → Contains (with_gate gates g) k → Contains gates k ⊎ (g ≡ k)
 kept_cases [] g k held = elim (contains_cases g [] k held) [ inl e ↦ inr e | inr never ↦ absurd (contains_none k never) ]
 kept_cases (x ∷ gates) g k held = elim (cases_eq x.number g.number) [

@@ -27,7 +27,7 @@ use Rattle.cqf_bridge.specs.Receiving.{CanReceive, Handed, IsNextToReceive, IsRe
 use Rattle.cqf_bridge.specs.Taking.{AreWaiting, HasGates, IsFaultInRun, IsKept, TakesCycle}
 use Rattle.cqf_bridge.proofs.Bridges.{bridge_spent}
 
--- what is queued in a cycle comes before its end
+-- what is queued in a cycle arrives before its end
 queued_early : (run : Run) (bridge cycle : ℕ) (batches : List LinkBatch) (l : ℕ) (a : Arrival) →
     Contains (arrivals_of (queued_to run.domain l (verdicts_in run bridge cycle batches))) a → a.at.0 < (cycle + 1) * run.domain.cycle_time
 queued_early run bridge cycle batches l a held =
@@ -123,7 +123,7 @@ module _ (b : BridgeState) (gates : List KeptGate) (cycle table_cycle : ℕ) (ma
                 ];
           }
 
-      -- the bridge is one again
+      -- the bridge satisfies the invariant again
       pub bridge_received : HasGates behind gates_after
       bridge_received = record {
         bridge = record {
@@ -159,7 +159,7 @@ module _ (b : BridgeState) (gates : List KeptGate) (cycle table_cycle : ℕ) (ma
         drops = takes.dropped;
       }
 
--- a spent bridge keeps what gates it will
+-- a spent bridge may have any gates
 pub gates_spent : (b : BridgeState) (gates gates_after : List KeptGate) (ports : List PortRecord) → HasGates b gates →
     HasGates (record b { spent = true; ports = ports }) gates_after
 gates_spent b gates gates_after ports is = record { bridge = bridge_spent b ports is.bridge; gates_kept = λ never. absurd (true≢false never) }

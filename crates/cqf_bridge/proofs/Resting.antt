@@ -20,7 +20,7 @@ runs_quietly r after until runs only quiet =
     runs.value ∙ ap behind (sym (here r.port.starts quiet))
 
 module _ (b : BridgeState) (cycle : ℕ) (is : IsBridge b) (may : MayPass b cycle) where
-  -- what comes before the cycles received comes before the end of the cycle
+  -- what arrives before the received cycles' end arrives before the end of the cycle
   no_later : b.received * b.domain.cycle_time ≤ end_of_cycle b.domain cycle
   no_later = let less : b.received ≤ cycle + 1 = omega (arith, may.ahead) in mul-le-mul_right b.domain.cycle_time less
 
@@ -32,7 +32,7 @@ module _ (b : BridgeState) (cycle : ℕ) (is : IsBridge b) (may : MayPass b cycl
       let less : b.received * b.domain.cycle_time ≤ cycle * b.domain.cycle_time = mul-le-mul_right b.domain.cycle_time may.ahead in
       omega (arith, at, less, some)
 
-  -- a bridge that has passed over cycles is a bridge
+  -- a bridge that has passed over cycles satisfies the invariant
   pub bridge_passed : IsBridge (passed cycle b)
   bridge_passed = record {
     accepted = is.accepted;
@@ -60,7 +60,7 @@ module _ (b : BridgeState) (cycle : ℕ) (is : IsBridge b) (may : MayPass b cycl
     gates_kept = λ _ k held. omega (arith, has.gates_kept may.not_spent k held, may.ahead);
   }
 
--- what is left of a bridge whose ports have rested is a bridge that has passed
+-- a bridge whose ports have rested has passed over the cycles
 pub passed_so : (b : BridgeState) (cycle end : ℕ) (ports : List PortRecord) (background : List Started) → MayPass b cycle → end ≡ end_of_cycle b.domain cycle →
     ports ≡ map (rested end) b.ports → background ≡ [] →
     record { domain = b.domain; number = b.number; sent = cycle + 1; received = cycle + 1; spent = b.spent; ports = ports; background = background }

@@ -1,4 +1,4 @@
--- What a cycle of a run brings to a bridge.
+-- The frames that a cycle of a run brings to a bridge.
 use Rattle.std.proofs.Common.{◌≡◌, ◌+◌, ◌*◌, ◌≤◌, ◌<◌, ℕ, suc, Bool, true, false, List, [], ◌∷◌, ◌++◌, ◌∙◌, inl, inr}
 use Rattle.std.proofs.Common.{sym, ap, refl, arith, length, map, filter, flat_map, get_or, AllPairs, Contains, Some}
 use Rattle.std.proofs.Common.{subst, eq-eqb, eqb-true, mul-le-mul_right}
@@ -37,13 +37,13 @@ use Rattle.cqf_bridge.specs.declared.cycle_gate.KeptGate.{KeptGate}
 use Rattle.cqf_bridge.proofs.Coming.{batch_enters}
 use Rattle.cqf_bridge.proofs.TakenCycle.{table_held}
 
--- lists of each element of lists end to end
+-- flat maps over lists end to end
 flat_below : {X Y : Type 0} (g : X → List Y) (f : ℕ → List X) (n : ℕ) → flat_map g (each_below f n) ≡ each_below (λ k. flat_map g (f k)) n
 flat_below g f zero = refl
 flat_below {X} {Y} g f (suc n) =
     flat_map-append g (each_below f n) (f n) ∙ ap (λ (ys : List Y). ys ++ flat_map g (f n)) (flat_below g f n)
 
--- of batches, those of a link bring what the link brings
+-- among batches, those of a link have what the link brings
 of_link : (m : ℕ) (batches : List LinkBatch) →
     flat_map (λ (b : LinkBatch). b.frames) (filter (λ (b : LinkBatch). b.link == m) batches) ≡ carried_by batches m
 of_link m [] = refl
@@ -56,12 +56,12 @@ of_link m (b ∷ batches) = by (b.link == m) (of_link m batches)
     by true rest = ap (λ (ys : List Sent). b.frames ++ ys) rest
     by false rest = rest
 
--- what is mapped of lists end to end
+-- mapping lists end to end
 mapped_flat : {X Y Z : Type 0} (f : Y → Z) (g : X → List Y) (xs : List X) → flat_map (λ x. map f (g x)) xs ≡ map f (flat_map g xs)
 mapped_flat f g [] = refl
 mapped_flat {X} {Y} {Z} f g (x ∷ xs) = ap (λ (zs : List Z). map f (g x) ++ zs) (mapped_flat f g xs) ∙ sym (map-append f (g x) (flat_map g xs))
 
--- numbers that are picked ascend
+-- selected numbers ascend
 picked_ascend : (test : ℕ → Bool) (n : ℕ) → AllPairs (λ (a b : ℕ). a < b) (each_below (λ k. if test k then k ∷ [] else []) n)
 picked_ascend test n =
     pairs_below (λ (a b : ℕ). a < b) (λ k. if test k then k ∷ [] else []) n (λ k inside. one (test k) k)
@@ -74,11 +74,11 @@ picked_ascend test n =
     one true k = pairs_one (λ (a c : ℕ). a < c) k
     one false k = pairs_none (λ (a c : ℕ). a < c)
 
--- a frame came by one link, of one stream
+-- a frame arrived by one link, of one stream
 one_way_in : (a b c e : ℕ) → Relayed a b ≡ Relayed c e → (a ≡ c) × (b ≡ e)
 one_way_in a b c e same = (cc, cc)
 
--- an offer came by none
+-- an offer arrived by no link
 no_way_in : (name : List ℕ) (c e : ℕ) → AtEdge name ≡ Relayed c e → ⊥
 no_way_in name c e same = absurd cc
 
@@ -87,7 +87,7 @@ module _ (d : Domain) (bridge cycle : ℕ) (rows : List Row) (batches : List Lin
   abbrev brings : LinkBatch → List Received
   brings b = map (sent_received d b.link) b.frames
 
-  -- the batches stand by number of link
+  -- the batches are in order of link number
   by_link : IsNonDecreasingBy (λ (b : LinkBatch). b.link) batches
   by_link i j z le less =
       let up = pairs_from_map (λ (a b : ℕ). a < b) (λ (b : LinkBatch). b.link) batches
@@ -97,7 +97,7 @@ module _ (d : Domain) (bridge cycle : ℕ) (rows : List Row) (batches : List Lin
         | inr same ↦ (let e : i ≡ j = omega (arith, le, same) in omega (arith, ap (λ (k : ℕ). (get_or batches k z).link) e))
       ]
 
-  -- of one link
+  -- for one link
   of_one_link : (m : ℕ) →
       flat_map brings (filter (λ (b : LinkBatch). b.link == m) batches) ≡ (if enters d m bridge then map (sent_received d m) (carried_by batches m) else [])
   of_one_link m = elim (cases_Bool (enters d m bridge)) [
@@ -153,7 +153,7 @@ module _ (d : Domain) (bridge cycle : ℕ) (rows : List Row) (batches : List Lin
 
   module _ (run : Run) (offers : List Offered) (is_domain : run.domain ≡ d) (here : offered_for d run.offers bridge cycle ≡ offers)
       (some : 0 < d.cycle_time) where
-    -- what is offered comes in the cycle
+    -- what is offered arrives in the cycle
     offered_in_cycle : (x : Offered) → Contains offers x → cycle_of d x.offer.at.0 ≡ cycle
     offered_in_cycle x held =
         let f = contains_from_below (λ offset. filter (is_offered_at bridge (cycle * d.cycle_time + offset)) (numbered run.offers)) d.cycle_time x
@@ -187,7 +187,7 @@ module _ (d : Domain) (bridge cycle : ℕ) (rows : List Row) (batches : List Lin
     ]
 
     module _ (sorted : List Received) (in_order : IsInOrderOf (λ (x : Received). x.at) (gathered_by d batches offers) sorted) where
-      -- so may each that is brought into order
+      -- so may each frame after sorting
       pub sorted_may : (x : Received) → Contains sorted x → MayBeTaken d bridge cycle rows x
       sorted_may x held =
           let same = λ (y : Received). y.at == x.at in
@@ -195,7 +195,7 @@ module _ (d : Domain) (bridge cycle : ℕ) (rows : List Row) (batches : List Lin
           gathered_may x (contains_from_filter same (gathered_by d batches offers) x
           (subst (λ (xs : List Received). Contains xs x) (in_order.stable x.at) own)).0
 
-      -- they are what comes in the cycle
+      -- they are what arrives in the cycle
       pub sorted_received : FramesAreTakenInOrder → sorted ≡ received_in run (carried_by batches) bridge cycle
       sorted_received law =
           let gathered : gathered_by d batches offers ≡ gathered_in run (carried_by batches) bridge cycle =
@@ -206,7 +206,7 @@ module _ (d : Domain) (bridge cycle : ℕ) (rows : List Row) (batches : List Lin
           (subst (λ (x : Domain). AreWholeIn x (carried_by batches) bridge cycle) (sym is_domain) whole_in_cycle)
           (subst (λ (xs : List Received). IsInOrderOf (λ (x : Received). x.at) xs sorted) gathered in_order)
 
-      -- and what becomes of them is what becomes of the run's
+      -- and the verdicts on them are those of the run
       pub same_policed : FramesAreTakenInOrder → table_of run.tables cycle ≡ rows → policed_by d rows bridge cycle sorted ≡ verdicts_in run bridge cycle batches
       same_policed law table =
           sym (police_same d run.tables bridge (replicate (cycle + 1) rows) [] sorted (λ x held.

@@ -1,4 +1,4 @@
--- A bridge at whose ports the same comes in two runs follows both.
+-- A bridge at whose ports the same arrives in two runs follows both.
 use Rattle.std.proofs.Common.{◌≡◌, ℕ, ◌+◌, ◌*◌, ◌<◌, if◌then◌else◌, List, [], ◌++◌, length, map, sym, ap, refl, ◌∙◌, subst}
 use Rattle.cqf_lists.proofs.EachBelow.{same_below}
 use Rattle.cqf_model.specs.declared.ports.Start.{Start}
@@ -19,7 +19,7 @@ of_other_tables run others b is = record { domain = is.domain; inside = is.insid
 
 module _ (run : Run) (others : List (List Row)) (net more : Network) (b : BridgeState)
     (same : (l : ℕ) → comes_before run more.carried l b.received ≡ comes_before (with_tables run others) net.carried l b.received) where
-  -- where the same comes to each port, the bridge follows both networks
+  -- if the same arrives at each port, the bridge follows both networks
   pub follows_both : FollowsTheNetwork (with_tables run others) net b → FollowsTheNetwork run more b
   follows_both f = record {
     of_run = of_other_tables run others b f.of_run;
@@ -28,7 +28,7 @@ module _ (run : Run) (others : List (List Row)) (net more : Network) (b : Bridge
         (sym (same r.link)) (f.ports r held);
   }
 
-  -- and where the same background frames start in the cycle, it has sent as both do
+  -- and if the same background frames start in the cycle, it has sent as both do
   pub has_sent_both : on_links_of run.domain b.number (background_in run.domain net.backed b.received)
       ≡ on_links_of run.domain b.number (background_in run.domain more.backed b.received) →
       HasSentOfTheNetwork (with_tables run others) net b → HasSentOfTheNetwork run more b
@@ -41,7 +41,7 @@ module _ (run : Run) (others : List (List Row)) (net more : Network) (b : Bridge
     background = f.background ∙ others_same;
   }
 
--- what comes to a port before a cycle hangs on no table of the cycle or of later ones
+-- what arrives at a port before a cycle depends on no table of the cycle or later ones
 pub same_before_cycle : PortsGetThePast → (run : Run) (others : List (List Row)) (net : Network) (cycle : ℕ) → HaveTheSameTables cycle run.tables others →
     (l : ℕ) → comes_before (with_tables run others) net.carried l cycle ≡ comes_before run net.carried l cycle
 same_before_cycle ports run others net cycle tables l =

@@ -17,12 +17,12 @@ use Rattle.cqf_bridge.specs.PortRecord.{AreDemanded, PortRecord}
 use Rattle.cqf_bridge.specs.BridgeState.{background_from, batch_from, end_of_cycle, port_behind, port_with}
 use Rattle.cqf_bridge.specs.Sending.{FirstSend, PortSends}
 
--- nothing beside a list
+-- a list zipped with no elements
 pub zip_none : {A B : Type 0} (xs : List A) → zip {K = A} {X = B} xs [] ≡ []
 zip_none [] = refl
 zip_none (x ∷ xs) = refl
 
--- one more beside a longer list
+-- one more element beside a longer list
 pub zip_longer : {A B : Type 0} (xs : List A) (ys : List B) (y : B) (d : A) → length ys < length xs →
     zip xs (ys ++ y ∷ []) ≡ zip xs ys ++ (get_or xs (length ys) d, y) ∷ []
 zip_longer [] ys y d less = absurd (omega (arith, less))

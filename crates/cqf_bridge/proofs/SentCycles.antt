@@ -23,7 +23,7 @@ use Rattle.cqf_bridge.specs.Cycles.{GivesTheBatches, SendsOfTheRun}
 use Rattle.cqf_bridge.specs.Follows.{HasSentOfTheNetwork, HasTaken, IsOfRun, batch_of, batches_from}
 use Rattle.cqf_bridge.proofs.SentPorts.{background_is, batch_is, port_has_sent}
 
--- a port of the run's bridge is of a link of the domain, which leaves the bridge
+-- a port of the run's bridge has a link of the domain, which leaves the bridge
 pub port_of_link : (run : Run) (b : BridgeState) → IsOfRun run b → (r : PortRecord) → Contains b.ports r →
     (r.link < length run.domain.links) × (leaves run.domain r.link b.number ≡ true)
 port_of_link run b is r held =
@@ -32,7 +32,7 @@ port_of_link run b is r held =
 
 module _ (run : Run) (cycles cycle : ℕ) (net : Network) (before after : BridgeState) (given given_after : List LinkBatch)
     (makes_batch : PortStartsTheBatch) (gets : PortsGetTheirBackground) (h : SendsOfTheRun run cycles cycle net before after given given_after) where
-  -- the background frames that it is handed
+  -- the background frames that it is given
   abbrev handed : List Backed
   handed = backed_for run.domain run.background before.number cycle
 
@@ -46,14 +46,14 @@ module _ (run : Run) (cycles cycle : ℕ) (net : Network) (before after : Bridge
       subst (λ (rs : List PortRecord). Contains rs x.0) (firsts-zip before.ports h.sends.made h.sends.one_each)
       (contains_map (λ (p : PortRecord × List Transmission). p.0) sent_ports x held)
 
-  -- it has what comes to it before the cycle
+  -- it has what arrives at it before the cycle
   port_has : (x : PortRecord × List Transmission) → Contains sent_ports x →
       HasTaken run.domain (cycle * run.domain.cycle_time) (comes_before run net.carried x.0.link cycle) x.0
   port_has x held =
       subst (λ (n : ℕ). HasTaken run.domain (n * run.domain.cycle_time) (comes_before run net.carried x.0.link n) x.0) (sym h.next.0)
       (h.follows.ports x.0 (port_held x held))
 
-  -- and makes what is demanded of it
+  -- and makes the starts that are demanded of it
   port_makes : (x : PortRecord × List Transmission) → Contains sent_ports x → AreDemanded (port_with handed x.0) (end_of_cycle run.domain cycle) x.1
   port_makes x held =
       subst (λ (d : Domain). AreDemanded (port_with handed x.0) (end_of_cycle d cycle) x.1) h.follows.of_run.domain (h.sends.demanded x held)
@@ -85,7 +85,7 @@ module _ (run : Run) (cycles cycle : ℕ) (net : Network) (before after : Bridge
       ∙ ap (flat_map by_link) links_of_ports
       ∙ made_of_kept (λ l. leaves run.domain l before.number) by_link (length run.domain.links)
 
-  -- the bridge behind the cycle
+  -- the bridge after the cycle
   abbrev behind : BridgeState
   behind = record {
     domain = run.domain;
@@ -97,7 +97,7 @@ module _ (run : Run) (cycles cycle : ℕ) (net : Network) (before after : Bridge
     background = flat_map (background_from cycle handed) sent_ports;
   }
 
-  -- it is what the call leaves
+  -- it is the result of the call
   is_behind : after ≡ behind
   is_behind = h.sends.bridge ∙ (λ i. record {
     domain = h.follows.of_run.domain i;
@@ -127,7 +127,7 @@ module _ (run : Run) (cycles cycle : ℕ) (net : Network) (before after : Bridge
     background = others_are;
   }
 
-  -- so the call gives the network's batches
+  -- so the call returns the network's batches
   pub cycle_is_sent : GivesTheBatches run cycle net before after given given_after
   cycle_is_sent = record {
     batches = h.sends.batches ∙ ap (λ (xs : List LinkBatch). given ++ xs) batches_are;

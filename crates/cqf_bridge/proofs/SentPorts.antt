@@ -19,7 +19,7 @@ use Rattle.cqf_bridge.specs.PortRecord.{AreDemanded, PortRecord, frame_with, rec
 use Rattle.cqf_bridge.specs.Follows.{HasTaken, batch_of, streams_of_starts}
 use Rattle.cqf_bridge.proofs.LinkLists.{bridge_it_leaves}
 
--- frames whose arrivals and streams stand side by side
+-- frames from their arrivals and streams, side by side
 pub frames_again : (frames : List QueuedFrame) → map frame_with (zip (arrivals_of frames) (streams_of_starts frames)) ≡ frames
 frames_again [] = refl
 frames_again (x ∷ frames) = ap (λ (xs : List QueuedFrame). x ∷ xs) (frames_again frames)
@@ -41,7 +41,7 @@ module _ (run : Run) (cycles cycle number : ℕ) (net : Network) (compiled : IsC
   abbrev own_backed : List QueuedFrame
   own_backed = backed_in run.domain run.background r.link cycle
 
-  -- what came before the cycle
+  -- what arrived before the cycle
   abbrev came : List QueuedFrame
   came = comes_before run net.carried r.link cycle
 
@@ -63,7 +63,7 @@ module _ (run : Run) (cycles cycle number : ℕ) (net : Network) (compiled : IsC
       (λ i. has.arrivals i ++ arrivals_of (gets_own i))
       ∙ sym (map-append (λ (x : QueuedFrame). x.arrival) came own_backed)
 
-  -- and its streams theirs
+  -- and its streams are theirs
   streams_with : (port_with all_backed r).streams ≡ streams_of_starts queue
   streams_with =
       (λ i. has.streams i ++ streams_of_starts (gets_own i))
@@ -76,7 +76,7 @@ module _ (run : Run) (cycles cycle number : ℕ) (net : Network) (compiled : IsC
       subst (λ (xs : List Arrival). AreLegal (rules_on run.domain r.link) xs end (r.port.starts ++ made)) arrivals_with
       (subst (λ (rules : PortRules). AreLegal rules (port_with all_backed r).port.arrivals end (r.port.starts ++ made)) has.rules demanded.legal)
 
-  -- some of it before the cycle, and the rest in it
+  -- some of it is before the cycle, and the rest in it
   starts_in_cycle : StartsInCycle run.domain r.link cycle queue r.port.starts made
   starts_in_cycle = record {
     legal = legal_then;

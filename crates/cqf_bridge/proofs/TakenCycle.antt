@@ -37,11 +37,11 @@ use Rattle.cqf_bridge.specs.Taking.{TakesFrame, policed_by, verdict_taken, with_
 use Rattle.cqf_bridge.proofs.Behind.{counted_behind, verdict_behind}
 use Rattle.cqf_bridge.proofs.Taking.{frames_more, frames_none}
 
--- the table of the cycle, where each cycle has it
+-- the table of the cycle, if each cycle has it
 pub table_held : (cycle : ℕ) (rows : List Row) → table_of (replicate (cycle + 1) rows) cycle ≡ rows
 table_held cycle rows = get_or-replicate (cycle + 1) cycle rows [] (omega arith)
 
--- gates that were called before a cycle have counted nothing of it
+-- gates that were called before a cycle have counted nothing in it
 none_counted_yet : (cycle : ℕ) (gates : List KeptGate) → AreKept cycle gates → (number : ℕ) → counted_in gates number cycle ≡ 0
 none_counted_yet cycle gates before number =
     by_kept (kept_of gates number) (λ k e. before k (find_member (λ (g : KeptGate). g.number == number) gates k e).0)
@@ -54,7 +54,7 @@ none_counted_yet cycle gates before number =
         cond-false (k.cycle == cycle) k.taken 0 (ne_eqb k.cycle cycle (λ e. omega (arith, sooner, e)))
 
 module _ (d : Domain) (rows : List Row) (bridge cycle : ℕ) (ports_before : List PortRecord) (drops_before : List Dropped) where
-  -- what becomes of a frame, behind those before it
+  -- the verdict on a frame, after those before it
   abbrev policed_next : List Policed → Received → Policed
   policed_next policed x = police d (replicate (cycle + 1) rows) bridge policed x
 
@@ -62,14 +62,14 @@ module _ (d : Domain) (rows : List Row) (bridge cycle : ℕ) (ports_before : Lis
       (gates : List KeptGate) (ports : List PortRecord) (drops : List Dropped)
       (may : MayBeTaken d bridge cycle rows x)
       (h : HasPoliced d bridge cycle ports_before drops_before policed gates ports drops) where
-    -- so the verdict is the one of the definitions
+    -- so the verdict is that of the definitions
     pub same_verdict : verdict_taken d rows bridge cycle gates x ≡ (policed_next policed x).verdict
     same_verdict =
         verdict_behind d (replicate (cycle + 1) rows) rows bridge cycle counts some (table_held cycle rows) policed x gates may.in_cycle h.counted
 
     module _ (gates_after : List KeptGate) (ports_after : List PortRecord) (drops_after : List Dropped)
         (takes : TakesFrame d rows bridge cycle x gates gates_after ports ports_after drops drops_after) where
-      -- a frame more is policed
+      -- one more frame is policed
       pub policed_more : HasPoliced d bridge cycle ports_before drops_before (policed ++ policed_next policed x ∷ []) gates_after ports_after drops_after
       policed_more =
           let v = verdict_taken d rows bridge cycle gates x in
@@ -114,7 +114,7 @@ module _ (d : Domain) (rows : List Row) (bridge cycle : ℕ) (ports_before : Lis
       no_queue [] = refl
       no_queue (r ∷ rs) = λ i. sym (frames_none r) i ∷ no_queue rs i
 
--- ports that wait by an instant do so by a later one
+-- ports that are waiting at an instant are waiting at a later one
 pub waiting_later : (d : Domain) (cycle u v : ℕ) (ports : List PortRecord) → u ≤ v → AreWaiting d cycle u ports → AreWaiting d cycle v ports
 waiting_later d cycle u v ports le h r held = let is = h r held in record {
   rules = is.rules;
@@ -122,7 +122,7 @@ waiting_later d cycle u v ports le h r held = let is = h r held in record {
   sooner = λ a inside high. omega (arith, is.sooner a inside high, le);
 }
 
--- and it is so again behind a frame
+-- and they still are after a frame
 pub waiting_again : (d : Domain) (rows : List Row) (bridge cycle : ℕ) (x : Received) (gates gates_after : List KeptGate) (ports ports_after : List PortRecord)
     (drops drops_after : List Dropped) → AreWaiting d cycle (x.at + 1) ports →
     TakesFrame d rows bridge cycle x gates gates_after ports ports_after drops drops_after → AreWaiting d cycle (x.at + 1) ports_after
@@ -168,7 +168,7 @@ module _ (d : Domain) (rows : List Row) (bridge cycle : ℕ) (ports_before : Lis
       pub among : Contains frames x
       among = subst (Contains frames) (sym is) (Contains-get_or frames count x inside)
 
-      -- the next comes no sooner than those before it
+      -- the next frame arrives no sooner than those before it
       pub next_waiting : AreWaiting d cycle (x.at + 1) ports
       next_waiting = h.waiting x.at
           (omega (arith, ap (λ (c : ℕ). c * d.cycle_time) (may x among).in_cycle, cycle_from d.cycle_time x.at))
@@ -201,7 +201,7 @@ module _ (d : Domain) (rows : List Row) (bridge cycle : ℕ) (ports_before : Lis
             gates_after ports_after drops_after takes);
       }
 
-      -- or nothing more is
+      -- or no more frames are
       pub taking_stops : (why : BridgeFault) → IsFaultByVerdict (verdict_taken d rows bridge cycle gates x) x.frame why →
           IsFaultByPoliced (policed_by d rows bridge cycle frames) why
       taking_stops fault.Spent stops = stops

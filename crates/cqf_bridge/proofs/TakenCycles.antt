@@ -25,7 +25,7 @@ use Rattle.cqf_bridge.proofs.Anew.{policed_anew}
 use Rattle.cqf_bridge.proofs.LinkLists.{bridge_it_leaves, brings_its_batch}
 use Rattle.cqf_bridge.proofs.SentCycles.{port_of_link}
 
--- what a bridge takes with the network's batches of a cycle is what comes to it in the network
+-- what a bridge takes with the network's batches of a cycle is what arrives at it in the network
 pub verdicts_are : CycleBringsItsBatches → GateIsReservation → (run : Run) (cycles cycle bridge : ℕ) (net : Network) → IsCompiledNetwork run cycles net →
     verdicts_in run bridge cycle (batches_into run.domain net.carried bridge cycle) ≡ policed_of run net.carried bridge cycle
 verdicts_are brings reserves run cycles cycle bridge net compiled =
@@ -52,13 +52,13 @@ module _ (run : Run) (carried : Carried) (cycle number : ℕ) (goes_on : PortGoe
   own_bridge : bridge_of run.domain r.link ≡ number
   own_bridge = bridge_it_leaves run.domain r.link number in_links leaves_it
 
-  -- what comes to the port by the end of the cycle
+  -- what arrives at the port by the end of the cycle
   comes_then : comes_before run carried r.link (cycle + 1) ≡ waits_in run carried r.link cycle ++ queued
   comes_then =
       goes_on run carried r.link cycle
       ∙ ap (λ (b : ℕ). waits_in run carried r.link cycle ++ queued_to run.domain r.link (policed_of run carried b cycle)) own_bridge
 
-  -- what is queued in the cycle came in it
+  -- what is queued in the cycle arrived in it
   queued_when : (x : QueuedFrame) → Contains queued x → cycle_of run.domain x.arrival.at.0 ≡ cycle
   queued_when x h =
       let d = run.domain in
@@ -80,7 +80,7 @@ module _ (run : Run) (carried : Carried) (cycle number : ℕ) (goes_on : PortGoe
       (omega (arith, upto, ap (λ (c : ℕ). (c + 1) * d.cycle_time) came))
       (subst (λ (y : Arrival). IsOpen (compiled_lists d r.link) y.class t) (sym w.2) is_open)
 
-  -- and with it the port has what comes to it by the end of the cycle
+  -- and with it the port has what arrives at it by the end of the cycle
   port_has_taken : HasTaken run.domain ((cycle + 1) * run.domain.cycle_time) (comes_before run carried r.link (cycle + 1)) (port_queued run policed r)
   port_has_taken =
       let end = (cycle + 1) * run.domain.cycle_time in
@@ -105,11 +105,11 @@ module _ (run : Run) (cycles cycle : ℕ) (net : Network) (before after : Bridge
   abbrev taken : List Policed
   taken = policed_of run net.carried before.number cycle
 
-  -- they are those on what it is handed
+  -- they are those on the frames that it is given
   taken_is : verdicts_in run before.number cycle (batches_into run.domain net.carried before.number cycle) ≡ taken
   taken_is = verdicts_are brings reserves run cycles cycle before.number net h.compiled
 
-  -- the bridge behind the cycle
+  -- the bridge after the cycle
   abbrev behind : BridgeState
   behind = record {
     domain = run.domain;
@@ -121,7 +121,7 @@ module _ (run : Run) (cycles cycle : ℕ) (net : Network) (before after : Bridge
     background = before.background;
   }
 
-  -- it is what the call leaves
+  -- it is the result of the call
   is_behind : after ≡ behind
   is_behind = h.receives.bridge ∙ (λ i. record {
     domain = h.has_sent.of_run.domain i;
@@ -133,14 +133,14 @@ module _ (run : Run) (cycles cycle : ℕ) (net : Network) (before after : Bridge
     background = before.background;
   })
 
-  -- one of its ports had what it had when it sent the cycle
+  -- one of its ports has what it had when it sent the cycle
   port_had : (r : PortRecord) → Contains before.ports r →
       HasTaken run.domain ((cycle + 1) * run.domain.cycle_time) (waits_in run net.carried r.link cycle) r
   port_had r held =
       subst (λ (n : ℕ). HasTaken run.domain ((n + 1) * run.domain.cycle_time) (waits_in run net.carried r.link n) r) (sym h.next)
       (h.has_sent.ports r held)
 
-  -- so it follows the network, one cycle on
+  -- so it follows the network, one cycle further
   behind_follows : FollowsTheNetwork run net behind
   behind_follows = record {
     of_run = record {

@@ -1,4 +1,4 @@
--- Arrivals that a port takes: they come neither too late nor out of order.
+-- Arrivals that a port takes: they are neither late nor out of order.
 use Rattle.std.proofs.Common.{◌≡◌, ◌≢◌, ◌+◌, ◌*◌, ◌≤◌, ◌<◌, ℕ, List, [], ◌∷◌, ◌++◌, ◌∙◌, inl, inr, sym, ap, arith}
 use Rattle.std.proofs.Common.{length, map, filter, take, drop, get_or, AllPairs, Contains, append_assoc, append-nil}
 use Rattle.std.proofs.Common.{subst, Option}
@@ -18,11 +18,11 @@ use Rattle.cqf_bridge.specs.PortRecord.{PortRecord, with_frames}
 use Rattle.cqf_bridge.specs.BridgeState.{backed_on, port_with}
 use Rattle.cqf_bridge.specs.Sending.{CanTake}
 
--- an arrival that isn't before the port's now isn't late
+-- an arrival that isn't before the port's current instant isn't late
 pub not_late : (p : PortState) (a : Arrival) → p.reached ≤ a.at.0 → ¬ IsLate p a
 not_late p a from h = absurd (omega (arith, from, h.from_first, h.before_last))
 
--- one that is before no other of its class isn't out of order
+-- an arrival that isn't before another one of its class isn't out of order
 pub not_out_of_order : (p : PortState) (a : Arrival) →
     ((b : Arrival) → Contains p.arrivals b → b.class ≡ a.class → b.at.0 ≤ a.at.0) → ¬ IsOutOfOrder p a
 not_out_of_order p a before h =
@@ -72,7 +72,7 @@ module _ (r : PortRecord) (backed : List Backed) (can : CanTake backed r) where
       ∙ ap (map backed_frame) (filter-append (is_for_link r.link) (take count backed) (get_or backed count d ∷ []))
       ∙ map-append backed_frame (filter (is_for_link r.link) (take count backed)) (filter (is_for_link r.link) (get_or backed count d ∷ []))
 
-  -- the next goes by the link
+  -- the next uses the link
   pub next_taken : (count : ℕ) (x d : Backed) (now : PortRecord) → count < length backed → x ≡ get_or backed count d → x.background.link ≡ r.link →
       now ≡ with_frames (taken count) (backed_frame x ∷ []) → now ≡ taken (count + 1)
   next_taken count x d now inside is_x same is_now =
@@ -83,7 +83,7 @@ module _ (r : PortRecord) (backed : List Backed) (can : CanTake backed r) where
       ∙ ap (λ (fs : List QueuedFrame). with_frames r (backed_on r.link (take count backed) ++ fs)) (sym one)
       ∙ ap (with_frames r) (sym (next_on count d inside))
 
-  -- or by another
+  -- or another link
   pub next_passed : (count : ℕ) (x d : Backed) → count < length backed → x ≡ get_or backed count d → x.background.link ≢ r.link →
       taken count ≡ taken (count + 1)
   next_passed count x d inside is_x other =
@@ -101,7 +101,7 @@ module _ (r : PortRecord) (backed : List Backed) (can : CanTake backed r) where
     among : Contains backed x
     among = subst (Contains backed) (sym is_x) (Contains-get_or backed count d inside)
 
-    -- it begins no sooner than the cycle
+    -- it doesn't begin before the cycle
     from_cycle : can.cycle * can.domain.cycle_time ≤ x.background.at.0
     from_cycle =
         omega (arith, ap (λ (c : ℕ). c * can.domain.cycle_time) (can.frames.each x among).of_cycle, cycle_from can.domain.cycle_time x.background.at.0)

@@ -1,4 +1,4 @@
--- Laws about bridges that go on each at its own pace, in a planner's words.
+-- Laws about bridges that each go on at their own pace, in a planner's words.
 use Rattle.std.specs.Prelude.{ℕ, ◌≡◌, ◌+◌, ◌≤◌, ◌<◌, List, Some, length, slice_get, false, true}
 use Rattle.cqf_model.specs.Book.{Contents, page_of}
 use Rattle.cqf_model.specs.Domain.{enters}
@@ -14,14 +14,14 @@ use Rattle.cqf_bridge.specs.Faults.{IsSendFault}
 use Rattle.cqf_bridge.specs.Receiving.{Handed, IsReceiveFault, IsRunOfBridge}
 use Rattle.cqf_bridge.specs.Courses.{AreUnderWay, Course, HasWorked, IsGiven, Traffic, posted, taken_in}
 
--- each page that was posted is that page of the one-thread book of the history, over each number of its cycles that has the page's
+-- each page that was posted is that page of the one-thread book of the history, over any number of its cycles that includes the page's
 abbrev pub PagesAreOfTheBook : Type 0
 PagesAreOfTheBook =
     (t : Traffic) (entries : List Recorded) (course : Course) (cycles bridge cycle : ℕ) (book page : Contents) → IsGiven t entries →
     AreUnderWay t entries course → IsBookOfHistory t.domain entries t.offers t.background cycles book → bridge < length t.domain.bridges →
     cycle < cycles → slice_get (course.pages bridge) cycle ≡ Some page → page ≡ page_of t.domain bridge cycle book
 
--- a bridge of the domain that isn't spent, and has sent and received so many cycles
+-- a bridge of the domain isn't spent, and has sent and received these numbers of cycles
 pub record HasGone (t : Traffic) (bridge sent received : ℕ) (b : BridgeState) : Type 0 where
   pub domain : b.domain ≡ t.domain
   pub number : b.number ≡ bridge
@@ -29,7 +29,7 @@ pub record HasGone (t : Traffic) (bridge sent received : ℕ) (b : BridgeState) 
   pub has_sent : b.sent ≡ sent
   pub has_received : b.received ≡ received
 
--- each bridge stands so before each of its cycles and behind the last, and halfway through each
+-- each bridge has this state before each of its cycles and after the last one; and: each bridge has this state halfway through each cycle
 abbrev pub BridgesStandBefore : Type 0
 BridgesStandBefore =
     (t : Traffic) (entries : List Recorded) (course : Course) (bridge cycle : ℕ) (worked : HasWorked t course bridge) → IsGiven t entries →
@@ -42,7 +42,7 @@ BridgesStandHalfway =
     AreUnderWay t entries course → bridge < length t.domain.bridges → cycle < course.sent bridge →
     HasGone t bridge (cycle + 1) cycle (worked.halfway cycle)
 
--- so the next cycle isn't sent for want of memory alone
+-- so the next cycle is refused for sending only if memory is refused
 abbrev pub BridgesSendButForMemory : Type 0
 BridgesSendButForMemory =
     (t : Traffic) (entries : List Recorded) (course : Course) (bridge : ℕ) (worked : HasWorked t course bridge) (after : BridgeState)
@@ -55,7 +55,7 @@ pub record HasAll (t : Traffic) (course : Course) (bridge : ℕ) : Type 0 where
   pub has_table : posted course bridge < length (course.tables bridge)
   pub has_batches : (l : ℕ) → enters t.domain l bridge ≡ true → posted course bridge < length (course.taken l)
 
--- what it is handed with that cycle
+-- what it is given with that cycle
 abbrev pub handed_next : Traffic → Course → ℕ → Handed
 handed_next t course bridge = record {
   table_cycle = posted course bridge;
@@ -63,7 +63,7 @@ handed_next t course bridge = record {
   batches = taken_in t.domain course bridge (posted course bridge);
 }
 
--- then the cycle isn't received for want of memory alone
+-- then the cycle is refused for receiving only if memory is refused
 abbrev pub BridgesReceiveButForMemory : Type 0
 BridgesReceiveButForMemory =
     (t : Traffic) (entries : List Recorded) (course : Course) (bridge : ℕ) (worked : HasWorked t course bridge) (after : BridgeState)

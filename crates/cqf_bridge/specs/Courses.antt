@@ -1,4 +1,4 @@
--- Bridges that go on each at its own pace, with batches under way between them and tables still to come.
+-- Bridges that each go on at their own pace, with batches under way between them and further tables not yet closed.
 use Rattle.std.specs.Prelude.{ℕ, ◌≡◌, ◌+◌, ◌≤◌, ◌<◌, ◌++◌, List, [], Some, length, slice_get, true, Contains}
 use Rattle.std.specs.List.{flat_map}
 use Rattle.std.specs.Option.{option_to_list}
@@ -17,8 +17,8 @@ use Rattle.cqf_bridge.specs.BridgeState.{BridgeState, SendsCycle, new_bridge}
 use Rattle.cqf_bridge.specs.Receiving.{IsRunOfBridge, ReceivesCycle, links_into}
 use Rattle.cqf_bridge.specs.Cycles.{page_given}
 
--- what bridges have done so far: by bridge how many cycles it has sent, the tables that it took and the pages that it posted, and by
--- link the batches that were put on it and those that were taken from it, each list by cycle
+-- what bridges have done so far: for each bridge how many cycles it has sent, the tables that it took and the pages that it posted; for
+-- each link the batches that were put on it and those that were taken from it. Each list is by cycle
 pub record Course : Type 0 where
   pub sent : ℕ → ℕ
   pub tables : ℕ → List (List Row)
@@ -26,23 +26,23 @@ pub record Course : Type 0 where
   pub put : ℕ → List LinkBatch
   pub taken : ℕ → List LinkBatch
 
--- how many pages a bridge has posted: it has gone through so many cycles
+-- the number of pages that a bridge has posted: it has received this many cycles
 abbrev pub posted : Course → ℕ → ℕ
 posted course bridge = length (course.pages bridge)
 
--- what a bridge has taken in a cycle: a batch for each link that ends in it, by number of link
+-- what a bridge has taken in a cycle: the batch of each link that ends in it, by link number, if it was taken
 abbrev pub taken_in : Domain → Course → ℕ → ℕ → List LinkBatch
 taken_in d course bridge cycle = flat_map (λ l. option_to_list (slice_get (course.taken l) cycle)) (links_into d bridge)
 
--- what a domain is given for a run: what is offered at its bridges, and the background frames of its links
+-- the input of a run: a domain, the offers at its bridges, and the background frames of its links
 pub record Traffic : Type 0 where
   pub domain : Domain
   pub offers : List Offer
   pub background : List Background
 
--- one bridge's part of it: it began with nothing done, and was in these states before and halfway through its cycles. In each cycle it
--- sent batches with its background frames of the cycle, put the batch of each link on the link, and, with its table and its offers of
--- the cycle and the batches that it took, received the cycle and posted the page of what it sent and dropped
+-- one bridge's part of a course: it began with nothing done, and had these states before and halfway through its cycles. In each cycle it
+-- sent batches with its background frames of the cycle, and put the batch of each link on the link. With its table and its offers of the
+-- cycle and the batches that it took, it received the cycle and posted the page of what it sent and dropped
 pub record HasWorked (t : Traffic) (course : Course) (bridge : ℕ) : Type 0 where
   pub before : ℕ → BridgeState
   pub halfway : ℕ → BridgeState
@@ -63,8 +63,8 @@ pub record HasWorked (t : Traffic) (course : Course) (bridge : ℕ) : Type 0 whe
   pub posts : (cycle : ℕ) → cycle < posted course bridge →
       slice_get (course.pages bridge) cycle ≡ Some (page_given (batches cycle) (halfway cycle).background (dropped cycle))
 
--- bridges under way, under the tables of one history: each did its part; the tables that it took are those of the history's Seals,
--- each at its place; and what was taken from a link is the beginning of what was put on it. Nothing is said of who is ahead of whom
+-- bridges under way, under the tables of one history: each did its part; the tables that it took are those of the history's Seals, each at
+-- its index; and what was taken from a link is the beginning of what was put on it. No order between the bridges is assumed
 pub record AreUnderWay (t : Traffic) (entries : List Recorded) (course : Course) : Type 0 where
   pub worked : (bridge : ℕ) → bridge < length t.domain.bridges → HasWorked t course bridge
   pub sealed : (bridge : ℕ) → bridge < length t.domain.bridges → length (course.tables bridge) ≤ seals entries
@@ -72,7 +72,7 @@ pub record AreUnderWay (t : Traffic) (entries : List Recorded) (course : Course)
       table_of (course.tables bridge) cycle ≡ table_at t.domain entries cycle
   pub links : (l : ℕ) → l < length t.domain.links → (rest : List LinkBatch) × (course.put l ≡ course.taken l ++ rest)
 
--- what a run may be given: an accepted domain, a legal history, and offers and background frames of the domain
+-- the allowed input of a run: an accepted domain, a legal history, and offers and background frames of the domain
 pub record IsGiven (t : Traffic) (entries : List Recorded) : Type 0 where
   pub accepted : IsAccepted t.domain
   pub legal : IsLegalHistory t.domain entries

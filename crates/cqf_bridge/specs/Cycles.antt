@@ -21,7 +21,7 @@ abbrev pub NewBridgeFollows : Type 0
 NewBridgeFollows = (run : Run) (net : Network) (number : ℕ) → number < length run.domain.bridges →
     FollowsTheNetwork run net (new_bridge run.domain number)
 
--- what a run has for a bridge in a cycle may be handed to it: its background frames to send, and its offers to receive
+-- a run's input for a bridge in a cycle may be given to the bridge: its background frames to send the cycle, and its offers to receive it
 abbrev pub BackgroundIsOfTheBridge : Type 0
 BackgroundIsOfTheBridge = (d : Domain) (run : Run) (bridge cycle : ℕ) → d ≡ run.domain → AreBackground run.domain run.background →
     AreBackedOf d bridge cycle (backed_for run.domain run.background bridge cycle)
@@ -39,7 +39,7 @@ pub record SendsOfTheRun (run : Run) (cycles cycle : ℕ) (net : Network) (befor
   pub within_run : cycle < cycles
   pub sends : SendsCycle before after cycle (backed_for run.domain run.background before.number cycle) given given_after
 
--- then it gives the network's batches of its links, and has sent as the network does
+-- then it returns the network's batches of its links, and has sent as the network does
 pub record GivesTheBatches (run : Run) (cycle : ℕ) (net : Network) (before after : BridgeState) (given given_after : List LinkBatch) :
     Type 0 where
   pub batches : given_after ≡ given ++ batches_from run.domain net.carried before.number cycle
@@ -64,7 +64,7 @@ pub record ReceivesOfTheRun (run : Run) (cycles cycle : ℕ) (net : Network) (be
   pub next : cycle ≡ before.received
   pub receives : ReceivesCycle run before after cycle (batches_into run.domain net.carried before.number cycle) drops
 
--- then it drops what is dropped at it in the network, and follows the network again, one cycle on
+-- then it drops what is dropped at it in the network, and follows the network again, one cycle further
 pub record GivesTheDrops (run : Run) (cycle : ℕ) (net : Network) (before after : BridgeState) (drops : List Dropped) : Type 0 where
   pub are_drops : drops ≡ drops_of_cycle run net before.number cycle
   pub number : after.number ≡ before.number
@@ -76,11 +76,11 @@ abbrev pub ReceivingFollows : Type 0
 ReceivingFollows = (run : Run) (cycles cycle : ℕ) (net : Network) (before after : BridgeState) (drops : List Dropped) →
     ReceivesOfTheRun run cycles cycle net before after drops → GivesTheDrops run cycle net before after drops
 
--- a batch's frames as a book has them
+-- the entries of a batch's frames in a book
 abbrev pub starts_of_batch : LinkBatch → List Started
 starts_of_batch x = map (started x.cycle x.link) x.frames
 
--- the page of what a bridge gave in a cycle: batches, background frames, drops
+-- the page of a bridge's output in a cycle: batches, background frames, drops
 abbrev pub page_given : List LinkBatch → List Started → List Dropped → Contents
 page_given batches background drops = record { starts = flat_map starts_of_batch batches; background = background; drops = drops }
 

@@ -22,8 +22,8 @@ use Rattle.cqf_bridge.specs.Receiving.{IsReceiveFault, ReceivesCycle, links_into
 use Rattle.cqf_bridge.specs.Cycles.{page_given}
 use Rattle.cqf_bridge.specs.Follows.{FollowsTheNetwork, HasSentOfTheNetwork, handed_with}
 
--- what bridges do, by bridge and cycle: what each was before the cycle, and when it had sent it; the batches behind which it put its
--- own, its own, and those that it was handed; and what it dropped
+-- what bridges do, by bridge and cycle: the state of each before the cycle, and when it had sent it; the batches to which it appended its
+-- own, its own batches, and those that it was given; and its drops
 pub record DrivenCourse : Type 0 where
   pub before : ℕ → ℕ → BridgeState
   pub halfway : ℕ → ℕ → BridgeState
@@ -32,8 +32,8 @@ pub record DrivenCourse : Type 0 where
   pub handed : ℕ → ℕ → List LinkBatch
   pub dropped : ℕ → ℕ → List Dropped
 
--- a bridge is handed in a cycle a batch for each link that ends in it, by number, and each is one that the bridge which the link
--- leaves sent in the cycle
+-- a bridge is given in a cycle a batch for each link that ends in it, by number, and each is one that the bridge which the link leaves sent
+-- in the cycle
 pub record ArePassedOn (d : Domain) (course : DrivenCourse) (bridge cycle : ℕ) : Type 0 where
   pub one_each : map (λ (x : LinkBatch). x.link) (course.handed bridge cycle) ≡ links_into d bridge
   pub was_sent : (x : LinkBatch) → Contains (course.handed bridge cycle) x → Contains (course.sent (bridge_of d x.link) cycle) x
@@ -51,12 +51,12 @@ pub record GoesThrough (run : Run) (course : DrivenCourse) (bridge cycle : ℕ) 
   pub receives : ReceivesCycle run (course.halfway bridge cycle) (course.before bridge (cycle + 1)) cycle (course.handed bridge cycle)
       (course.dropped bridge cycle)
 
--- the bridges of the run's domain begin with nothing done, and go through so many cycles
+-- the bridges of the run's domain begin with nothing done, and go through this many cycles
 pub record AreDriven (run : Run) (cycles : ℕ) (course : DrivenCourse) : Type 0 where
   pub begin : (bridge : ℕ) → bridge < length run.domain.bridges → course.before bridge 0 ≡ new_bridge run.domain bridge
   pub go_on : (bridge cycle : ℕ) → bridge < length run.domain.bridges → cycle < cycles → GoesThrough run course bridge cycle
 
--- then each follows the network before each cycle and behind the last, and has sent as the network does in between. The network may be
+-- then each follows the network before each cycle and after the last one, and has sent as the network does in between. The network may be
 -- one of more cycles
 abbrev pub DrivenBridgesFollow : Type 0
 DrivenBridgesFollow = (run : Run) (cycles driven bridge cycle : ℕ) (net : Network) (course : DrivenCourse) → IsCompiledNetwork run cycles net →
@@ -68,12 +68,12 @@ DrivenBridgesSend = (run : Run) (cycles driven bridge cycle : ℕ) (net : Networ
     driven ≤ cycles → AreDriven run driven course → bridge < length run.domain.bridges → cycle < driven →
     HasSentOfTheNetwork run net (course.halfway bridge cycle)
 
--- what a bridge gave in a cycle
+-- a bridge's output in a cycle
 abbrev pub page_of_course : DrivenCourse → ℕ → ℕ → Contents
 page_of_course course bridge cycle =
     page_given (course.sent bridge cycle) (course.halfway bridge cycle).background (course.dropped bridge cycle)
 
--- so what the bridges give is the run's book, page by page
+-- so the bridges' output is the run's book, page by page
 abbrev pub DrivenBridgesGiveTheirPages : Type 0
 DrivenBridgesGiveTheirPages = (run : Run) (cycles bridge cycle : ℕ) (course : DrivenCourse) (book : Contents) → IsAccepted run.domain →
     IsBook run (compiled_lists run.domain) cycles book → AreDriven run cycles course → bridge < length run.domain.bridges → cycle < cycles →
@@ -84,28 +84,27 @@ DrivenBridgesGiveTheBook = (run : Run) (cycles : ℕ) (course : DrivenCourse) (b
     IsBook run (compiled_lists run.domain) cycles book → AreDriven run cycles course →
     book ≡ book_of_pages run.domain cycles (page_of_course course)
 
--- a bridge that was driven through the cycles before one refuses to send that one for want of memory alone
+-- a bridge that was driven through the cycles before this one refuses to send it only if memory is refused
 abbrev pub DrivenBridgesSendButForMemory : Type 0
 DrivenBridgesSendButForMemory = (run : Run) (cycles cycle bridge : ℕ) (net : Network) (course : DrivenCourse) (after : BridgeState) (fault : BridgeFault) →
     IsCompiledNetwork run cycles net → cycle ≤ cycles → AreDriven run cycle course → bridge < length run.domain.bridges →
     IsSendFault (course.before bridge cycle) after cycle fault → fault ≡ Memory
 
--- the bridges were driven through the cycles before one, and all have sent it
+-- the bridges were driven through the cycles before this one, and all have sent it
 pub record HaveAllSent (run : Run) (course : DrivenCourse) (cycle : ℕ) : Type 0 where
   pub driven : AreDriven run cycle course
   pub sent_it : (bridge : ℕ) → bridge < length run.domain.bridges → SendsInCourse run course bridge cycle
 
--- then one that is handed what the others sent refuses to receive it for want of memory alone, where nothing is lost inside
+-- if nothing is lost inside, a bridge that is given what the others sent refuses to receive the cycle only if memory is refused
 abbrev pub DrivenBridgesReceiveButForMemory : Type 0
 DrivenBridgesReceiveButForMemory = (run : Run) (cycles cycle bridge : ℕ) (net : Network) (course : DrivenCourse) (after : BridgeState) (fault : BridgeFault) →
     IsCompiledNetwork run cycles net → LosesNothing run cycles net → cycle < cycles → HaveAllSent run course cycle →
     bridge < length run.domain.bridges → ArePassedOn run.domain course bridge cycle →
     IsReceiveFault run (course.halfway bridge cycle) after cycle (handed_with run cycle (course.handed bridge cycle)) fault → fault ≡ Memory
 
--- and what driven bridges give under the tables of a legal history says the shift: each frame that its reservation covers leaves its
--- path's k-th bridge on each branch k cycles after its own cycle, once, no other frame leaves, and every other offer is dropped at its
--- edge, once, with its reason; of the network whose book that is nothing is lost inside, and its loads, instants and latencies are as
--- promised
+-- the output of driven bridges under the tables of a legal history says the shift: each frame that its reservation covers leaves its path's
+-- k-th bridge on each branch k cycles after its own cycle, once; no other frame leaves; and every other offer is dropped at its edge
+-- bridge, once, with its reason. The network of this book loses nothing inside, and its loads, instants and latencies are as promised
 abbrev pub DrivenBridgesSayTheShift : Type 0
 DrivenBridgesSayTheShift =
     (d : Domain) (entries : List Recorded) (offers : List Offer) (background : List Background) (cycles : ℕ) (course : DrivenCourse) →

@@ -1,4 +1,4 @@
--- How a bridge follows the legal network of a run: what is recorded at its ports is what comes to them there.
+-- How a bridge follows the legal network of a run: its ports have recorded exactly what arrives at them there.
 use Rattle.std.specs.Prelude.{ℕ, ◌≡◌, ◌+◌, ◌*◌, ◌<◌, List, Option, false, length, map, Contains}
 use Rattle.cqf_model.specs.Book.{background_in, batch}
 use Rattle.cqf_model.specs.Domain.{Domain}
@@ -14,12 +14,12 @@ use Rattle.cqf_bridge.specs.BridgeState.{BridgeState, links_from}
 use Rattle.cqf_bridge.specs.PortRecord.{PortRecord, rules_on}
 use Rattle.cqf_bridge.specs.Receiving.{Handed, links_into}
 
--- of what stream each frame is
+-- the stream of each frame
 abbrev pub streams_of_starts : List QueuedFrame → List (Option ℕ)
 streams_of_starts frames = map (λ (x : QueuedFrame). x.stream) frames
 
--- a port goes by its compiled list, has run to an instant, has recorded just these frames, and has started what is legal for them up
--- to the instant
+-- a port has the rules of its compiled list, has run to an instant, has recorded exactly these frames, and has started what is legal for
+-- them up to the instant
 pub record HasTaken (d : Domain) (until : ℕ) (frames : List QueuedFrame) (r : PortRecord) : Type 0 where
   pub rules : r.port.rules ≡ rules_on d r.link
   pub reached : r.port.reached ≡ until
@@ -34,16 +34,16 @@ pub record IsOfRun (run : Run) (b : BridgeState) : Type 0 where
   pub not_spent : b.spent ≡ false
   pub links : map (λ (r : PortRecord). r.link) b.ports ≡ links_from run.domain b.number
 
--- the bridge has sent and received the same cycles, and each of its ports has recorded what comes to it in them in the network, and
--- has run to their end
+-- the bridge has sent and received the same cycles. Each of its ports has recorded what arrives at it in them in the network, and has run
+-- to their end
 pub record FollowsTheNetwork (run : Run) (net : Network) (b : BridgeState) : Type 0 where
   pub of_run : IsOfRun run b
   pub turn : b.sent ≡ b.received
   pub ports : (r : PortRecord) → Contains b.ports r →
       HasTaken run.domain (b.received * run.domain.cycle_time) (comes_before run net.carried r.link b.received) r
 
--- halfway through a cycle: the bridge has sent it and not yet received it. Each of its ports has recorded the background frames of
--- the cycle too, and has run to the cycle's end, and the bridge keeps the background frames that its links start in it
+-- halfway through a cycle: the bridge has sent it and not yet received it. Each of its ports has also recorded the background frames of the
+-- cycle, and has run to the cycle's end, and the bridge keeps the background frames that its links start in it
 pub record HasSentOfTheNetwork (run : Run) (net : Network) (b : BridgeState) : Type 0 where
   pub of_run : IsOfRun run b
   pub turn : b.sent ≡ b.received + 1
@@ -55,14 +55,14 @@ pub record HasSentOfTheNetwork (run : Run) (net : Network) (b : BridgeState) : T
 abbrev pub batch_of : Domain → Carried → ℕ → ℕ → LinkBatch
 batch_of d carried cycle link = record { link = link; cycle = cycle; frames = batch d carried link cycle }
 
--- those of the links that leave a bridge, and of those that end in it, by number of link
+-- the batches of the links that leave a bridge, and of those that end in it, by link number
 abbrev pub batches_from : Domain → Carried → ℕ → ℕ → List LinkBatch
 batches_from d carried bridge cycle = map (batch_of d carried cycle) (links_from d bridge)
 
 abbrev pub batches_into : Domain → Carried → ℕ → ℕ → List LinkBatch
 batches_into d carried bridge cycle = map (batch_of d carried cycle) (links_into d bridge)
 
--- what a bridge is handed with a cycle of a run: the table of the cycle, and batches
+-- what a bridge is given with a cycle of a run: the table of the cycle, and batches
 abbrev pub handed_with : Run → ℕ → List LinkBatch → Handed
 handed_with run cycle batches = record { table_cycle = cycle; rows = table_of run.tables cycle; batches = batches }
 

@@ -1,4 +1,4 @@
--- The stream gates that a bridge keeps from cycle to cycle, and how a frame goes by them.
+-- The stream gates that a bridge keeps from cycle to cycle, and their effect on a frame.
 use Rattle.std.specs.Prelude.{ℕ, ◌≡◌, ◌<◌, ◌*◌, ◌==◌, List, [], ◌∷◌, if◌then◌else◌, Contains, Option, None, Some, find, sum_by}
 use Rattle.std.specs.Option.{option_map_or}
 use Rattle.cqf_units.specs.Timing.{cycle_at}
@@ -10,7 +10,7 @@ use Rattle.cqf_model.specs.Traffic.{Policed, calls_of, gate_behind}
 use Rattle.cqf_gates.specs.StreamGate.{Gate, gate_after}
 use Rattle.cqf_bridge.specs.declared.cycle_gate.KeptGate.{KeptGate}
 
--- what is kept for a number, and what of it is of a cycle: each begins anew
+-- the gate that is kept for a number; and the octets that it has counted in a cycle, since each cycle is counted anew
 abbrev pub kept_of : List KeptGate → ℕ → Option KeptGate
 kept_of gates number = find (λ (k : KeptGate). k.number == number) gates
 
@@ -18,12 +18,11 @@ abbrev pub counted_by : Option KeptGate → ℕ → ℕ
 counted_by None cycle = 0
 counted_by (Some kept) cycle = if kept.cycle == cycle then kept.taken else 0
 
--- what has been counted of a number in a cycle
+-- the octets counted for a number in a cycle
 abbrev pub counted_in : List KeptGate → ℕ → ℕ → ℕ
 counted_in gates number cycle = counted_by (kept_of gates number) cycle
 
--- the gate that goes by a list and has counted what is kept, called last as its cycle began; where nothing is kept it has seen no
--- frame
+-- the gate with a gate list and the kept count, last called at the beginning of its cycle; it has seen no frame if none is kept
 abbrev pub gate_or : ℕ → List StreamEntry → Option KeptGate → Gate
 gate_or cycle_time entries found = record {
   entries = entries;
@@ -31,15 +30,15 @@ gate_or cycle_time entries found = record {
   taken = option_map_or (λ (k : KeptGate). k.taken) found 0;
 }
 
--- the gate that a row's stream meets behind a link, or at the edge
+-- the gate for a row's stream after a link, or at the edge
 abbrev pub gate_in : Domain → List KeptGate → Row → Option ℕ → Gate
 gate_in d gates row way = gate_or d.cycle_time (gate_behind d row way) (kept_of gates row.no)
 
--- what is kept of a number's gate behind a frame
+-- the kept state of a number's gate after a frame
 abbrev pub kept_after : ℕ → ℕ → Gate → ℕ → ℕ → KeptGate
 kept_after cycle_time number gate t octets = record { number = number; cycle = cycle_at cycle_time t; taken = (gate_after gate t octets).taken }
 
--- a gate in the place of the one of its number, or behind the others
+-- a gate replaces the one of its number, or is appended if there is none
 abbrev pub with_gate : List KeptGate → KeptGate → List KeptGate
 with_gate [] gate = gate ∷ []
 with_gate (k ∷ gates) gate = if k.number == gate.number then gate ∷ gates else k ∷ with_gate gates gate
@@ -52,7 +51,7 @@ AreKept cycle gates = (k : KeptGate) → Contains gates k → k.cycle < cycle
 abbrev pub octets_of_cycle : ℕ → ℕ → List Call → ℕ
 octets_of_cycle cycle_time cycle calls = sum_by (λ (call : Call). if cycle_at cycle_time call.0 == cycle then call.1 else 0) calls
 
--- the gates have counted, of a cycle, the frames that went on
+-- in this cycle the gates have counted the frames that went on
 abbrev pub HaveCounted : ℕ → ℕ → List Policed → List KeptGate → Type 0
 HaveCounted cycle_time cycle policed gates =
     (number : ℕ) → counted_in gates number cycle ≡ octets_of_cycle cycle_time cycle (calls_of number policed)

@@ -15,6 +15,6 @@ pub mod Courses
 pub mod CourseLaws
 pub mod Verdicts
 pub mod Agenda
--- what the inner functions say
+-- contracts of the inner functions
 pub mod Sending
 pub mod Picking

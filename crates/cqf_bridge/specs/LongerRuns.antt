@@ -1,4 +1,4 @@
--- Laws about a bridge that follows a run which goes on, while tables are still to come.
+-- Laws about a bridge that follows a run which becomes longer, as further tables are closed.
 use Rattle.std.specs.Prelude.{ℕ, ◌≤◌, ◌<◌, List}
 use Rattle.cqf_model.specs.declared.topology.Row.{Row}
 use Rattle.cqf_model.specs.Network.{Network}
@@ -8,18 +8,18 @@ use Rattle.cqf_laws_cycle.specs.BridgeCycle.{IsCompiledNetwork}
 use Rattle.cqf_bridge.specs.BridgeState.{BridgeState}
 use Rattle.cqf_bridge.specs.Follows.{FollowsTheNetwork, HasSentOfTheNetwork}
 
--- what a bridge has recorded hangs on the tables of the cycles that it has received: with others in the cycle to come, and in later
--- ones, it follows too
+-- a bridge's records depend only on the tables of the cycles that it has received: it also follows the run with other tables in the next
+-- cycle and later ones
 abbrev pub TablesToComeDontCount : Type 0
 TablesToComeDontCount = (run : Run) (others : List (List Row)) (net : Network) (b : BridgeState) → HaveTheSameTables b.received run.tables others →
     FollowsTheNetwork run net b → FollowsTheNetwork (with_tables run others) net b
 
--- and halfway through a cycle the cycle's own table doesn't count yet
+-- and halfway through a cycle the cycle's own table doesn't matter yet
 abbrev pub TablesToComeDontCountHalfway : Type 0
 TablesToComeDontCountHalfway = (run : Run) (others : List (List Row)) (net : Network) (b : BridgeState) → HaveTheSameTables b.received run.tables others →
     HasSentOfTheNetwork run net b → HasSentOfTheNetwork (with_tables run others) net b
 
--- a run, of which another with the same tables in its cycles is the beginning, with the legal networks of both
+-- a run, a shorter one with the same tables in its cycles, and the legal networks of both
 pub record IsLonger (run : Run) (others : List (List Row)) (cycles longer : ℕ) (net more : Network) : Type 0 where
   pub shorter : IsShorter cycles longer run.tables others
   pub beginning : IsCompiledNetwork (with_tables run others) cycles net

@@ -17,18 +17,18 @@ use Rattle.cqf_bridge.specs.Faults.{IsSendFault}
 use Rattle.cqf_bridge.specs.Receiving.{AreBatchesOf, IsFirstOver, IsReceiveFault, MayReceive, verdicts_in}
 use Rattle.cqf_bridge.specs.Follows.{batches_into, handed_in}
 
--- a run of orderly tables loses nothing
+-- a run of orderly tables loses nothing inside
 abbrev pub OrderlyRunLosesNothing : Type 0
 OrderlyRunLosesNothing = (run : Run) (net : Network) → IsLegalRun run net → LosesNothing run (length run.tables) net
 
--- so whatever is offered beside any background frames, nothing is lost under the tables of a legal history
+-- so under the tables of a legal history nothing is lost, for all offers and any background frames
 abbrev pub RunOfHistoryLosesNothing : Type 0
 RunOfHistoryLosesNothing = (d : Domain) (entries : List Recorded) (offers : List Offer) (background : List Background) (cycles : ℕ) (net : Network) →
     IsLegalHistory d entries → cycles ≤ seals entries → AreOffers d offers → AreBackground d background →
     (let run = run_of_history d entries offers background cycles in IsCompiledNetwork run cycles net → LosesNothing run cycles net)
 
--- where nothing is lost, the batches that end in a bridge in a cycle are the cycle's: each of their frames goes on there, by the
--- table of the cycle, and is whole there within it
+-- if nothing is lost, the batches that end in a bridge in a cycle are the cycle's: each of their frames goes on there, by the table of the
+-- cycle, and is whole there within it
 abbrev pub BatchesMayCome : Type 0
 BatchesMayCome = (run : Run) (cycles cycle bridge : ℕ) (net : Network) → IsCompiledNetwork run cycles net → LosesNothing run cycles net →
     cycle < cycles → AreBatchesOf run.domain bridge cycle (table_of run.tables cycle) (batches_into run.domain net.carried bridge cycle)
@@ -38,13 +38,13 @@ abbrev pub NoneIsOver : Type 0
 NoneIsOver = (run : Run) (cycles cycle bridge frame : ℕ) (net : Network) → IsCompiledNetwork run cycles net → LosesNothing run cycles net →
     cycle < cycles → ¬ IsFirstOver (verdicts_in run bridge cycle (batches_into run.domain net.carried bridge cycle)) frame
 
--- a bridge that isn't spent refuses to send its next cycle for want of memory alone
+-- a bridge that isn't spent refuses to send its next cycle only if memory is refused
 abbrev pub SendsButForMemory : Type 0
 SendsButForMemory = (cycle : ℕ) (before after : BridgeState) (fault : BridgeFault) →
     before.spent ≡ false → IsNextToSend before cycle → IsSendFault before after cycle fault → fault ≡ Memory
 
--- and where nothing is lost, it refuses to receive the cycle that it has sent for want of memory alone, where it is handed the
--- table of the cycle and the network's batches: whatever was recorded at its ports
+-- if nothing is lost, a bridge refuses to receive the cycle that it has sent, with the table of the cycle and the network's batches, only
+-- if memory is refused, no matter what was recorded at its ports
 abbrev pub ReceivesButForMemory : Type 0
 ReceivesButForMemory = (run : Run) (cycles cycle : ℕ) (net : Network) (before after : BridgeState) (fault : BridgeFault) →
     IsCompiledNetwork run cycles net → LosesNothing run cycles net → before.domain ≡ run.domain →

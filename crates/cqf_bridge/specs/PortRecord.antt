@@ -10,8 +10,7 @@ use Rattle.cqf_model.specs.Port.{AreLegal, PortRules, Transmission}
 use Rattle.cqf_port.specs.PortState.{PortState}
 use Rattle.cqf_bridge.specs.Batch.{LinkBatch}
 
--- a port, the link that it sends on, and for each arrival that it took the number of the stream that it is of, none for a
--- background frame
+-- a port, the link on which it sends, and for each arrival that it took the number of the arrival's stream, or none for a background frame
 pub record PortRecord : Type 0 where
   pub link : ℕ
   pub port : PortState
@@ -21,7 +20,7 @@ pub record PortRecord : Type 0 where
 abbrev pub frame_with : Arrival × Option ℕ → QueuedFrame
 frame_with x = record { arrival = x.0; stream = x.1 }
 
--- arrivals as frames, each of the stream beside it
+-- arrivals as frames, each with its stream
 abbrev pub frames_of : List Arrival → List (Option ℕ) → List QueuedFrame
 frames_of arrivals streams = map frame_with (zip arrivals streams)
 
@@ -29,15 +28,15 @@ frames_of arrivals streams = map frame_with (zip arrivals streams)
 abbrev pub recorded : PortRecord → List QueuedFrame
 recorded r = frames_of r.port.arrivals r.streams
 
--- what a port of the domain goes by
+-- the rules of a port of the domain: its compiled gate list and its octet time
 abbrev pub rules_on : Domain → ℕ → PortRules
 rules_on d link = record { entries = compiled_lists d link; octet_time = octet_time_of d link }
 
--- a port that has recorded nothing
+-- a port with nothing recorded
 abbrev pub new_record : Domain → ℕ → PortRecord
 new_record d link = record { link = link; port = record { rules = rules_on d link; reached = 0; arrivals = []; starts = [] }; streams = [] }
 
--- frames more are recorded
+-- a port after more frames were recorded
 abbrev pub with_frames : PortRecord → List QueuedFrame → PortRecord
 with_frames r frames = record {
   link = r.link;
@@ -53,20 +52,20 @@ with_starts r until made = record {
   streams = r.streams;
 }
 
--- the starts are demanded of the port from where it has run to the instant. That no others are is the law that legal starts are
+-- these starts are demanded of the port, from where it has run to the instant. That no others are demanded is the law that legal starts are
 -- unique
 pub record AreDemanded (r : PortRecord) (until : ℕ) (made : List Transmission) : Type 0 where
   pub legal : AreLegal r.port.rules r.port.arrivals until (r.port.starts ++ made)
   pub later : (place s : ℕ) → Contains made (place, s) → r.port.reached ≤ s
 
--- what the starts send: the batch, and the background frames
+-- what these starts send: the batch, and the background frames
 abbrev pub batch_by : PortRecord → ℕ → List Transmission → LinkBatch
 batch_by r cycle made = record { link = r.link; cycle = cycle; frames = flat_map (sent_of (recorded r)) made }
 
 abbrev pub background_by : PortRecord → ℕ → List Transmission → List Started
 background_by r cycle made = map (started_backed cycle r.link) (flat_map (backed_of (recorded r)) made)
 
--- the port runs to the end of a cycle: it starts what is demanded of it, and hands on the batch and the background frames
+-- the port runs to the end of a cycle: it makes the starts that are demanded of it, and returns the batch and the background frames
 pub record RunsTo (before after : PortRecord) (cycle until : ℕ) (batch : LinkBatch) (background background_after : List Started) : Type 0 where
   pub made : List Transmission
   pub demanded : AreDemanded before until made

@@ -7,19 +7,19 @@ use Rattle.cqf_port.specs.NextStart.{StartsNext, StartsNoMore}
 use Rattle.cqf_bridge.specs.BridgeState.{BridgeState, end_of_cycle}
 use Rattle.cqf_bridge.specs.PortRecord.{PortRecord}
 
--- the next start of a port and its link, or none where none would come
+-- the next start of a port, with its link, or none if there would be no start
 abbrev pub IsNextStartOf : PortRecord → Option (Nanos × ℕ) → Type 0
 IsNextStartOf r next = MatchOption next (StartsNoMore r.port) (λ x. StartsNext r.port x.0.0 × (x.1 ≡ r.link))
 
--- that of the port at a place
+-- the next start of the port at an index
 abbrev pub IsNextAt : List PortRecord → ℕ → Option (Nanos × ℕ) → Type 0
 IsNextAt ports place next = (e : PortRecord) → IsNextStartOf (slice_index_or ports place e) next
 
--- a port starts no frame before an instant: what it has started is legal up to it
+-- a port starts no frame before an instant: what it has started is legal up to that instant
 abbrev pub IsQuiet : ℕ → PortRecord → Type 0
 IsQuiet until r = AreLegal r.port.rules r.port.arrivals until r.port.starts
 
--- a port that has run to an instant with nothing started on the way
+-- a port that has run to an instant without a start on the way
 abbrev pub rested : ℕ → PortRecord → PortRecord
 rested until r = record {
   link = r.link;
@@ -35,7 +35,7 @@ pub record MayPass (b : BridgeState) (cycle : ℕ) : Type 0 where
   pub early : cycle < most_cycles
   pub quiet : (r : PortRecord) → Contains b.ports r → IsQuiet (end_of_cycle b.domain cycle) r
 
--- a bridge that has passed over the cycles up to the end of one: it has sent and received them, with nothing in them
+-- a bridge that has passed over the cycles up to and including this one: it has sent and received them empty
 abbrev pub passed : ℕ → BridgeState → BridgeState
 passed cycle b = record {
   domain = b.domain;

@@ -9,7 +9,7 @@ use Rattle.cqf_bridge.specs.Batch.{LinkBatch}
 use Rattle.cqf_bridge.specs.PortRecord.{AreDemanded, PortRecord}
 use Rattle.cqf_bridge.specs.BridgeState.{AreBackedOf, IsInStep, background_from, batch_from, end_of_cycle, port_behind, port_with}
 
--- a port that is in step, and background frames of its bridge in the cycle that it is to send
+-- a port that is in step, and background frames of its bridge in the cycle that it sends next
 pub record CanTake (background : List Backed) (r : PortRecord) : Type 0 where
   pub domain : Domain
   pub bridge : ℕ
@@ -26,7 +26,7 @@ pub record PortSends (d : Domain) (cycle : ℕ) (backed : List Backed) (before a
   pub batches : given_after ≡ given ++ batch_from cycle backed (before, made) ∷ []
   pub others : background_after ≡ background ++ background_from cycle backed (before, made)
 
--- the first ports have sent it
+-- the first `count` ports have sent the cycle
 pub record FirstSend (d : Domain) (cycle : ℕ) (backed : List Backed) (count : ℕ) (before after : List PortRecord) (given given_after : List LinkBatch)
     (background background_after : List Started) : Type 0 where
   pub made : List (List Transmission)

@@ -36,12 +36,12 @@ use Rattle.cqf_bridge.specs.PortRecord.{PortRecord, rules_on, with_frames}
 use Rattle.cqf_bridge.specs.Receiving.{IsFirstOver, MayCome, links_into, port_queued, verdicts_in}
 use Rattle.cqf_model.specs.Limits.{end_of_starts}
 
--- a batch is of the cycle, and each of its frames may come by its link
+-- a batch is of the cycle, and each of its frames may arrive by its link
 pub record IsBatchOf (d : Domain) (bridge cycle : ℕ) (rows : List Row) (batch : LinkBatch) : Type 0 where
   pub of_cycle : batch.cycle ≡ cycle
   pub frames : (sent : Sent) → Contains batch.frames sent → MayCome d bridge cycle rows batch.link sent
 
--- a frame that comes to a bridge, as the definitions have it
+-- a frame that arrives at a bridge, in the terms of the definitions
 abbrev pub way_taken : Came → Way
 way_taken (ByLink link stream) = Relayed link stream
 way_taken (AtEdge name) = Offering name
@@ -54,7 +54,7 @@ pub record CanGather (d : Domain) (b : LinkBatch) : Type 0 where
   pub inside : b.link < length d.links
   pub early : (sent : Sent) → Contains b.frames sent → sent.start.0 < end_of_starts
 
--- the frames of batches, batch by batch, and then the offers
+-- the frames of batches, batch by batch, followed by the offers
 abbrev pub gathered_by : Domain → List LinkBatch → List Offered → List Received
 gathered_by d batches offers = flat_map (λ (b : LinkBatch). map (sent_received d b.link) b.frames) batches ++ map offer_received offers
 
@@ -62,22 +62,22 @@ gathered_by d batches offers = flat_map (λ (b : LinkBatch). map (sent_received 
 abbrev pub CanRecord : PortState → Arrival → Type 0
 CanRecord p arrival = (¬ IsLate p arrival) × (¬ IsOutOfOrder p arrival)
 
--- a port with an arrival of a row's stream, where the stream goes on by its link
+-- a port after an arrival of a row's stream, which is queued if the stream goes on by the port's link
 abbrev pub queue_on : Row → Option ℕ → Arrival → PortRecord → PortRecord
 queue_on row way arrival r =
     with_frames r (if list_any (λ next. next == r.link) (goes_to row way) then record { arrival = arrival; stream = Some row.no } ∷ [] else [])
 
--- a port has run to the end of a cycle, and has streams' frames of before an instant
+-- a port has run to the end of a cycle, and each of its streams' frames arrived before an instant
 pub record IsWaiting (d : Domain) (cycle until : ℕ) (r : PortRecord) : Type 0 where
   pub rules : r.port.rules ≡ rules_on d r.link
   pub reached : r.port.reached ≡ end_of_cycle d cycle
   pub sooner : (a : Arrival) → Contains r.port.arrivals a → 6 ≤ a.class → a.at.0 < until
 
--- so has each port
+-- the same for each port
 abbrev pub AreWaiting : Domain → ℕ → ℕ → List PortRecord → Type 0
 AreWaiting d cycle until ports = (r : PortRecord) → Contains ports r → IsWaiting d cycle until r
 
--- whether the gate that a row's stream meets there lets a frame pass
+-- whether the gate for a row's stream passes a frame
 abbrev pub passes_by : Domain → List KeptGate → Received → Row → Bool
 passes_by d gates x row = lets_pass (gate_in d gates row (came_by x.way)) x.at x.octets
 
@@ -85,31 +85,31 @@ passes_by d gates x row = lets_pass (gate_in d gates row (came_by x.way)) x.at x
 abbrev pub verdict_taken : Domain → List Row → ℕ → ℕ → List KeptGate → Received → Verdict
 verdict_taken d rows bridge cycle gates x = verdict_by d rows bridge cycle (passes_by d gates x) x.way
 
--- a port with what is queued to it by a verdict
+-- a port with the frame that a verdict queues to it
 abbrev pub with_verdict : Domain → Received → Verdict → PortRecord → PortRecord
 with_verdict d x verdict r = with_frames r (queued_by d r.link x verdict)
 
--- the verdict on a frame that a row's gate has let pass, or not, where it came by a link
+-- the verdict on a frame that arrived by a link, from whether its row's gate passes it
 abbrev pub verdict_if : Bool → Row → Verdict
 verdict_if went row = if went then Queued row else ExceedsGate
 
--- the class in which a frame of a row's stream waits, where its gate lets it pass
+-- the class in which a frame of a row's stream waits if its gate passes it
 abbrev pub class_in : Domain → Received → Row → ℕ
 class_in d x row = gate_class (gate_behind d row (came_by x.way)) x.at
 
--- a frame goes by the gate of a row's stream, which gives it a class, or none where it doesn't pass
+-- a frame passes the gate of a row's stream and gets a class, or doesn't pass and gets none
 pub record PassesGate (d : Domain) (cycle : ℕ) (x : Received) (row : Row) (gates gates_after : List KeptGate) (class : Option ℕ) : Type 0 where
   pub decided : class ≡ (if passes_by d gates x row then Some (class_in d x row) else None)
   pub counted : (number : ℕ) → counted_in gates_after number cycle
       ≡ counted_in gates number cycle + (if is_queued_of number (verdict_if (passes_by d gates x row) row) then x.octets else 0)
   pub kept : AreKept (cycle + 1) gates → AreKept (cycle + 1) gates_after
 
--- the verdict on an offer that names a row's stream, by a reason that doesn't hang on its gate
+-- the verdict on an offer with the name of a row's stream, given a reason that doesn't depend on its gate
 abbrev pub verdict_unless : Option Reason → Bool → Row → Verdict
 verdict_unless (Some reason) passes row = DroppedFor reason
 verdict_unless None passes row = if not passes then DroppedFor Octets else Queued row
 
--- what becomes of a frame, as the definitions have it
+-- a verdict in the terms of the definitions
 abbrev pub verdict_as : FrameVerdict → Verdict
 verdict_as (outcome.GoesOn row class) = Queued row.now
 verdict_as (outcome.Dropped reason) = DroppedFor reason
@@ -123,7 +123,7 @@ HasClass d x (outcome.Dropped reason) = Unit {0}
 HasClass d x outcome.LacksRow = Unit {0}
 HasClass d x outcome.ExceedsGate = Unit {0}
 
--- a frame is policed by the gates: the verdict on it is this outcome, and where it goes on its stream's gate has counted it
+-- a frame is policed by the gates: this is the verdict on it, and if it goes on, its stream's gate has counted it
 pub record Polices (d : Domain) (rows : List Row) (bridge cycle : ℕ) (x : Received) (gates gates_after : List KeptGate) (made : FrameVerdict) : Type 0 where
   pub verdict : verdict_as made ≡ verdict_taken d rows bridge cycle gates x
   pub class : HasClass d x made
@@ -131,20 +131,20 @@ pub record Polices (d : Domain) (rows : List Row) (bridge cycle : ℕ) (x : Rece
       ≡ counted_in gates number cycle + (if is_queued_of number (verdict_taken d rows bridge cycle gates x) then x.octets else 0)
   pub kept : AreKept (cycle + 1) gates → AreKept (cycle + 1) gates_after
 
--- so behind frames of the cycle that the gates have counted it is what becomes of it in a run with such a table in the cycle, and
--- the gates have counted it too
+-- so after the frames of the cycle that the gates have counted, it is the verdict in a run with such a table in the cycle, and the gates
+-- have counted the frame too
 pub record IsPolicedBehind (d : Domain) (tables : List (List Row)) (bridge cycle : ℕ) (x : Received) (policed : List Policed)
     (gates_after : List KeptGate) (made : FrameVerdict) : Type 0 where
   pub verdict : verdict_as made ≡ (police d tables bridge policed x).verdict
   pub counted : HaveCounted d.cycle_time cycle (policed ++ police d tables bridge policed x ∷ []) gates_after
 
--- a frame comes in the cycle, and where it came by a link its stream goes on from the bridge
+-- a frame arrives in the cycle, and if it arrived by a link, its stream goes on from the bridge
 pub record MayBeTaken (d : Domain) (bridge cycle : ℕ) (rows : List Row) (x : Received) : Type 0 where
   pub in_cycle : cycle_of d x.at ≡ cycle
   pub leads_on : (link stream : ℕ) → x.way ≡ Relayed link stream →
       (row : Row) × (row_of rows stream ≡ Some row) × (goes_on d row (Some link) bridge ≡ true)
 
--- a frame is taken: the gates have counted it where it went on, the ports have it, and it is among the drops where it is dropped
+-- a frame is taken: the gates have counted it if it went on, the ports have it, and it is among the drops if it is dropped
 pub record TakesFrame (d : Domain) (rows : List Row) (bridge cycle : ℕ) (x : Received) (gates gates_after : List KeptGate)
     (ports ports_after : List PortRecord) (drops drops_after : List Dropped) : Type 0 where
   pub counted : (number : ℕ) → counted_in gates_after number cycle
@@ -154,7 +154,7 @@ pub record TakesFrame (d : Domain) (rows : List Row) (bridge cycle : ℕ) (x : R
   pub dropped : drops_after ≡ drops ++ drop_by cycle bridge x (verdict_taken d rows bridge cycle gates x)
   pub not_lost : ¬ IsLoss (verdict_taken d rows bridge cycle gates x)
 
--- why frames aren't taken any more: the verdict on one is that it exceeds its gate, or a growth was refused
+-- why no more frames are taken: a frame exceeds its gate, or an allocation failed
 abbrev pub IsFaultByVerdict : Verdict → ℕ → BridgeFault → Type 0
 IsFaultByVerdict verdict frame Spent = ⊥
 IsFaultByVerdict verdict frame WrongCycle = ⊥
@@ -162,11 +162,11 @@ IsFaultByVerdict verdict frame StrangeBatch = ⊥
 IsFaultByVerdict verdict frame (OverOctets over) = (verdict ≡ ExceedsGate) × (frame ≡ over)
 IsFaultByVerdict verdict frame Memory = Unit {0}
 
--- what becomes of frames of a cycle at a bridge, by the rows of the cycle's table
+-- the verdicts on frames of a cycle at a bridge, by the rows of the cycle's table
 abbrev pub policed_by : Domain → List Row → ℕ → ℕ → List Received → List Policed
 policed_by d rows bridge cycle frames = police_all d (replicate (cycle + 1) rows) bridge [] frames
 
--- the gates, the ports and the drops are what policing these frames of a cycle gives
+-- the gates, the ports and the drops are the result of policing these frames of a cycle
 pub record HasPoliced (d : Domain) (bridge cycle : ℕ) (ports_before : List PortRecord) (drops_before : List Dropped)
     (policed : List Policed) (gates : List KeptGate) (ports : List PortRecord) (drops : List Dropped) : Type 0 where
   pub counted : HaveCounted d.cycle_time cycle policed gates
@@ -174,7 +174,7 @@ pub record HasPoliced (d : Domain) (bridge cycle : ℕ) (ports_before : List Por
   pub dropped : drops ≡ drops_before ++ dropped_of cycle bridge policed
   pub none_lost : (p : Policed) → Contains policed p → ¬ IsLoss p.verdict
 
--- why the frames of a cycle aren't all taken: one is the first that exceeds its gate, or a growth was refused
+-- why not all frames of a cycle are taken: one is the first that exceeds its gate, or an allocation failed
 abbrev pub IsFaultByPoliced : List Policed → BridgeFault → Type 0
 IsFaultByPoliced policed Spent = ⊥
 IsFaultByPoliced policed WrongCycle = ⊥
@@ -182,23 +182,23 @@ IsFaultByPoliced policed StrangeBatch = ⊥
 IsFaultByPoliced policed (OverOctets frame) = IsFirstOver policed frame
 IsFaultByPoliced policed Memory = Unit {0}
 
--- all that comes in a cycle is taken: each port gets what goes on by its link, nothing is lost, and the drops come by frame
+-- all that arrives in a cycle is taken: each port gets what goes on by its link, nothing is lost, and the drops are by frame
 pub record TakesCycle (run : Run) (bridge cycle : ℕ) (batches : List LinkBatch) (ports ports_after : List PortRecord) (drops : List Dropped) :
     Type 0 where
   pub queued : ports_after ≡ map (port_queued run (verdicts_in run bridge cycle batches)) ports
   pub none_lost : (p : Policed) → Contains (verdicts_in run bridge cycle batches) p → ¬ IsLoss p.verdict
   pub dropped : drops ≡ drops_in run.domain (length run.offers) (λ b. verdicts_in run b cycle batches) cycle bridge
 
--- or it isn't
+-- or not all of it is taken
 abbrev pub IsFaultInRun : Run → ℕ → ℕ → List LinkBatch → BridgeFault → Type 0
 IsFaultInRun run bridge cycle batches fault = IsFaultByPoliced (verdicts_in run bridge cycle batches) fault
 
--- a bridge, with the gates that it keeps: where it isn't spent, each was last called before the cycle that is received next
+-- a bridge with the gates that it keeps: if it isn't spent, each gate was last called before the cycle that is received next
 pub record HasGates (b : BridgeState) (gates : List KeptGate) : Type 0 where
   pub bridge : IsBridge b
   pub gates_kept : b.spent ≡ false → AreKept b.received gates
 
--- what a bridge keeps beside what its callers see of it: its gates, and the links that end in it, by number
+-- what a bridge keeps in addition to its visible state: its gates, and the links that end in it, by number
 pub record IsKept (b : BridgeState) (gates : List KeptGate) (incoming : List ℕ) : Type 0 where
   pub has_gates : HasGates b gates
   pub entering : incoming ≡ links_into b.domain b.number

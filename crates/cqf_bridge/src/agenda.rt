@@ -1,4 +1,4 @@
-//! What a bridge is offered, and its background frames, cut by cycle.
+//! A bridge's offers and background frames, by cycle.
 ghost use Rattle.std.specs.Prelude.{◌≡◌, ◌^◌, ◌<◌, IfOk, length};
 ghost use Rattle.cqf_bridge.specs.Agenda.{IsAgendaOf, background_at, offers_listed_at};
 
@@ -10,7 +10,7 @@ use cqf_units::{Cycle, Memory, Nanos};
 use std::alloc::Global;
 use std::marker::Model;
 
-/// A bridge's offers of a run and the background frames of its links, each by instant, then place.
+/// A bridge's offers of a run and the background frames of its links, each by instant, then index.
 #[derive(Debug, Drop)]
 pub struct Agenda {
     cycle_time: Nanos,
@@ -29,8 +29,8 @@ impl Model for Agenda {
 }
 
 impl Agenda {
-    /// What a bridge of the domain has of a run with these offers and background frames: the offers at it, and the background
-    /// frames of the links that leave it, each with its number among all, from 1. `Memory` where a growth is refused.
+    /// Returns a bridge's part of a run: the offers at that bridge, and the background frames of the links that leave it, each with its
+    /// number among all of the run, from 1. Returns `Memory` if an allocation fails.
     pub fn new(
         alloc: Global,
         domain: &Domain,
@@ -51,7 +51,7 @@ impl Agenda {
         })
     }
 
-    /// The bridge's offers of a cycle, by instant, then place: what it receives the cycle with. It takes no memory.
+    /// Returns the bridge's offers of a cycle, by instant, then index, for receiving the cycle. It takes no memory.
     pub fn offers(&self, cycle: Cycle) -> &[Offered]
         ensures { result.now ≡ offers_listed_at self.now cycle.0 }
     {
@@ -64,7 +64,7 @@ impl Agenda {
         &rest[..count]
     }
 
-    /// The background frames of its links in a cycle, by instant, then place: what it sends the cycle with. It takes no memory.
+    /// Returns the background frames of the bridge's links in a cycle, by instant, then index, for sending the cycle. It takes no memory.
     pub fn background(&self, cycle: Cycle) -> &[Backed]
         ensures { result.now ≡ background_at self.now cycle.0 }
     {

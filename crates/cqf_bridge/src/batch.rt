@@ -1,4 +1,4 @@
-//! What a link sends in a cycle.
+//! The frames that a link sends in a cycle.
 ghost use Rattle.std.specs.Prelude.{◌≡◌, ◌+◌, ◌<◌, ◌^◌, [], ◌∷◌, ◌++◌, length, slice_get, Some, OnOk, OnErr};
 ghost use Rattle.cqf_bridge.specs.Batch.{LinkBatch, octets_of_batch};
 
@@ -8,8 +8,8 @@ use cqf_units::{Cycle, Memory, Nanos};
 use std::alloc::Global;
 use std::marker::Model;
 
-/// The streams' frames that a link sends in a cycle, in order of start, as the node at its end gets them. No background
-/// frame is in it, since these end with their link.
+/// The streams' frames that a link sends in a cycle, in order of start, as the node at its end receives them. Background frames aren't in
+/// it, since they end with their link.
 #[derive(Debug, Drop)]
 pub struct Batch {
     link: u16,
@@ -30,7 +30,7 @@ impl Model for Batch {
     ghost invariant = { λ b. AreColumns b.starts.items b.frames.items b.streams.items b.octets.items };
 }
 
-/// What stands at a place of a column.
+/// Returns the element at an index of a column.
 fn at<T: Copy>(column: &[T], place: usize) -> T
     requires { place < length column.now }
     ensures { slice_get column.now place ≡ Some result }
@@ -39,7 +39,7 @@ fn at<T: Copy>(column: &[T], place: usize) -> T
 }
 
 impl Batch {
-    /// The batch of a link in a cycle, with no frame yet.
+    /// Returns the empty batch of a link in a cycle.
     pub(crate) fn new(alloc: Global, link: u16, cycle: Cycle) -> Batch
         ensures { result ≡ record { link = link; cycle = cycle.0; frames = [] } }
     {
@@ -53,7 +53,7 @@ impl Batch {
         }
     }
 
-    /// Adds a frame behind the others. Where memory is refused the batch is as it was.
+    /// Appends a frame. If memory is refused, the batch is unchanged.
     pub(crate) fn push(&mut self, sent: Sent) -> Result<(), Memory>
         requires { length self.old.frames + 1 < 2 ^ 32 }
         ensures ok { OnOk result (self.new ≡ record self.old { frames = self.old.frames ++ sent ∷ [] }) }
@@ -70,28 +70,28 @@ impl Batch {
         Ok(())
     }
 
-    /// The number of the link.
+    /// Returns the number of the link.
     pub fn link(&self) -> u16
         ensures { result ≡ self.now.link }
     {
         self.link
     }
 
-    /// The cycle in which the frames start.
+    /// Returns the cycle in which the frames start.
     pub fn cycle(&self) -> Cycle
         ensures { result.0 ≡ self.now.cycle }
     {
         self.cycle
     }
 
-    /// How many frames there are.
+    /// Returns the number of frames.
     pub fn len(&self) -> usize
         ensures { result ≡ length self.now.frames }
     {
         self.starts.as_slice().len()
     }
 
-    /// The frame at a place, from 0, in order of start.
+    /// Returns the frame at an index, from 0, in order of start.
     pub fn get(&self, place: usize) -> Sent
         requires { place < length self.now.frames }
         ensures { slice_get self.now.frames place ≡ Some result }
@@ -104,7 +104,7 @@ impl Batch {
         }
     }
 
-    /// The sum of the frames' octets. It takes no memory.
+    /// Returns the sum of the frames' octets. It takes no memory.
     pub fn octets(&self) -> u64
         ensures { result ≡ octets_of_batch self.now }
     {

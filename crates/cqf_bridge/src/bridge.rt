@@ -1,4 +1,4 @@
-//! A bridge, which goes on cycle by cycle.
+//! A bridge, cycle by cycle.
 ghost use Rattle.std.specs.Prelude.{◌≡◌, ◌+◌, ◌<◌, IfErr, IfOk, OnErr, OnOk, false, length};
 ghost use Rattle.cqf_model.specs.Run.{Run};
 ghost use Rattle.cqf_bridge.specs.BridgeState.{AreBackedOf, IsBridge, IsNextToSend, IsSpentBy, SendsCycle, new_bridge};
@@ -22,8 +22,7 @@ use cqf_units::{Cycle, Memory, Nanos};
 use std::alloc::Global;
 use std::marker::Model;
 
-/// A bridge of a domain, with one port for each link that leaves it (IEEE 802.1Q, Annex T). In each cycle it first sends,
-/// and then receives.
+/// A bridge of a domain, with one port for each link that leaves it (IEEE 802.1Q, Annex T). In each cycle it first sends, then receives.
 #[derive(Debug, Drop)]
 pub struct Bridge {
     domain: Domain,
@@ -34,9 +33,9 @@ pub struct Bridge {
     sent: u32,
     received: u32,
     spent: bool,
-    /// By number of link.
+    /// The ports by link number.
     ports: Vec<Outgoing>,
-    /// The gates of the streams of which frames came, kept from cycle to cycle.
+    /// The gates of the streams whose frames arrived, kept from cycle to cycle.
     gates: StreamGates,
     /// The background frames that started in the cycle last sent.
     background: Vec<Started>,
@@ -69,7 +68,7 @@ impl Model for Bridge {
     }) b.gates b.incoming.items };
 }
 
-/// The ports of the links that leave a bridge, by number of link.
+/// Returns the ports of the links that leave a bridge, by link number.
 fn ports_from(alloc: Global, plan: &Plan, number: u16) -> Result<Vec<Outgoing>, Memory>
     ensures { IfOk result (λ ports. ports.items ≡ (new_bridge plan.now number).ports) }
 {
@@ -83,7 +82,7 @@ fn ports_from(alloc: Global, plan: &Plan, number: u16) -> Result<Vec<Outgoing>, 
 }
 
 impl Bridge {
-    /// The bridge of this number of a plan's domain, before cycle 0. `Memory` where a growth is refused.
+    /// Returns the bridge of this number in a plan's domain, before cycle 0. Returns `Memory` if an allocation fails.
     pub fn new(alloc: Global, plan: &Plan, number: u16) -> Result<Bridge, Memory>
         requires { number < length plan.now.bridges }
         ensures { IfOk result (λ bridge. bridge ≡ new_bridge plan.now number) }
@@ -102,7 +101,7 @@ impl Bridge {
         })
     }
 
-    /// The domain of the bridge.
+    /// Returns the domain of the bridge.
     pub fn domain(&self) -> &Domain
         ensures value { result.now ≡ self.now.domain }
         ensures facts { IsBridge self.now }
@@ -110,20 +109,20 @@ impl Bridge {
         &self.domain
     }
 
-    /// The number of the bridge among the domain's.
+    /// Returns the bridge's number in the domain.
     pub fn number(&self) -> u16
         ensures { result ≡ self.now.number }
     {
         self.number
     }
 
-    /// Sends a cycle, the next after those that were received: the ports run to the end of the cycle, and one batch for each
-    /// link that leaves the bridge is appended, by number of link, empty ones too. Before they run they get the bridge's
-    /// background frames of the cycle, in order of instant, then place; that these are they, and that the cycle is below
-    /// 100,000 where it is the next, is for the caller to see to.
+    /// Sends a cycle, the next one after those that were received. The ports get the bridge's background frames of the cycle, and run to
+    /// the end of the cycle. One batch for each link that leaves the bridge is appended to `batches`, by link number; a batch may be empty.
+    /// The caller must ensure that `background` are the bridge's background frames of the cycle in order of instant, then index, and that
+    /// the cycle is below 100,000 if it is the next one.
     ///
-    /// `Spent` on a spent bridge, else `WrongCycle` for a cycle that isn't the next, or that was sent; then nothing is changed.
-    /// Where a growth is refused, `Memory`: the bridge is spent, and the batches are as they were.
+    /// Returns `Spent` if the bridge is spent, else `WrongCycle` if the cycle isn't the next one or was already sent; nothing is changed
+    /// then. Returns `Memory` if an allocation fails; then the bridge is spent, and the batches are unchanged.
     pub fn send(
         &mut self,
         alloc: Global,
@@ -166,16 +165,16 @@ impl Bridge {
         }
     }
 
-    /// Receives a cycle, the one that was sent last: what the batches bring and what is offered is taken in order of instant,
-    /// the links' frames first, by number of link, then the offers. What goes on waits at the ports by whose links its stream
-    /// goes on, with the class that the stream's gate gives it (IEEE 802.1Q, Annex T). The drops come by frame. The batches are
-    /// one for each link that ends in the bridge, by number of link, and the table is the cycle's. That the offers are those at
-    /// the bridge in the cycle, by instant, then place, is for the caller to see to.
+    /// Receives a cycle, the one that was sent last, and returns the drops, by frame. The frames of the batches and the offers are taken in
+    /// order of instant: at one instant the links' frames first, by link number, then the offers. A frame that goes on waits at the ports
+    /// by whose links its stream goes on, in the class that the stream's gate gives it (IEEE 802.1Q, Annex T). There is one batch for each
+    /// link that ends in the bridge, by link number, and the table is the cycle's. The caller must ensure that the offers are those at the
+    /// bridge in the cycle, by instant, then index.
     ///
-    /// `Spent` on a spent bridge, else `WrongCycle` for a cycle that isn't the one sent and not yet received, or a table of
-    /// another cycle, else `StrangeBatch` for other batches, or for a frame that the table and its link exclude or that isn't
-    /// whole here within the cycle; then nothing is changed. `OverOctets` for the first frame that came by a link and exceeds
-    /// what its stream's gate has left, and `Memory` where a growth is refused: the bridge is spent.
+    /// Returns `Spent` if the bridge is spent, else `WrongCycle` if the cycle isn't the one sent and not yet received, or the table is of
+    /// another cycle, else `StrangeBatch` if the batches aren't these, or have a frame that the table and its link exclude, or that isn't
+    /// whole here within the cycle; nothing is changed then. Returns `OverOctets` for the first frame that arrived by a link and exceeds
+    /// the octets that its stream's gate has left, and `Memory` if an allocation fails; the bridge is spent then.
     pub fn receive(
         &mut self,
         alloc: Global,
@@ -227,23 +226,24 @@ impl Bridge {
         }
     }
 
-    /// The background frames that started in the cycle last sent, by link, then instant; none before the first. A refused
-    /// call leaves them. It takes no memory.
+    /// Returns the background frames that started in the cycle last sent, by link, then instant; none before the first cycle. A refused
+    /// call doesn't change them. It takes no memory.
     pub fn background_starts(&self) -> &[Started]
         ensures { result.now ≡ self.now.background }
     {
         self.background.as_slice()
     }
 
-    /// How many links leave the bridge.
+    /// Returns the number of links that leave the bridge.
     pub fn links(&self) -> usize
         ensures { result ≡ length self.now.ports }
     {
         self.ports.len()
     }
 
-    /// The next start on the link at this place among those that leave the bridge, by number, from what it has sent on, if
-    /// nothing more comes to it; with the link's number. None where none would come. It takes no memory.
+    /// Returns the instant of the next start on one of the links that leave the bridge, and the link's number; `place` is the link's index
+    /// among these links, by number. Starts that were already sent don't count, and nothing more must arrive. Returns `None` if there would
+    /// be no start. It takes no memory.
     pub fn next_start(&self, place: usize) -> Option<(Nanos, u16)>
         requires { place < length self.now.ports }
         ensures { IsNextAt self.now.ports place result }
@@ -251,11 +251,10 @@ impl Bridge {
         self.ports[place].next_start()
     }
 
-    /// Passes over cycles in which the bridge does nothing, from the next one to this one: its ports run to the end of the
-    /// cycle with nothing started, as if it had sent and received each of them with nothing in it. That nothing comes
-    /// to the bridge in them is for the caller to see to.
+    /// Passes over cycles in which the bridge does nothing, from the next one to this one. Its ports run to the end of the cycle without a
+    /// start, as if it had sent and received each of these cycles empty. The caller must ensure that nothing arrives at the bridge in them.
     ///
-    /// Where a growth is refused, the bridge is spent.
+    /// Returns `Memory` if an allocation fails; the bridge is spent then.
     pub fn pass(&mut self, cycle: Cycle) -> Result<(), Memory>
         requires { MayPass self.old cycle.0 }
         ensures passes { OnOk result (self.new ≡ passed cycle.0 self.old) }

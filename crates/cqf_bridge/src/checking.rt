@@ -1,4 +1,4 @@
-//! Whether batches are those of a bridge in a cycle. It takes no memory.
+//! Checks whether batches are those of a bridge in a cycle. Only `links_into` allocates memory.
 ghost use Rattle.std.specs.Prelude.{◌≡◌, ◌<◌, ◌==◌, ◌&&◌, false, IfOk, length, map, true};
 ghost use Rattle.std.specs.List.{list_any};
 ghost use Rattle.cqf_model.specs.Domain.{cycle_of, enters, leaves};
@@ -18,7 +18,7 @@ use cqf_topology::Domain;
 use cqf_units::{Cycle, Memory, Nanos, Octets};
 use std::alloc::Global;
 
-/// Whether a frame goes on by a hop from the way that it came, and the hop's link leaves the bridge.
+/// Returns whether a frame that arrived by `way` goes on by a hop, and the hop's link leaves the bridge.
 pub fn leads_by(domain: &Domain, hop: &Hop, way: Option<u16>, bridge: u16) -> bool
     ensures { result ≡ (same_way hop.now.from way && leaves domain.now hop.now.link bridge) }
 {
@@ -30,21 +30,21 @@ pub fn leads_by(domain: &Domain, hop: &Hop, way: Option<u16>, bridge: u16) -> bo
     same && hop.link < domain.links() && domain.link(hop.link).from == bridge
 }
 
-/// Whether a frame that came that way goes on by some of these hops from the bridge.
+/// Returns whether a frame that arrived by `way` goes on from the bridge by one of these hops.
 fn lead_on(domain: &Domain, hops: &[Hop], way: Option<u16>, bridge: u16) -> bool
     ensures { result ≡ list_any (λ hop. same_way hop.from way && leaves domain.now hop.link bridge) hops.now }
 {
     hops.iter().any(|hop| leads_by(domain, hop, way, bridge))
 }
 
-/// Whether a frame that came that way goes on from the bridge.
+/// Returns whether a frame of a row's stream that arrived by `way` goes on from the bridge.
 pub(crate) fn leads_on(domain: &Domain, row: &Row, way: Option<u16>, bridge: u16) -> bool
     ensures { result ≡ goes_on domain.now row.now way bridge }
 {
     lead_on(domain, row.tree.as_slice(), way, bridge)
 }
 
-/// The instant at which a frame that a link sent is whole in the next node.
+/// Returns the instant at which a frame that a link sent is whole in the next node.
 pub(crate) fn whole_in(domain: &Domain, link: u16, sent: Sent) -> Nanos
     requires inside { link < length domain.now.links }
     requires early { sent.start.0 < end_of_starts }
@@ -55,7 +55,7 @@ pub(crate) fn whole_in(domain: &Domain, link: u16, sent: Sent) -> Nanos
     Nanos(end.0 + u64::from(by.delay))
 }
 
-/// Whether a frame that a link sent is whole in the next node within the cycle.
+/// Returns whether a frame that a link sent is whole in the next node within the cycle.
 fn is_whole_within(domain: &Domain, cycle: Cycle, link: u16, sent: Sent) -> bool
     requires inside { link < length domain.now.links }
     requires early { cycle.0 < most_cycles }
@@ -67,7 +67,7 @@ fn is_whole_within(domain: &Domain, cycle: Cycle, link: u16, sent: Sent) -> bool
     whole_in(domain, link, sent).0 / domain.cycle_time().0 == u64::from(cycle.0)
 }
 
-/// Whether a frame may come to a bridge by a link in a cycle.
+/// Returns whether a frame may arrive at a bridge by a link in a cycle.
 fn may_come(
     domain: &Domain,
     number: u16,
@@ -90,7 +90,7 @@ fn may_come(
     }
 }
 
-/// Whether a batch is of the cycle, and each of its frames may come by its link.
+/// Returns whether a batch is of the cycle, and each of its frames may arrive by its link.
 fn is_batch_of(domain: &Domain, number: u16, cycle: Cycle, table: &Table, batch: &Batch) -> bool
     requires inside { batch.now.link < length domain.now.links }
     requires early { cycle.0 < most_cycles }
@@ -108,7 +108,7 @@ fn is_batch_of(domain: &Domain, number: u16, cycle: Cycle, table: &Table, batch:
     true
 }
 
-/// Whether a link ends in a bridge.
+/// Returns whether a link ends in a bridge.
 fn ends_in(domain: &Domain, link: u16, bridge: u16) -> bool
     requires { link < length domain.now.links }
     ensures { result ≡ enters domain.now link bridge }
@@ -119,7 +119,7 @@ fn ends_in(domain: &Domain, link: u16, bridge: u16) -> bool
     }
 }
 
-/// The links that end in a bridge, by number. It takes no memory.
+/// Returns the links that end in a bridge, by number. It takes no memory.
 pub fn incoming_links(domain: &Domain, number: u16) -> ArrayVec<u16, 4096>
     ensures { result.items ≡ links_into domain.now number }
 {
@@ -133,7 +133,7 @@ pub fn incoming_links(domain: &Domain, number: u16) -> ArrayVec<u16, 4096>
     links
 }
 
-/// The same on the heap. `Memory` where a growth is refused.
+/// Returns the same links on the heap. Returns `Memory` if an allocation fails.
 pub(crate) fn links_into(alloc: Global, domain: &Domain, number: u16) -> Result<Vec<u16>, Memory>
     ensures { IfOk result (λ links. links.items ≡ links_into domain.now number) }
 {
@@ -141,7 +141,7 @@ pub(crate) fn links_into(alloc: Global, domain: &Domain, number: u16) -> Result<
     Vec::from_slice(alloc, links.as_slice())
 }
 
-/// Whether batches are of these links, one for each, in this order.
+/// Returns whether there is exactly one batch for each of these links, in this order.
 fn are_of_links(batches: &[Batch], links: &[u16]) -> bool
     ensures yes { result ≡ true → map (λ (b : LinkBatch). b.link) batches.now ≡ links.now }
     ensures no { result ≡ false → ¬ (map (λ (b : LinkBatch). b.link) batches.now ≡ links.now) }
@@ -157,8 +157,8 @@ fn are_of_links(batches: &[Batch], links: &[u16]) -> bool
     true
 }
 
-/// Whether batches are those of a bridge in a cycle: one for each of the links that end in it, by number, each of the cycle and of
-/// frames that may come.
+/// Returns whether batches are those of a bridge in a cycle: one for each link that ends in the bridge, by number, each of the cycle and
+/// with frames that may arrive.
 pub(crate) fn are_batches(
     domain: &Domain,
     number: u16,

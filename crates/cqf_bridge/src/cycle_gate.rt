@@ -1,4 +1,4 @@
-//! What is kept of a stream's gate, which counts octets by the cycle.
+//! The state of a stream's gate, which counts octets by the cycle.
 ghost use Rattle.std.specs.Prelude.{◌≡◌, Some, if◌then◌else◌, ◌==◌};
 ghost use Rattle.cqf_gates.specs.StreamGate.{verdict_on};
 ghost use Rattle.cqf_laws_cycle.specs.Compiled.{given_class};
@@ -14,23 +14,23 @@ use cqf_units::{Nanos, Octets};
 /// The class that a gate gives in even cycles.
 const CLASS_OF_EVEN_CYCLE: u8 = 6;
 
-/// The class that it gives in odd cycles.
+/// The class that a gate gives in odd cycles.
 const CLASS_OF_ODD_CYCLE: u8 = 7;
 
-/// What is kept of a stream's gate. The stream gate that goes by the list of the stream's row, as it is compiled for frames that
-/// came so, counts each cycle for itself, and lets pass what is reserved in the cycle: so it needs no list, but what passed of the
-/// stream in the cycle, whichever way it came.
+/// The state of a stream's gate. The stream gate that executes the gate list of the stream's row, as compiled for frames on the same way,
+/// counts each cycle separately and passes what is reserved in the cycle. So no list is needed, only the octets of the stream that passed
+/// in the cycle, on any way.
 #[derive(Clone, Copy, Debug)]
 pub(crate) struct KeptGate {
     /// The stream's number.
     pub(crate) number: u32,
     /// The cycle of the last call.
     pub(crate) cycle: u64,
-    /// What the frames that passed in that cycle took of the reservation.
+    /// The octets of the frames that passed in that cycle.
     pub(crate) taken: u32,
 }
 
-/// The class that a gate gives in a cycle.
+/// Returns the class that a gate gives in a cycle.
 fn class_of(cycle: u64) -> u8
     ensures { result ≡ given_class cycle }
 {
@@ -41,7 +41,7 @@ fn class_of(cycle: u64) -> u8
     }
 }
 
-/// What has been taken in a cycle, where so much was taken in the cycle of the last call.
+/// Returns the octets that passed in a cycle, if `taken` passed in the cycle `last` of the last call.
 fn taken_in(cycle: u64, last: u64, taken: u32) -> u32
     ensures { result ≡ (if last == cycle then taken else 0) }
 {
@@ -49,7 +49,7 @@ fn taken_in(cycle: u64, last: u64, taken: u32) -> u32
 }
 
 impl KeptGate {
-    /// A gate of the stream of this number that has seen no frame.
+    /// Returns a gate of the stream of this number that has seen no frame.
     pub(crate) fn new(number: u32) -> KeptGate
         ensures { result ≡ record { number = number; cycle = 0; taken = 0 } }
     {
@@ -60,10 +60,10 @@ impl KeptGate {
         }
     }
 
-    /// Whether a frame of a row's stream, of so many octets from the destination address to the FCS, passes at the instant, and
-    /// with which traffic class: `Class` exactly where the octets and those that passed before in the same cycle are within what
-    /// the row reserves there for frames that came by the link, or at the edge. A frame that doesn't pass takes nothing, so a
-    /// smaller one may pass behind it.
+    /// Returns whether a frame of a row's stream passes at an instant, and with which traffic class. `octets` count from the destination
+    /// address to the FCS. The result is `Class` if and only if the octets, with those that passed before in the same cycle, are within
+    /// what the row reserves in it for frames that arrived by the link `way`, or at the edge. A frame that doesn't pass uses no octets, so
+    /// a smaller frame may pass after it.
     pub(crate) fn pass(
         &mut self,
         domain: &Domain,

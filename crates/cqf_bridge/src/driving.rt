@@ -11,12 +11,11 @@ ghost use Rattle.cqf_bridge.specs.Driven.{
 
 use crate::{new_bridge_follows, no_other_fault, page_follows, receiving_follows, sending_follows};
 
-/// Where the bridges of a domain begin with nothing done, and in each cycle each sends, and then receives with the batches that the
-/// others sent to it, each follows the legal network of the run, and what they give is the run's book: the network is nothing but
-/// its bridges and what they pass on (IEEE 802.1Q, Annex T).
+/// States laws about driven bridges. The bridges of a domain begin with nothing done, and in each cycle each bridge sends, then receives
+/// with the batches that the others sent to it. Then each bridge follows the legal network of the run, and their output is the run's book:
+/// the network is nothing but its bridges and the batches that they exchange (IEEE 802.1Q, Annex T).
 ///
-/// Nothing is said of the order in which bridges are called within a cycle, so each order, on however many threads, gives that
-/// book.
+/// The laws don't fix the order in which bridges are called within a cycle. So each order, on any number of threads, gives that book.
 pub fn driven_bridges_give_the_book()
     ensures follow { DrivenBridgesFollow }
     ensures send { DrivenBridgesSend }
@@ -30,8 +29,8 @@ pub fn driven_bridges_give_the_book()
     cqf_laws_cycle::book_is_its_pages();
 }
 
-/// Bridges that are driven so refuse to send a cycle for want of memory alone, and to receive it, too, in a run that loses nothing
-/// inside, as under the tables of a history ([`crate::history_loses_nothing`]).
+/// States that bridges driven in this way refuse to send a cycle only if memory is refused. They refuse to receive it only if memory is
+/// refused, too, in a run that loses nothing inside, as under the tables of a history ([`crate::history_loses_nothing`]).
 pub fn driven_bridges_want_memory_alone()
     ensures sends { DrivenBridgesSendButForMemory }
     ensures receives { DrivenBridgesReceiveButForMemory }
@@ -42,9 +41,9 @@ pub fn driven_bridges_want_memory_alone()
     no_other_fault();
 }
 
-/// What bridges give that are driven so, under the tables of a legal history of admissions, says the shift, and keeps all else that is
-/// promised (`KeepsThePromise` of `cqf_model/specs/Headline.antt`), for every accepted domain, whatever is offered and beside any
-/// background frames (IEEE 802.1Q, Annex T, and the profile).
+/// States that the output of bridges driven in this way, under the tables of a legal history of admissions, says the shift, and keeps all
+/// other promises (`KeepsThePromise` of `cqf_model/specs/Headline.antt`). This holds for every accepted domain, all offers and any
+/// background frames (IEEE 802.1Q, Annex T).
 pub fn driven_bridges_say_the_shift()
     ensures { DrivenBridgesSayTheShift }
 {

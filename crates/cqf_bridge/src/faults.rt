@@ -6,21 +6,21 @@ use cqf_units::Memory;
 use std::fmt;
 use thiserror::Error;
 
-/// Why a bridge refuses a call: the first of these that fits, in the order in which they stand here. It prints as
-/// its name, and the frame's number.
+/// Why a bridge refuses a call: the first of these that applies, in this order. But `Memory` may also be returned before a frame over its
+/// octets is reached. A fault prints as its name, followed by the frame's number if it has one.
 #[derive(Clone, Copy, Debug, PartialEq, Eq, Drop, Error)]
 pub enum BridgeFault {
     /// An earlier call ended with `OverOctets` or `Memory`. Nothing is changed.
     Spent,
-    /// The cycle isn't the one that is to be sent, or to be received, or the table is of another cycle. Nothing is changed.
+    /// The cycle isn't the one to be sent next, or to be received next, or the table is of another cycle. Nothing is changed.
     WrongCycle,
-    /// The batches aren't one for each incoming link of the cycle, by number, or hold a frame that the table and the link
+    /// The batches aren't exactly one of the cycle for each incoming link, by number, or they have a frame that the table and the link
     /// exclude, or that isn't whole here within the cycle. Nothing is changed.
     StrangeBatch,
-    /// The first frame, in the order in which frames are taken, that came by a link and exceeds what its stream's gate has
-    /// left. The bridge is spent.
+    /// The frame of this number arrived by a link and exceeds the octets that its stream's gate has left. It is the first such frame in the
+    /// order in which frames are taken. The bridge is spent.
     OverOctets(u32),
-    /// A growth was refused. The bridge is spent.
+    /// An allocation failed. The bridge is spent.
     Memory,
 }
 
@@ -38,7 +38,7 @@ impl fmt::Display for BridgeFault {
     }
 }
 
-/// Want of memory, as a fault.
+/// A failed allocation as a fault.
 impl From<Memory> for BridgeFault {
     ghost use Rattle.cqf_bridge.specs.declared.faults.BridgeFault.TheVariants as variant;
 

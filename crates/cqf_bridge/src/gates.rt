@@ -13,15 +13,15 @@ use indexmap::IndexSet;
 use std::alloc::Global;
 use std::marker::Model;
 
-/// So many gates are looked through one by one. Where there are no more, as in most cycles, no number is hashed.
+/// This many gates are searched one by one. If there are no more, as in most cycles, no number is hashed.
 const FEW: usize = 16;
 
-/// The gates of the streams of which a bridge has seen frames: one for each number, looked up by it (IEEE 802.1Q, 8.6.5.1;
-/// that a gate counts octets by the cycle: profile).
+/// The gates of the streams whose frames a bridge has seen, one for each stream number (IEEE 802.1Q, 8.6.5.1; counting octets by the cycle
+/// is this project's rule).
 #[derive(Debug, Drop)]
 pub struct StreamGates {
     kept: Vec<KeptGate>,
-    /// The numbers of the gates behind the first few.
+    /// The numbers of the gates after the first `FEW`.
     numbers: IndexSet<u32>,
 }
 
@@ -37,7 +37,7 @@ impl Model for StreamGates {
     ghost invariant = { λ g. g.numbers.keys ≡ drop FEW (map (λ (k : Kept). k.number) g.kept.items) };
 }
 
-/// The place of the gate of a number among some.
+/// Returns the index of the gate of a number among some gates.
 fn place_among(gates: &[KeptGate], number: u32) -> Option<usize>
     ensures { result ≡ position (λ (k : Kept). k.number == number) gates.now }
 {
@@ -45,7 +45,7 @@ fn place_among(gates: &[KeptGate], number: u32) -> Option<usize>
 }
 
 impl StreamGates {
-    /// No gates: no frame was seen. It takes no memory.
+    /// Returns no gates, for a bridge that has seen no frame. It takes no memory.
     pub fn new(alloc: Global) -> StreamGates
         ensures { result ≡ [] }
     {
@@ -55,7 +55,7 @@ impl StreamGates {
         }
     }
 
-    /// The place of the gate of a number.
+    /// Returns the index of the gate of a number.
     fn place_of(&self, number: u32) -> Option<usize>
         ensures { result ≡ position (λ (k : Kept). k.number == number) self.now }
     {
@@ -71,7 +71,7 @@ impl StreamGates {
         }
     }
 
-    /// Keeps a gate of a number that has none, behind the others.
+    /// Appends a gate of a number that has none.
     fn keep(&mut self, gate: KeptGate) -> Result<(), Memory>
         requires { position (λ (k : Kept). k.number == gate.number) self.old ≡ None }
         ensures added { OnOk result (self.new ≡ self.old ++ gate ∷ []) }
@@ -86,14 +86,16 @@ impl StreamGates {
         Ok(())
     }
 
-    /// Passes a frame of a row's stream, of so many octets from the destination address to the FCS, that came by the link, or at
-    /// the edge, at an instant in nanoseconds by the stream's gate, or not: by the gate that is kept for the number, else by one
-    /// that has seen no frame, which is kept from then on. `Class` exactly where the octets and those of the stream that passed
-    /// before in the same cycle are within what the row reserves in it for frames that came so: 6 in even cycles, 7 in odd ones;
-    /// else `OverOctets`, and the frame takes nothing.
+    /// Passes a frame of a row's stream to the stream's gate, and returns the gate's verdict. `octets` count from the destination address
+    /// to the FCS. The frame arrived by the link `way`, or at the edge, and is whole at the instant `at`, in nanoseconds. If no gate is
+    /// kept for the stream's number, one that has seen no frame is used, and kept from then on.
+    ///
+    /// The result is `Class` if and only if the octets, with those of the stream that passed before in the same cycle, are within what the
+    /// row reserves in it for frames that arrived on the same way. The class is 6 in even cycles and 7 in odd ones. Else the result is
+    /// `OverOctets`, and the frame uses no octets.
     ///
     /// # Errors
-    /// `Memory` where there is no room to keep a gate; nothing changes then.
+    /// Returns `Memory` if there is no room to keep a gate; nothing changes then.
     pub fn pass(
         &mut self,
         domain: &Domain,

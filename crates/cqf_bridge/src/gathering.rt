@@ -1,4 +1,4 @@
-//! What comes to a bridge in a cycle, in the order in which it is taken.
+//! The frames that arrive at a bridge in a cycle, in the order in which it takes them.
 ghost use Rattle.std.specs.Prelude.{◌≡◌, ◌*◌, ◌<◌, ◌++◌, IfOk, IsPermutation, OnErr, OnOk, Contains, length, map};
 ghost use Rattle.cqf_model.specs.Traffic.{Received, came_by, offer_received, sent_received};
 ghost use Rattle.cqf_laws_cycle.specs.Gathered.{IsInOrderOf};
@@ -13,7 +13,7 @@ use cqf_topology::Domain;
 use cqf_units::{Memory, Name, Nanos};
 use std::alloc::Global;
 
-/// How a frame came to a bridge.
+/// How a frame arrived at a bridge.
 #[derive(Debug, Drop)]
 pub enum Came {
     /// By the link of this number, with the number of its stream.
@@ -23,7 +23,7 @@ pub enum Came {
 }
 
 impl Came {
-    /// The link by which it came, none at the edge.
+    /// Returns the link by which the frame arrived, or `None` at the edge.
     pub fn link(&self) -> Option<u16>
         ensures { result ≡ came_by (way_taken self.now) }
     {
@@ -34,7 +34,7 @@ impl Came {
     }
 }
 
-/// A frame that comes to a bridge: when it is whole there, its size, its number, and how it came.
+/// A frame that arrives at a bridge: the instant at which it is whole there, its octets, its number, and how it arrived.
 #[derive(Debug, Drop)]
 pub struct Incoming {
     pub at: Nanos,
@@ -44,8 +44,8 @@ pub struct Incoming {
 }
 
 impl Incoming {
-    /// A frame that a link sent, as it comes to the bridge in which the link ends: it is whole there when its last octet has
-    /// come, after the link's delay. Its start is within the 1,000,000 longest cycles.
+    /// Returns a frame that a link sent, as it arrives at the bridge in which the link ends. The frame is whole there when its last octet
+    /// has arrived, after the link's delay. Its start is before 10,000,010,000,000 ns, the end of 1,000,001 cycles of the greatest length.
     pub fn by_link(domain: &Domain, link: u16, sent: Sent) -> Incoming
         requires inside { link < length domain.now.links }
         requires early { sent.start.0 < end_of_starts }
@@ -59,7 +59,7 @@ impl Incoming {
         }
     }
 
-    /// A frame that is offered at the edge: it is whole at its offer's instant.
+    /// Returns a frame that is offered at the edge. It is whole at its offer's instant.
     pub fn at_edge(offered: &Offered) -> Incoming
         ensures { received_as result ≡ offer_received offered.now }
     {
@@ -72,7 +72,7 @@ impl Incoming {
     }
 }
 
-/// Adds the frames of a batch, in order of start.
+/// Appends the frames of a batch, in order of start.
 fn gather_batch(domain: &Domain, batch: &Batch, frames: &mut Vec<Incoming>) -> Result<(), Memory>
     requires { CanGather domain.now batch.now }
     ensures { OnOk result (map received_as frames.new.items
@@ -84,7 +84,7 @@ fn gather_batch(domain: &Domain, batch: &Batch, frames: &mut Vec<Incoming>) -> R
     Ok(())
 }
 
-/// Puts offers behind other frames, as they are listed. `Memory` where a growth is refused; then the frames are as they were.
+/// Appends offers to other frames, in the order of the list. Returns `Memory` if an allocation fails; the frames are unchanged then.
 pub fn gather_offers(offers: &[Offered], frames: &mut Vec<Incoming>) -> Result<(), Memory>
     ensures ok { OnOk result (map received_as frames.new.items ≡ map received_as frames.old.items ++ map offer_received offers.now) }
     ensures err { OnErr result (frames.new.items ≡ frames.old.items) }
@@ -96,7 +96,7 @@ pub fn gather_offers(offers: &[Offered], frames: &mut Vec<Incoming>) -> Result<(
     Ok(())
 }
 
-/// The frames of batches, batch by batch, and then the offers.
+/// Returns the frames of batches, batch by batch, followed by the offers.
 fn gathered(
     alloc: Global,
     domain: &Domain,
@@ -114,9 +114,9 @@ fn gathered(
     Ok(frames)
 }
 
-/// Brings frames into the order in which a bridge takes them: by instant, those of one instant as they stand. Before, they stand
-/// by link, each link's as it sent them, and then the offers by instant and place. Where memory is refused the frames stand as
-/// they did.
+/// Brings frames into the order in which a bridge takes them: by instant, keeping the order of frames of the same instant. Before, they are
+/// by link, each link's frames as it sent them, followed by the offers by instant and index. If memory is refused, the frames keep their
+/// order.
 pub fn bring_in_order(frames: &mut Vec<Incoming>) -> Result<(), Memory>
     ensures ok { OnOk result (IsInOrderOf (λ (x : Received). x.at) (map received_as frames.old.items) (map received_as frames.new.items)) }
     ensures moved { IsPermutation frames.old.items frames.new.items }
@@ -126,7 +126,7 @@ pub fn bring_in_order(frames: &mut Vec<Incoming>) -> Result<(), Memory>
     Ok(())
 }
 
-/// The frames of batches and the offers in the order in which a bridge takes them: by instant, then by batch and place, the
+/// Returns the frames of batches and the offers in the order in which a bridge takes them: by instant, then by batch and index, with the
 /// offers last.
 pub(crate) fn in_order(
     alloc: Global,

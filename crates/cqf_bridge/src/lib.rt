@@ -1,27 +1,27 @@
-//! A bridge, cycle by cycle (IEEE 802.1Q, Annex T): what it sends, what becomes of the frames that come to it, and laws about bridges that follow
-//! the legal network of a run.
+//! A bridge, cycle by cycle (IEEE 802.1Q, Annex T): the frames that it sends, the verdicts on the frames that arrive, and laws about
+//! bridges that follow the legal network of a run.
 //!
-//! - **The bridge.** A [`Bridge`] has one port for each link that leaves it. [`Bridge::receive`] takes what comes in a cycle. [`Bridge::send`]
-//!   runs the ports to the end of a cycle, and gives one [`Batch`] a link, of the streams' frames that it carries ([`Sent`]), for the bridge or
-//!   station at its end; the background frames that started are [`Bridge::background_starts`]. In `specs/` it is its `BridgeState`: its domain
-//!   and number, how far it is, and all that was recorded at its ports. A [`BridgeFault`] says why it refuses a call.
-//! - **What the run has for it.** An [`Agenda`] is made once, of all that a run offers, and finds what is of a cycle by search, so that whoever
-//!   drives the bridge, in whatever order, looks at no frame of another one: [`Agenda::background`] is what it sends a cycle with, and
-//!   [`Agenda::offers`] what it receives the cycle with. [`offers_of`] picks those of one cycle out of all offers. An [`Offer`] is a frame that
-//!   is offered at the edge, an [`Offered`] one with its number.
-//! - **What becomes of a frame**, for those that have ports of their own: each [`Incoming`] frame of a cycle, with how it `Came`, by one of
-//!   the [`incoming_links`] or at the edge ([`gather_offers`]), and brought into order ([`bring_in_order`]), has its [`FrameVerdict`] by [`police`].
-//!   `leads_by` tells whether it goes on by a hop.
-//! - **Stream gates** (8.6.5.1; the rules of octets and of classes: profile). [`StreamGates`] has a gate for each stream of which the bridge has
-//!   seen a frame, and passes frames by it: by the cycle it counts octets, and it says and counts just what the stream gate does that goes by the
-//!   row's list for frames that came so. A stream that isn't offered in each cycle has octets in its own cycles alone, behind a link as many
-//!   cycles later as the link is deep.
-//! - **Its page of the book.** Whoever drives a bridge has its batches until they go on their way: [`starts_of`] lists what started before they
-//!   do. Once the bridge has received the cycle too, [`page_with`] makes the page of these starts, each [`Started`], of the drops, each
-//!   [`Dropped`] for its [`Reason`], and of the background frames that the bridge started.
-//!   A [`Book`] has all of a run.
+//! - **The bridge.** A [`Bridge`] has one port for each link that leaves it. [`Bridge::receive`] takes the frames that arrive in a cycle.
+//!   [`Bridge::send`] runs the ports to the end of a cycle. It appends one [`Batch`] a link, with the streams' frames that the link carries
+//!   ([`Sent`]), for the bridge or station at the link's end; [`Bridge::background_starts`] returns the background frames that started. In
+//!   `specs/` a bridge is its `BridgeState`: its domain and number, its cycle, and all that was recorded at its ports. A [`BridgeFault`] is the
+//!   reason for which it refuses a call.
+//! - **Input of a run.** An [`Agenda`] is made once from all offers and background frames of a run, and finds those of a cycle by search. So the
+//!   caller can drive bridges in any order and never looks at a frame of another bridge. [`Agenda::background`] is the input of sending a cycle,
+//!   and [`Agenda::offers`] the input of receiving it. [`offers_of`] selects the offers of one cycle from all offers. An [`Offer`] is a frame that
+//!   is offered at the edge; an [`Offered`] is an offer with its number.
+//! - **Verdicts**, for callers with ports of their own: each [`Incoming`] frame of a cycle has a `Came`, by one of the [`incoming_links`] or at
+//!   the edge ([`gather_offers`]). [`bring_in_order`] brings the frames into order, and [`police`] returns the [`FrameVerdict`] of each.
+//!   `leads_by` returns whether a frame goes on by a hop.
+//! - **Stream gates** (8.6.5.1; the rules for octets and classes are this project's). [`StreamGates`] has a gate for each stream whose frames the
+//!   bridge has seen. It counts octets by the cycle. Its verdicts and counts are exactly those of the stream gate that executes the
+//!   row's gate list for frames that arrived on the same way. A stream that isn't offered in each cycle has octets only in its own cycles, and
+//!   after a link as many cycles later as the link's hop number.
+//! - **The bridge's page of the book.** The caller has a bridge's batches until they are passed on: [`starts_of`] lists the frames in them
+//!   before. When the bridge has received the cycle too, [`page_with`] makes the page from these starts ([`Started`]), the drops ([`Dropped`],
+//!   each with its [`Reason`]), and the background frames that the bridge started. A [`Book`] has all pages of a run.
 //!
-//! The gates, with a cycle time of 125,000 ns, at the edge, and a row of stream 0 with 1,000 octets in each cycle:
+//! An example of gates at the edge, with a cycle time of 125,000 ns and a row of stream 0 with 1,000 octets in each cycle:
 //!
 //! ```text
 //! pass(stream 0, at 0, 600 octets)          class 6
@@ -30,36 +30,36 @@
 //! pass(stream 0, at 125,000, 600 octets)    class 7: a new cycle
 //! ```
 //!
-//! And one of stream 1 with 1,000 octets in one cycle of four, the second of them:
+//! Stream 1 has 1,000 octets in one cycle of four, the second of them:
 //!
 //! ```text
 //! pass(stream 1, at 0, 600 octets)          over its octets: it has none in cycle 0
 //! pass(stream 1, at 125,000, 600 octets)    class 7: its own cycle at the edge
-//! pass(stream 1, at 250,000, 600 octets)    class 6 behind a link of depth 1; over its octets at the edge
+//! pass(stream 1, at 250,000, 600 octets)    class 6 after a link of hop number 1; over its octets at the edge
 //! ```
 //!
-//! Of the **laws** each is a function that does nothing: its contract is a statement of `specs/` over what is said here of calls, and its proof
-//! shows that the statement holds for each run. Whoever drives bridges, in whatever order and on however many threads, has one thing to keep from
-//! cycle to cycle: that each bridge follows the network (`FollowsTheNetwork` of `specs/Follows.antt`). Where each goes on at its own pace, with
-//! batches under way between them and tables still to come, there are lists of what each took, put and posted (`Course` of `specs/Courses.antt`),
-//! and one thing to know of them (`AreUnderWay`): each bridge did its part, the tables that it took are those of one history, and what was taken
-//! from a link is the beginning of what was put on it.
+//! Each **law** is a function that does nothing. Its contract is a statement of `specs/` about the contracts of these calls, and its proof
+//! shows that the statement holds for each run. A caller may drive bridges in any order and on any number of threads. It has to maintain
+//! one fact from cycle to cycle: each bridge follows the network (`FollowsTheNetwork` of `specs/Follows.antt`). If each bridge goes on at
+//! its own pace, with batches under way between them and further tables not yet closed, there are lists of what each bridge took, put and
+//! posted (`Course` of `specs/Courses.antt`), and one fact to maintain (`AreUnderWay`): each bridge did its part, the tables that it took
+//! are those of one history, and what was taken from a link is the beginning of what was put on it.
 //!
-//! - A new bridge follows the network ([`new_bridge_follows`]). When it sends a cycle it gives the network's batches of its links
-//!   ([`sending_follows`]), and when it receives the cycle, with the network's batches of the links that end in it, it drops what the network
-//!   drops there and follows on ([`receiving_follows`]). What it gave is its page of the book ([`page_follows`]).
-//! - So bridges that have nothing between them but their batches give the book of the run ([`driven_bridges_give_the_book`]), which under the
-//!   tables of a history says the shift ([`driven_bridges_say_the_shift`]).
-//! - A run may go on meanwhile, with tables still to come ([`longer_run_is_followed`]).
-//! - Under the tables of a history nothing is lost inside ([`history_loses_nothing`]), and then want of memory is the only fault
+//! - A new bridge follows the network ([`new_bridge_follows`]). When it sends a cycle, it returns the network's batches of its links
+//!   ([`sending_follows`]). When it receives the cycle with the network's batches of the links that end in it, it drops what the network drops
+//!   there, and still follows the network ([`receiving_follows`]). Its output is its page of the book ([`page_follows`]).
+//! - So bridges that exchange nothing but their batches give the book of the run ([`driven_bridges_give_the_book`]). Under the tables of a
+//!   history this book says the shift ([`driven_bridges_say_the_shift`]).
+//! - A run may become longer meanwhile, as further tables are closed ([`longer_run_is_followed`]).
+//! - Under the tables of a history nothing is lost inside ([`history_loses_nothing`]). Then the only fault is that memory is refused
 //!   ([`no_other_fault`], [`driven_bridges_want_memory_alone`]).
-//! - Whatever other bridges lose, what becomes of a cycle's frames at a bridge that is handed the network's batches is what becomes of them in
-//!   the run ([`verdicts_are_the_runs`]).
-//! - Of bridges under way each page that was posted is that page of the one-thread book of the history ([`pages_are_of_the_book`]), and each
-//!   bridge stands where its lists say, and refuses its next cycle for want of memory alone ([`bridges_go_on`]).
+//! - A bridge that is given the network's batches judges a cycle's frames as in the run, even if other bridges lose frames
+//!   ([`verdicts_are_the_runs`]).
+//! - Each page that bridges under way have posted is that page of the one-thread book of the history ([`pages_are_of_the_book`]). Each bridge is
+//!   in the cycle that its lists say, and refuses its next cycle only if memory is refused ([`bridges_go_on`]).
 //!
 //! ```
-//! // here on, a proof knows that the pages of bridges under way are those of the one-thread book
+//! // from here on, a proof knows that the pages of bridges under way are those of the one-thread book
 //! cqf_bridge::pages_are_of_the_book();
 //! ```
 #![tactic(auto)]

@@ -1,9 +1,9 @@
-//! A bridge that follows a run which goes on.
+//! A bridge that follows a run which becomes longer.
 ghost use Rattle.cqf_bridge.specs.LongerRuns.{LongerRunIsFollowedHalfway, LongerRunIsFollowed, TablesToComeDontCountHalfway, TablesToComeDontCount};
 
-/// A bridge that follows the network of a run follows it whatever tables the cycles have that it hasn't received yet; and a bridge
-/// that follows a run's network, or has sent as it does, does so with each longer run that has the same tables in the shorter
-/// one's cycles. So a run may go on cycle by cycle, each table closed before the bridges receive its cycle.
+/// States laws about longer runs. A bridge that follows the network of a run follows it for any tables of the cycles that the bridge hasn't
+/// received yet. A bridge that follows a run's network, or has sent a cycle of it, does the same for each longer run with the same tables
+/// in the shorter run's cycles. So a run may go on cycle by cycle, if each table is closed before the bridges receive its cycle.
 pub fn longer_run_is_followed()
     ensures tables { TablesToComeDontCount }
     ensures tables_halfway { TablesToComeDontCountHalfway }

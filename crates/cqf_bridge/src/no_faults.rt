@@ -8,8 +8,8 @@ ghost use Rattle.cqf_bridge.specs.NoFaults.{
   SendsButForMemory,
 };
 
-/// In a run of orderly tables, as those of a legal history of admissions are, nothing is lost inside, whatever is offered and
-/// beside any background frames (IEEE 802.1Q, Annex T, and the profile).
+/// States that a run with orderly tables, such as those of a legal history of admissions, loses nothing inside, for all offers and any
+/// background frames (IEEE 802.1Q, Annex T).
 pub fn history_loses_nothing()
     ensures orderly { OrderlyRunLosesNothing }
     ensures history { RunOfHistoryLosesNothing }
@@ -18,9 +18,9 @@ pub fn history_loses_nothing()
     cqf_laws_history::tables_are_orderly();
 }
 
-/// Where nothing is lost inside, the batches of a cycle may come to the bridge in which their links end, none of their frames is
-/// over its octets there, and a bridge that isn't spent refuses neither to send its next cycle nor to receive it with them, but
-/// for want of memory.
+/// States laws about a run that loses nothing inside. The batches of a cycle may arrive at the bridge in which their links end, and none of
+/// their frames is over its octets there. A bridge that isn't spent refuses to send its next cycle, or to receive it with these batches,
+/// only if memory is refused.
 pub fn no_other_fault()
     ensures batches { BatchesMayCome }
     ensures none_over { NoneIsOver }

@@ -1,4 +1,4 @@
-//! What is offered at a bridge in a cycle.
+//! The offers at a bridge in a cycle.
 ghost use Rattle.std.specs.Prelude.{◌≡◌, ◌+◌, ◌^◌, ◌<◌, ◌==◌, ◌&&◌, IfOk, filter, length};
 ghost use Rattle.cqf_model.specs.Domain.{cycle_of};
 ghost use Rattle.cqf_model.specs.Traffic.{numbered};
@@ -10,7 +10,7 @@ use cqf_topology::Domain;
 use cqf_units::{Cycle, Memory};
 use std::alloc::Global;
 
-/// Whether an offer is at the bridge in the cycle.
+/// Returns whether an offer is at the bridge in the cycle.
 fn is_offered(domain: &Domain, offer: &Offer, bridge: u16, cycle: Cycle) -> bool
     ensures { result ≡ ((offer.now.bridge == bridge) && (cycle_of domain.now offer.now.at.0 == cycle.0)) }
 {
@@ -19,7 +19,7 @@ fn is_offered(domain: &Domain, offer: &Offer, bridge: u16, cycle: Cycle) -> bool
     here && then
 }
 
-/// The offer at a place among all of a run, from 0, once more, with its number, which counts from 1.
+/// Returns a copy of the offer at an index (from 0) of a run's offers, with its number (from 1).
 pub fn numbered_offer(place: usize, offer: &Offer) -> Offered
     requires { place + 1 < 2 ^ 32 }
     ensures { result ≡ record { frame = place + 1; offer = offer.now } }
@@ -35,7 +35,7 @@ pub fn numbered_offer(place: usize, offer: &Offer) -> Offered
     }
 }
 
-/// The offers at a bridge in a cycle, as they are listed.
+/// Returns the offers at a bridge in a cycle, in the order of the list.
 fn listed(
     alloc: Global,
     domain: &Domain,
@@ -55,8 +55,8 @@ fn listed(
     Ok(list)
 }
 
-/// Of all offers of a run, those at a bridge in a cycle, each with its number, by instant, then place: what
-/// [`Bridge::receive`](crate::Bridge::receive) wants of them. `Memory` where a growth is refused.
+/// Returns those of a run's offers that are at a bridge in a cycle, each with its number, by instant, then index. This is the input of
+/// [`Bridge::receive`](crate::Bridge::receive). Returns `Memory` if an allocation fails.
 pub fn offers_of(
     alloc: Global,
     domain: &Domain,

@@ -1,4 +1,4 @@
-//! A port of a bridge, with what the bridge recorded at it.
+//! A port of a bridge, with the frames that the bridge recorded at it.
 ghost use Rattle.std.specs.Prelude.{◌≡◌, ◌+◌, ◌^◌, ◌<◌, [], ◌∷◌, ◌++◌, All, IfOk, OnOk, OnErr, length, map};
 ghost use Rattle.std.specs.List.{flat_map};
 ghost use Rattle.cqf_model.specs.Book.{started_backed};
@@ -16,12 +16,12 @@ use cqf_units::{Cycle, Memory, Nanos};
 use std::alloc::{AllocError, Global};
 use std::marker::Model;
 
-/// The port of an outgoing link. Beside the arrivals that it took stand their streams.
+/// The port of an outgoing link, with the stream of each arrival that it took.
 #[derive(Debug, Drop)]
 pub(crate) struct Outgoing {
     link: u16,
     port: Port,
-    /// By arrival, the number of its stream; none for a background frame.
+    /// For each arrival, the number of its stream; `None` for a background frame.
     streams: Vec<Option<u32>>,
 }
 
@@ -37,7 +37,7 @@ impl Model for Outgoing {
 }
 
 impl Outgoing {
-    /// The port of a link, which has recorded nothing.
+    /// Returns the port of a link, with nothing recorded.
     pub(crate) fn new(alloc: Global, plan: &Plan, link: u16) -> Outgoing
         requires { link < length plan.now.links }
         ensures { result ≡ new_record plan.now link }
@@ -53,7 +53,7 @@ impl Outgoing {
         }
     }
 
-    /// The number of the link.
+    /// Returns the number of the link.
     pub(crate) fn link(&self) -> u16
         ensures link { result ≡ self.now.link }
         ensures beside { length self.now.streams ≡ length self.now.port.arrivals }
@@ -63,7 +63,7 @@ impl Outgoing {
         self.link
     }
 
-    /// Records a frame: a stream's, or where `stream` is none a background frame.
+    /// Records a frame: a stream's, or a background frame if `stream` is `None`.
     pub(crate) fn record(&mut self, arrival: Arrival, stream: Option<u32>) -> Result<(), Memory>
         requires gate { arrival.class < 8 }
         requires early { arrival.at.0 < 2 ^ 62 }
@@ -83,8 +83,8 @@ impl Outgoing {
         Ok(())
     }
 
-    /// Runs to an instant, which ends a cycle: the streams' frames that start by then are the batch of the cycle, and the
-    /// background frames go behind those that are listed.
+    /// Runs the port to the end of a cycle. Returns the batch of the cycle, with the streams' frames that start by then. The background
+    /// frames that start are appended to `background`.
     pub(crate) fn run_to(
         &mut self,
         alloc: Global,
@@ -110,7 +110,7 @@ impl Outgoing {
         Ok(batch)
     }
 
-    /// The next start of its port, and the link, if nothing more is recorded; none where none would come.
+    /// Returns the instant of the port's next start, and the link, if nothing more is recorded. Returns `None` if there would be no start.
     pub(crate) fn next_start(&self) -> Option<(Nanos, u16)>
         ensures { IsNextStartOf self.now result }
     {
@@ -120,7 +120,7 @@ impl Outgoing {
         }
     }
 
-    /// Runs to an instant, before which nothing starts.
+    /// Runs the port to an instant before which nothing starts.
     pub(crate) fn rest_to(&mut self, until: Nanos) -> Result<(), Memory>
         requires later { self.old.port.reached < until.0 }
         requires early { until.0 < 2 ^ 62 }
@@ -132,7 +132,7 @@ impl Outgoing {
     }
 }
 
-/// Puts the start of an arrival into the batch, or where it is of no stream to the background frames.
+/// Adds the start of an arrival to the batch, or to the background frames if it is of no stream.
 fn hand_one(
     stream: Option<u32>,
     arrival: &Arrival,
@@ -163,7 +163,7 @@ fn hand_one(
     Ok(())
 }
 
-/// Puts the starts of these transmissions where each belongs.
+/// Adds the start of each of these transmissions to the batch or the background frames.
 fn hand_all(
     streams: &[Option<u32>],
     arrivals: &[Arrival],

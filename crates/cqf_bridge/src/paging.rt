@@ -1,8 +1,7 @@
-//! What a bridge did in a cycle, as a page of a book has it.
+//! A bridge's page of a book for one cycle.
 //!
-//! Whoever drives a bridge has its batches until they go on their way: [`starts_of`] lists what started before they do. Once the
-//! bridge has received the cycle too, [`page_with`] makes the page of these starts, of the drops, and of the background frames that
-//! the bridge started.
+//! The caller has a bridge's batches until they are passed on: [`starts_of`] lists the frames in them before. When the bridge has received
+//! the cycle too, [`page_with`] makes the page from these starts, the drops, and the background frames that the bridge started.
 
 ghost use Rattle.std.specs.Prelude.{◌≡◌, ◌++◌, IfOk, OnOk};
 ghost use Rattle.std.specs.List.{flat_map};
@@ -15,7 +14,7 @@ use cqf_model::{Dropped, Page, Sent, Started};
 use cqf_units::{Cycle, Memory};
 use std::alloc::Global;
 
-/// A frame that a link sent, as a page has it.
+/// Returns the page's entry for a frame that a link sent.
 fn as_started(cycle: Cycle, link: u16, sent: Sent) -> Started
     ensures { result ≡ started cycle.0 link sent }
 {
@@ -28,7 +27,7 @@ fn as_started(cycle: Cycle, link: u16, sent: Sent) -> Started
     }
 }
 
-/// Puts the frames of a batch behind what is listed.
+/// Appends the entries of a batch's frames.
 fn list_batch(batch: &Batch, starts: &mut Vec<Started>) -> Result<(), Memory>
     ensures { OnOk result (starts.new.items ≡ starts.old.items ++ starts_of_batch batch.now) }
 {
@@ -38,7 +37,7 @@ fn list_batch(batch: &Batch, starts: &mut Vec<Started>) -> Result<(), Memory>
     Ok(())
 }
 
-/// The frames of batches, batch by batch, as a page has them. `Memory` where a growth is refused.
+/// Returns the page's entries for the frames of batches, batch by batch. Returns `Memory` if an allocation fails.
 pub fn starts_of(alloc: Global, batches: &[Batch]) -> Result<Vec<Started>, Memory>
     ensures { IfOk result (λ starts. starts.items ≡ flat_map starts_of_batch batches.now) }
 {
@@ -49,8 +48,8 @@ pub fn starts_of(alloc: Global, batches: &[Batch]) -> Result<Vec<Started>, Memor
     Ok(starts)
 }
 
-/// The page of a bridge and a cycle, with these starts of streams' frames and these drops, and the background frames that the
-/// bridge started in the cycle that it sent last. `Memory` where a growth is refused: then the starts and drops are gone.
+/// Returns the page of a bridge and a cycle, with these starts of streams' frames, these drops, and the background frames that the bridge
+/// started in the cycle that it sent last. Returns `Memory` if an allocation fails; the starts and drops are lost then.
 pub fn page_with(
     alloc: Global,
     bridge: &Bridge,

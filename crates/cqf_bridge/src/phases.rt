@@ -1,15 +1,15 @@
-//! The two phases of a cycle at a bridge (IEEE 802.1Q, Annex T), and what each goes by.
+//! The two phases of a cycle at a bridge (IEEE 802.1Q, Annex T), and their inputs.
 use cqf_admission::Table;
 use cqf_model::Backed;
 use cqf_topology::Domain;
 use cqf_units::Cycle;
 
-/// The transmit phase of a cycle: the ports run to the cycle's end.
+/// The transmit phase of a cycle: the ports run to the end of the cycle.
 #[derive(Clone, Copy)]
 pub(crate) struct TransmitPhase<'d, 'b> {
     pub(crate) domain: &'d Domain,
     pub(crate) cycle: Cycle,
-    /// The bridge's background frames of the cycle, in order of instant, then place.
+    /// The bridge's background frames of the cycle, in order of instant, then index.
     pub(crate) background: &'b [Backed],
 }
 

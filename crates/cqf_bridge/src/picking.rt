@@ -1,4 +1,4 @@
-//! Which of a run's offers and background frames are a bridge's, brought into order of instant.
+//! A bridge's part of a run's offers and background frames, in order of instant.
 ghost use Rattle.std.specs.Prelude.{◌≡◌, ◌+◌, ◌^◌, ◌<◌, IfOk, filter, length};
 ghost use Rattle.cqf_model.specs.Domain.{leaves};
 ghost use Rattle.cqf_model.specs.Network.{numbered_background};
@@ -13,7 +13,7 @@ use cqf_topology::Domain;
 use cqf_units::Memory;
 use std::alloc::Global;
 
-/// The offers at a bridge, as they are listed.
+/// Returns the offers at a bridge, in the order of the list.
 fn listed_offers(alloc: Global, offers: &[Offer], bridge: u16) -> Result<Vec<Offered>, Memory>
     requires { length offers.now < 2 ^ 32 }
     ensures { IfOk result (λ list. list.items ≡ filter (is_offered_to bridge) (numbered offers.now)) }
@@ -27,7 +27,7 @@ fn listed_offers(alloc: Global, offers: &[Offer], bridge: u16) -> Result<Vec<Off
     Ok(list)
 }
 
-/// The offers at a bridge, by instant, then place.
+/// Returns the offers at a bridge, by instant, then index.
 pub(crate) fn offers_in_order(
     alloc: Global,
     offers: &[Offer],
@@ -41,7 +41,7 @@ pub(crate) fn offers_in_order(
     Ok(list)
 }
 
-/// Whether the domain has the link, and it leaves the bridge.
+/// Returns whether the domain has the link and it leaves the bridge.
 fn is_from(domain: &Domain, link: u16, bridge: u16) -> bool
     ensures { result ≡ leaves domain.now link bridge }
 {
@@ -51,7 +51,7 @@ fn is_from(domain: &Domain, link: u16, bridge: u16) -> bool
     domain.link(link).from == bridge
 }
 
-/// The background frame at a place among all, with its number.
+/// Returns the background frame at an index, with its number, from 1.
 fn numbered_frame(place: usize, background: &Background) -> Backed
     requires { place + 1 < 2 ^ 32 }
     ensures { result ≡ record { frame = place + 1; background = background.now } }
@@ -62,7 +62,7 @@ fn numbered_frame(place: usize, background: &Background) -> Backed
     }
 }
 
-/// The background frames of the links that leave a bridge, as they are listed.
+/// Returns the background frames of the links that leave a bridge, in the order of the list.
 fn listed_background(
     alloc: Global,
     domain: &Domain,
@@ -81,7 +81,7 @@ fn listed_background(
     Ok(list)
 }
 
-/// The background frames of the links that leave a bridge, by instant, then place.
+/// Returns the background frames of the links that leave a bridge, by instant, then index.
 pub(crate) fn background_in_order(
     alloc: Global,
     domain: &Domain,

@@ -1,4 +1,4 @@
-//! What becomes of the frames that come to a bridge, one after the other.
+//! The verdicts on the frames that arrive at a bridge, one after the other.
 ghost use Rattle.std.specs.Prelude.{◌≡◌, Bool, IfOk, List, OnErr, Some};
 ghost use Rattle.cqf_model.specs.declared.topology.Row.{Row as ARow};
 ghost use Rattle.cqf_model.specs.Domain.{cycle_of};
@@ -18,21 +18,21 @@ use cqf_model::{Reason, Row};
 use cqf_topology::Domain;
 use cqf_units::{Cycle, Memory, Name, Octets};
 
-/// What becomes of a frame that comes to a bridge (after IEEE 802.1Q, 8.6.5.1).
+/// The verdict on a frame that arrives at a bridge (after IEEE 802.1Q, 8.6.5.1).
 #[derive(Clone, Copy, Debug)]
 pub enum FrameVerdict<'a> {
-    /// It goes on with its stream's row, and waits in this class at each port of the bridge by whose link the stream goes on.
+    /// The frame goes on with its stream's row. It waits in this class at each port of the bridge by whose link the stream goes on.
     GoesOn(&'a Row, u8),
-    /// It was offered at the edge, and is dropped for this reason, the first that fits.
+    /// The frame was offered at the edge, and is dropped for this reason, the first that applies.
     Dropped(Reason),
-    /// It came by a link and is lost inside: there is no row of its stream, or none whose tree goes on from this bridge behind
-    /// that link.
+    /// The frame arrived by a link and is lost inside: there is no row of its stream, or the row's tree doesn't go on from this bridge
+    /// after that link.
     LacksRow,
-    /// It came by a link and is lost inside: its stream's gate has fewer octets left.
+    /// The frame arrived by a link and is lost inside: its stream's gate has fewer octets left.
     ExceedsGate,
 }
 
-/// Passes a frame by its stream's gate, and where it passes gives the class in which it waits.
+/// Passes a frame to its stream's gate. Returns the class in which the frame waits, or `None` if it doesn't pass.
 fn pass_gate(
     domain: &Domain,
     cycle: Cycle,
@@ -53,7 +53,7 @@ fn pass_gate(
     }
 }
 
-/// Why an offer that names a row's stream is dropped, whatever its gate has left.
+/// Returns why an offer with the name of a row's stream is dropped, apart from its gate. Returns `None` if only the gate decides.
 fn refused(domain: &Domain, number: u16, cycle: Cycle, row: &Row) -> Option<Reason>
     ensures { (passes : ARow → Bool) → edge_verdict domain.now number cycle.0 passes (Some row.now) ≡ verdict_unless result (passes row.now) row.now }
 {
@@ -66,7 +66,7 @@ fn refused(domain: &Domain, number: u16, cycle: Cycle, row: &Row) -> Option<Reas
     None
 }
 
-/// What becomes of an offer: it goes on, or is dropped for the first reason that fits.
+/// Returns the verdict on an offer: it goes on, or is dropped for the first reason that applies.
 fn police_offer<'a>(
     phase: ReceivePhase<'_, 'a>,
     frame: &Incoming,
@@ -91,7 +91,7 @@ fn police_offer<'a>(
     }
 }
 
-/// What becomes of a frame that came by a link: it goes on, or is lost inside.
+/// Returns the verdict on a frame that arrived by a link: it goes on, or is lost inside.
 fn police_inside<'a>(
     phase: ReceivePhase<'_, 'a>,
     frame: &Incoming,
@@ -117,9 +117,9 @@ fn police_inside<'a>(
     }
 }
 
-/// What becomes of a frame at the bridge of this number, by the table of its cycle and behind the frames that the gates have
-/// counted: its stream's gate counts it where it goes on (after IEEE 802.1Q, 8.6.5.1). The frame is whole within the
-/// cycle. `Memory` where a growth is refused; then the gates have counted nothing.
+/// Returns the verdict on a frame at the bridge of this number, by the table of its cycle and after the frames that the gates have counted.
+/// If the frame goes on, its stream's gate counts it (after IEEE 802.1Q, 8.6.5.1). The frame is whole within the cycle. Returns `Memory` if
+/// an allocation fails; the gates are unchanged then.
 pub fn police<'a>(
     domain: &Domain,
     number: u16,
@@ -136,7 +136,7 @@ pub fn police<'a>(
     ensures err { OnErr result (gates.new ≡ gates.old) }
 {
     gate_counts_cycles();
-    // the domain is accepted: a fact
+    // a fact that `know` gives: the domain is accepted
     domain.know();
     let phase = ReceivePhase {
         domain,

@@ -6,7 +6,7 @@ ghost use Rattle.cqf_bridge.specs.Quiet.{IsQuiet, rested};
 use crate::outgoing::Outgoing;
 use cqf_units::{Memory, Nanos};
 
-/// The ports run to an instant, before which none of them starts a frame.
+/// Runs the ports to an instant before which none of them starts a frame.
 pub(crate) fn rest_ports(ports: &mut Vec<Outgoing>, until: Nanos) -> Result<(), Memory>
     requires early { until.0 < 2 ^ 62 }
     requires later { (r : PortRecord) → Contains ports.old.items r → r.port.reached < until.0 }

@@ -1,4 +1,4 @@
-//! The receive phase of a cycle: what comes is gathered, brought into order and taken, frame by frame.
+//! The receive phase of a cycle: the frames that arrive are gathered, brought into order and taken, one by one.
 ghost use Rattle.std.specs.Prelude.{◌+◌, ◌*◌, ◌<◌, Contains, IfErr, IfOk, OnOk, map};
 ghost use Rattle.std.specs.List.Sorted.{IsNonDecreasingBy};
 ghost use Rattle.cqf_model.specs.Run.{Run};
@@ -17,7 +17,7 @@ use cqf_laws_cycle::{drops_are_of_the_cycle, frames_are_taken_in_order, gate_cou
 use cqf_model::{Dropped, Offered};
 use std::alloc::Global;
 
-/// Takes the frames of a cycle, which stand in the order in which they are taken.
+/// Takes the frames of a cycle. They are in the order in which a bridge takes them.
 fn take_all(
     phase: ReceivePhase<'_, '_>,
     frames: &[Incoming],
@@ -39,7 +39,7 @@ fn take_all(
         phase.entry.cycle.0 (map received_as frames.now)) fault) }
 {
     gate_counts_cycles();
-    // the domain is accepted: a fact
+    // a fact that `know` gives: the domain is accepted
     phase.domain.know();
     for frame in frames {
         match take_frame(phase, frame, gates, ports, drops) {
@@ -50,8 +50,7 @@ fn take_all(
     Ok(())
 }
 
-/// Receives a cycle at the ports of a bridge: what the batches bring and what is offered is taken in order, and the drops
-/// come by frame.
+/// Receives a cycle at the ports of a bridge: the frames of the batches and the offers are taken in order. Returns the drops, by frame.
 pub(crate) fn receive_frames(
     alloc: Global,
     phase: ReceivePhase<'_, '_>,

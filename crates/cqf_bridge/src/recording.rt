@@ -1,4 +1,4 @@
-//! What becomes of a frame at a bridge's ports: it is queued to them, or dropped.
+//! Queues a frame to a bridge's ports, or drops it.
 ghost use Rattle.std.specs.Prelude.{◌≡◌, ◌+◌, ◌^◌, ◌<◌, ◌++◌, ◌==◌, Contains, IfErr, OnOk, map, true};
 ghost use Rattle.std.specs.List.{list_any};
 ghost use Rattle.cqf_model.specs.Book.{drop_by};
@@ -20,7 +20,7 @@ use cqf_model::{Arrival, Dropped, Reason, Row};
 use cqf_topology::Domain;
 use cqf_units::{Cycle, Memory};
 
-/// Records an arrival at a port, where its stream goes on by the port's link.
+/// Records an arrival at a port if its stream goes on by the port's link.
 fn queue_one(
     port: &mut Outgoing,
     row: &Row,
@@ -56,7 +56,7 @@ fn queue_all(
     Ok(())
 }
 
-/// Queues a frame that goes on in a class to the ports by whose links its stream goes on.
+/// Queues a frame in a class to the ports by whose links its stream goes on.
 fn queue_frame(
     domain: &Domain,
     cycle: Cycle,
@@ -103,7 +103,7 @@ fn drop_offer(
     Ok(())
 }
 
-/// Takes a frame, behind those before it in the cycle.
+/// Takes a frame, after the earlier frames of the cycle.
 pub(crate) fn take_frame(
     phase: ReceivePhase<'_, '_>,
     frame: &Incoming,

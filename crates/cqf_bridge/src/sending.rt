@@ -1,4 +1,4 @@
-//! The transmit phase of a cycle: each port gets its background frames, and runs to the cycle's end.
+//! The transmit phase of a cycle: each port gets its background frames, and runs to the end of the cycle.
 ghost use Rattle.std.specs.Prelude.{◌≡◌, ◌+◌, ◌*◌, ◌<◌, ◌≤◌, Contains, OnErr, OnOk, ℕ, length, take};
 ghost use Rattle.cqf_bridge.specs.BridgeState.{AreBackedOf, IsInStep, end_of_cycle, port_with};
 ghost use Rattle.cqf_bridge.specs.PortRecord.{PortRecord};
@@ -13,7 +13,7 @@ use cqf_topology::Domain;
 use cqf_units::{Cycle, Memory, Nanos};
 use std::alloc::Global;
 
-/// A background frame as an arrival at its port.
+/// Returns the arrival of a background frame at its port.
 fn arrival_of(frame: &Backed) -> Arrival
     ensures { result ≡ record {
       at = frame.now.background.at;
@@ -30,7 +30,7 @@ fn arrival_of(frame: &Backed) -> Arrival
     }
 }
 
-/// Gives a port those of the background frames of its bridge in a cycle that go by its link.
+/// Records at a port those of the bridge's background frames of a cycle that use the port's link.
 fn take_background(port: &mut Outgoing, background: &[Backed]) -> Result<(), Memory>
     requires { CanTake background.now port.old }
     ensures { OnOk result (port.new ≡ port_with background.now port.old) }
@@ -44,7 +44,7 @@ fn take_background(port: &mut Outgoing, background: &[Backed]) -> Result<(), Mem
     Ok(())
 }
 
-/// The end of a cycle.
+/// Returns the end of a cycle.
 pub(crate) fn end_of(domain: &Domain, cycle: Cycle) -> Nanos
     requires { cycle.0 < most_cycles }
     ensures value { result.0 ≡ end_of_cycle domain.now cycle.0 }
@@ -55,7 +55,7 @@ pub(crate) fn end_of(domain: &Domain, cycle: Cycle) -> Nanos
     Nanos((u64::from(cycle.0) + 1) * domain.cycle_time().0)
 }
 
-/// Sends a cycle at a port: it gets its background frames, and runs to the end of the cycle.
+/// Sends a cycle at a port: the port gets its background frames, and runs to the end of the cycle.
 fn send_port(
     alloc: Global,
     phase: TransmitPhase<'_, '_>,

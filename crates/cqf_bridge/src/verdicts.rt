@@ -1,9 +1,9 @@
-//! What becomes of the frames that a bridge takes in a cycle.
+//! The verdicts on the frames that a bridge takes in a cycle.
 ghost use Rattle.cqf_bridge.specs.Verdicts.{EachCycleIsAnew, UnlostBatchesMayCome, VerdictsAreTheRuns};
 
-/// What becomes of the frames of a cycle at a bridge that is handed the network's batches is what becomes of them in the run, since
-/// its stream gates count each cycle anew; and where it loses none of them, these are batches that it may be handed (IEEE 802.1Q,
-/// Annex T). Nothing is said of other bridges or cycles, which may lose what they will.
+/// States laws about verdicts (IEEE 802.1Q, Annex T). If a bridge is given the network's batches of a cycle, its verdicts on the cycle's
+/// frames are those of the run, since its stream gates count each cycle anew. If it loses none of these frames, it may be given these
+/// batches. The laws say nothing about other bridges or cycles; these may lose frames.
 pub fn verdicts_are_the_runs()
     ensures anew { EachCycleIsAnew }
     ensures verdicts { VerdictsAreTheRuns }

@@ -1,4 +1,4 @@
--- What is added to columns, one after the other.
+-- Adding to columns, step by step.
 use Rattle.std.proofs.Common.{◌≡◌, ℕ, ◌+◌, ◌^◌, ◌<◌, ◌∷◌, [], ◌++◌, List, Bool, true, false, inl, inr, refl, sym, ap}
 use Rattle.std.proofs.Common.{◌∙◌, subst, arith, length, map, take, sum_by, get_or, set, replicate, eq-eqb, ne_eqb}
 use Rattle.std.proofs.Common.{◌==◌, ◌&&◌, nat_lt, if◌then◌else◌}
@@ -13,7 +13,7 @@ use Rattle.cqf_laws_coverage.specs.Counted.{counts_frames, counts_in}
 use Rattle.cqf_laws_coverage.proofs.Counts.{second_fails}
 use Rattle.cqf_instants_run.specs.Columns.{AddsFrame, AreEmptyColumns, HaveRoomFor, HaveWidth}
 
--- where both tests pass a number counts, and where the first fails it doesn't
+-- a number counts if both tests pass, and doesn't if the first fails
 both_pass : (a b : Bool) (n : ℕ) → a ≡ true → b ≡ true → (if a && b then n else 0) ≡ n
 both_pass true true n p q = refl
 both_pass true false n p q = absurd (cc)
@@ -36,7 +36,7 @@ adds_none cycles columns frames octets no_frames no_octets = record {
 
 -- a hop by a link in a cycle
 module _ (cycles : ℕ) (columns : List Column) (link cycle octets : ℕ) (is_link : link < length columns) (in_run : cycle < cycles) where
-  -- what its link has is what stands at its place
+  -- its link's frames are those of the column at its index
   pub own_frames : (d : Column) → frames_by columns link ≡ (get_or columns link d).frames
   own_frames d = get_or-map (λ (z : Column). z.frames) columns link d 0 is_link
 
@@ -66,7 +66,7 @@ module _ (cycles : ℕ) (columns : List Column) (link cycle octets : ℕ) (is_li
     abbrev old : Column
     old = get_or columns link d
 
-    -- what links have then
+    -- the frames of each link afterwards
     frames_then : (l : ℕ) → frames_by after l ≡ get_or (set (map (λ (z : Column). z.frames) columns) link new.frames) l 0
     frames_then l = ap (λ (zs : List Column). frames_by zs l) is ∙ ap (λ (ns : List ℕ). get_or ns l 0) (map-set (λ (z : Column). z.frames) columns link new)
 
@@ -159,7 +159,7 @@ module _ (cycles : ℕ) (columns : List Column) (link cycle octets : ℕ) (is_li
       ];
     }
 
--- what is added one after the other is added together, whatever its sums are called
+-- two additions, one after the other, are one addition of the sums, in any notation
 pub adds_then : (cycles : ℕ) (before between after : List Column) (f g h : ℕ → ℕ) (p q r : ℕ → ℕ → ℕ) → AddsFrame cycles before between f p →
     AddsFrame cycles between after g q → ((link : ℕ) → h link ≡ f link + g link) → ((link cycle : ℕ) → r link cycle ≡ p link cycle + q link cycle) →
     AddsFrame cycles before after h r
@@ -191,7 +191,7 @@ module _ {X : Type 0} (cycles : ℕ) (before now : List Column) (f : ℕ → X �
       (λ l. omega (arith, sum_by_more (f l) xs i x within, ap (f l) is))
       (λ l c. omega (arith, sum_by_more (p l c) xs i x within, ap (p l c) is))
 
-  -- where there is room for all, there is for it
+  -- if there is room for all, there is room for one more
   pub frames_next : (link : ℕ) → link < length now → ((l : ℕ) → l < length before → frames_by before l + sum_by (f l) xs < 2 ^ 64) →
       frames_by now link + f link x < 2 ^ 64
   frames_next link inside room =
@@ -205,7 +205,7 @@ module _ {X : Type 0} (cycles : ℕ) (before now : List Column) (f : ℕ → X �
       let there : link < length before = omega (arith, inside, so_far.as_many) in
       omega (arith, so_far.adds_octets link cycle there in_run, sum_by_more_le (p link cycle) xs i x within, ap (p link cycle) is, room link cycle there in_run)
 
-  -- columns stay as wide
+  -- columns keep their width
   pub width_next : (width : ℕ) → HaveWidth before width → HaveWidth now width
   width_next width wide link inside =
       let there : link < length before = omega (arith, inside, so_far.as_many) in
@@ -216,7 +216,7 @@ module _ (cycles : ℕ) (before now : List Column) (hops : List Hop) (first octe
     (is : hop ≡ get_or hops i hop) (deep : depth ≡ hop.depth)
     (so_far : AddsFrame cycles before now (λ l. sum_by (λ (h : Hop). counts_frames l cycles h.link (first + h.depth) octets) (take i hops))
     (λ l c. sum_by (λ (h : Hop). counts_in l c h.link (first + h.depth) octets) (take i hops))) where
-  -- what a hop counts
+  -- what a hop counts for
   abbrev frames_of : ℕ → Hop → ℕ
   frames_of l h = counts_frames l cycles h.link (first + h.depth) octets
 
@@ -244,11 +244,11 @@ module _ (cycles : ℕ) (before now : List Column) (hops : List Hop) (first octe
       (subst (λ (n : ℕ). AddsFrame cycles now after (λ l. counts_frames l cycles hop.link (first + n) octets)
       (λ l c. counts_in l c hop.link (first + n) octets)) deep one)
 
-  -- to columns that are as wide as they were
+  -- the columns are as wide as they were
   pub width_for_hop : (width : ℕ) → HaveWidth before width → HaveWidth now width
   width_for_hop width = width_next cycles before now frames_of octets_of hops i hop within is so_far width
 
--- no columns, and one more in which nothing is counted
+-- no columns are empty columns, and so are these with one more in which nothing is counted
 pub empty_none : (columns : List Column) (width : ℕ) → columns ≡ [] → AreEmptyColumns columns 0 width
 empty_none columns width none = record {
   all = ap length none;

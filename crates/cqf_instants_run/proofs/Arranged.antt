@@ -16,16 +16,16 @@ use Rattle.cqf_instants_run.specs.Frames.{by_instant, is_at, is_early}
 abbrev pub at_of : Backed → ℕ
 at_of x = x.background.at.0
 
--- a background frame of any instant
+-- a background frame at a given instant
 at_instant : ℕ → Backed
 at_instant t = record { frame = 0; background = record { at = record { 0 = t }; link = 0; class = 0; octets = 0 } }
 
--- which is its instant
+-- and that is its instant
 at_instants : (t : ℕ) → at_of (at_instant t) ≡ t
 unfolding at_instant
 at_instants t = refl
 
--- those before an end, sorted by instant, are the run's by instant
+-- the background frames before an end, sorted by instant, are the run's by instant
 pub arranged : (background : List Background) (end : ℕ) (early sorted : List Backed) → early ≡ filter (is_early end) (numbered_background background) →
     IsPermutation early sorted → IsNonDecreasingBy at_of sorted → IsStableByKey at_of nat_cmp early sorted → sorted ≡ by_instant background end
 arranged background end early sorted is moved ascends stable =
@@ -35,7 +35,7 @@ arranged background end early sorted is moved ascends stable =
     ap (filter (is_at t)) is
     ∙ sym (filter_weaker (is_at t) (is_early end) all (λ x c e. lt-ltb (at_of x) end (omega (arith, less, eqb-true (at_of x) t e)))))
   where
-    -- each of those before the end is
+    -- each of them is before the end
     before : (xs : List Backed) → xs ≡ filter (is_early end) (numbered_background background) → All (λ x. at_of x < end) xs
     before xs e = all_from_members (λ x. at_of x < end) xs (λ x c.
         ltb-true (at_of x) end (contains_from_filter (is_early end) (numbered_background background) x (subst (λ z. Contains z x) e c)).1)

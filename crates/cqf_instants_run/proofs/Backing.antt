@@ -1,4 +1,4 @@
--- When a run has ended its links' ports may take what their tapes give, and start of it the background frames that the network starts.
+-- When a run has ended, its links' ports may take what their tapes give, and then start the background frames that the network starts.
 use Rattle.std.proofs.Common.{◌≡◌, ℕ, ◌*◌, ◌^◌, ◌<◌, [], All, List, arith, sym, ap, ap₂, ◌∙◌, subst, length, get_or, map}
 use Rattle.std.proofs.lemmas.Simd.{map-map}
 use Rattle.cqf_model.specs.declared.frames.Backed.{Backed}
@@ -40,17 +40,17 @@ module _ (d : Domain) (end : ℕ) (background : List Background) (tapes : List T
   accepted : IsAccepted d
   accepted = subst IsAccepted t.of_domain t.legal.accepted
 
-  -- the background frames may be handed to it
+  -- the background frames are allowed
   behind : AreBackground d background
   behind =
       subst (λ (xs : List Background). AreBackground d xs) t.backed
       (subst (λ (e : Domain). AreBackground e run.background) t.of_domain t.legal.background)
 
-  -- what the links carry stands in order
+  -- what the links carry is in order
   turn : IsInTurn d (length run.tables) net.carried
   turn = subst (λ (e : Domain). IsInTurn e (length run.tables) net.carried) t.of_domain (run_in_turn run net t.legal)
 
-  -- a tape's streams' frames come as what its link carries
+  -- a tape's streams' frames arrive as what its link carries
   marks_are : (l : ℕ) → l < length d.links → map (arrival_of_mark d) (starts_at tapes l) ≡ map (arrival_of_sent d) (net.carried l)
   marks_are l is_link = ap (map (arrival_of_mark d)) (t.starts l is_link) ∙ map-map (arrival_of_mark d) mark_of_sent (net.carried l)
 
@@ -74,7 +74,7 @@ module _ (d : Domain) (end : ℕ) (background : List Background) (tapes : List T
         subst (λ (n : ℕ). Backs run.domain n l (fed (frames_fed_on l frames) (map (arrival_of_sent run.domain) (net.carried l))) (net.backed l)) (sym is)
         (backs_there gives law run net t.legal frames by_run l inside)) end t.ends is_link)
       where
-        -- the same of a domain
+        -- the same for a domain
         At : Domain → Type 0
         At x = (e : ℕ) → e ≡ length run.tables * x.cycle_time → l < length x.links →
             Backs x e l (fed (frames_fed_on l frames) (map (arrival_of_sent x) (net.carried l))) (net.backed l)
@@ -84,7 +84,7 @@ module _ (d : Domain) (end : ℕ) (background : List Background) (tapes : List T
       list_is : (l : ℕ) → l < length d.links → get_or lists l [] ≡ frames_fed_on l frames
       list_is l is_link = given.each l [] is_link ∙ fed-nil (frames_fed_on l frames)
 
-      -- so with its tape's streams' frames behind them its port may take them
+      -- followed by its tape's streams' frames, the port may take it
       tape_taken : (l : ℕ) → l < length lists → AreTaken (fed (get_or lists l []) (map (arrival_of_mark d) (starts_at tapes l)))
       tape_taken l inside =
           let is_link : l < length d.links = omega (arith, inside, given.one_each) in
@@ -92,7 +92,7 @@ module _ (d : Domain) (end : ℕ) (background : List Background) (tapes : List T
           subst AreTaken (ap₂ fed (sym (list_is l is_link)) (sym (marks_are l is_link)))
           (may_take d (length run.tables) net.carried background frames accepted soon turn behind (by ∙ ap (by_instant background) t.ends) l is_link)
 
-      -- and the tape gets of it what the network starts
+      -- and the tape gets what the network starts
       tape_backed : GateGivesClass → PortStartsTheBackground → (l : ℕ) → l < length d.links →
           Backs d end l (fed (get_or lists l []) (map (arrival_of_mark d) (starts_at tapes l))) (net.backed l)
       tape_backed gives law l is_link =

@@ -1,4 +1,4 @@
--- The drops of offers by place, and what they are of.
+-- The drops of offers by index, and their properties.
 use Rattle.std.proofs.Common.{◌≡◌, ℕ, ◌+◌, ◌<◌, [], ◌∷◌, List, Bool, true, false, Option, Some, None, ap, ap₂, ◌∙◌, subst, arith, refl, lt-ltb, ltb-true}
 use Rattle.std.proofs.Common.{All, AllPairs, Contains, length, nat_lt, if◌then◌else◌}
 use Rattle.std.specs.Prelude.{slice_get}
@@ -24,7 +24,7 @@ abbrev pub drop_of_offer : ℕ → ℕ → Offer → Reason → Dropped
 drop_of_offer cycle frame offer reason =
     record { cycle = record { 0 = cycle }; bridge = offer.bridge; frame = frame; octets = offer.octets; reason = reason }
 
--- it is one by the verdict at the offer's place
+-- it is a drop by the verdict at the offer's index
 pub record IsJudgedDrop (cycle_time cycles : ℕ) (offers : List Offer) (edge_verdicts : List EdgeVerdict) (place : ℕ) (x : Dropped) : Type 0 where
   pub offer : Offer
   pub at : slice_get offers place ≡ Some offer
@@ -34,7 +34,7 @@ pub record IsJudgedDrop (cycle_time cycles : ℕ) (offers : List Offer) (edge_ve
   pub is : drop_of_offer (cycle_at cycle_time offer.at.0) (place + 1) offer reason ≡ x
 
 module _ (cycle_time cycles : ℕ) (offers : List Offer) (edge_verdicts : List EdgeVerdict) where
-  -- each drop is one
+  -- each drop is one by a verdict
   from_judged : (place : ℕ) (offer : Offer) (j : EdgeVerdict) (early : Bool) (x : Dropped) → slice_get offers place ≡ Some offer →
       slice_get edge_verdicts place ≡ Some j → nat_lt (cycle_at cycle_time offer.at.0) cycles ≡ early →
       Contains (where_any (if early then drop_judged (cycle_at cycle_time offer.at.0) (place + 1) offer j else None)) x →
@@ -55,7 +55,7 @@ module _ (cycle_time cycles : ℕ) (offers : List Offer) (edge_verdicts : List E
       IsJudgedDrop cycle_time cycles offers edge_verdicts place x
   drop_is_judged place x c = from_both place (slice_get offers place) (slice_get edge_verdicts place) x refl refl c
 
-  -- and what is judged so is a drop
+  -- and an offer with such a verdict has a drop
   pub judged_is_drop : (place : ℕ) (offer : Offer) (reason : Reason) → slice_get offers place ≡ Some offer →
       slice_get edge_verdicts place ≡ Some (edge_verdict.Dropped reason) → cycle_at cycle_time offer.at.0 < cycles →
       drop_at cycle_time cycles offers edge_verdicts place ≡ drop_of_offer (cycle_at cycle_time offer.at.0) (place + 1) offer reason ∷ []
@@ -64,7 +64,7 @@ module _ (cycle_time cycles : ℕ) (offers : List Offer) (edge_verdicts : List E
       ap₂ (λ (o : Option Offer) (j : Option EdgeVerdict). drop_by_both cycle_time cycles (place + 1) o j) at made
       ∙ ap where_any (cond-true (nat_lt cycle cycles) (Some (drop_of_offer cycle (place + 1) offer reason)) None (lt-ltb cycle cycles in_run))
 
-  -- there is one at most at a place
+  -- there is at most one drop at an index
   one_there : (R : Dropped → Dropped → Type 0) (drop : Option Dropped) → AllPairs R (where_any drop)
   one_there R None = pairs_none R
   one_there R (Some drop) = pairs_one R drop
@@ -75,7 +75,7 @@ module _ (cycle_time cycles : ℕ) (offers : List Offer) (edge_verdicts : List E
   one_of_both R frame (Some offer) None = pairs_none R
   one_of_both R frame (Some offer) (Some j) = one_there R (drop_within cycle_time cycles frame offer j)
 
-  -- those of the places below one
+  -- the drops below an index
   abbrev pub by_place : ℕ → List Dropped
   by_place many = each_below (drop_at cycle_time cycles offers edge_verdicts) many
 

@@ -1,4 +1,4 @@
--- The starts of a run on a link are what the link carries, each in its turn.
+-- The starts of a run on a link are what the link carries, in order.
 use Rattle.std.proofs.Common.{◌≡◌, ℕ, ◌<◌, ◌==◌, sym, ap, ◌∙◌, arith, Contains, filter, map, length, eq-eqb}
 use Rattle.std.proofs.Common.{eqb-true, ne_eqb}
 use Rattle.std.proofs.lemmas.Simd.{map-map}

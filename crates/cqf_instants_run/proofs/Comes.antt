@@ -1,4 +1,4 @@
--- What comes to a port in a run is told by its class, and what of it is background is the link's background frames by instant.
+-- What arrives at a port in a run is recognised by its class, and its background part is the link's background frames by instant.
 use Rattle.std.proofs.Common.{◌≡◌, ℕ, zero, suc, ◌+◌, ◌*◌, ◌/◌, ◌<◌, ◌≤◌, ◌==◌, ◌++◌, All, true, false, List, inl, inr, sym, ap, ap₂, ◌∙◌, subst, arith}
 use Rattle.std.proofs.Common.{Contains, filter, is_some, map, length, append-nil}
 use Rattle.std.proofs.lemmas.Bool.{false≢true}
@@ -23,17 +23,17 @@ use Rattle.cqf_laws_shift.proofs.QueuesByCycles.{comes_of, streams_that_come}
 use Rattle.cqf_instants_run.specs.Frames.{by_instant, is_at}
 use Rattle.cqf_instants_run.specs.Feeding.{arrival_of_frame, backs_among, frames_fed_on, is_background, is_frame_on}
 
--- lists of stretches of one length end to end
+-- lists of sections of one length, end to end
 stretches : {X : Type 0} (f : ℕ → List X) (n cycles : ℕ) → each_below (λ c. each_below (λ k. f (c * n + k)) n) cycles ≡ each_below f (cycles * n)
 stretches f n zero = ap (each_below f) (nothing n)
   where
-    -- no stretch has no length
+    -- no section has no length
     nothing : (n : ℕ) → 0 ≡ 0 * n
     nothing n = omega arith
 stretches f n (suc c) =
     ap (λ xs. xs ++ each_below (λ k. f (c * n + k)) n) (stretches f n c) ∙ sym (below_plus f (c * n) n) ∙ ap (each_below f) (one_more c n)
   where
-    -- one stretch more
+    -- one more section
     one_more : (c n : ℕ) → c * n + n ≡ suc c * n
     one_more c n = omega arith
 
@@ -46,7 +46,7 @@ module _ (gives : GateGivesClass) (run : Run) (net : Network) (legal : IsLegalRu
   some : 0 < run.domain.cycle_time
   some = omega (arith, legal.accepted.cycle_least)
 
-  -- what comes to the port
+  -- what arrives at the port
   abbrev comes : List QueuedFrame
   comes = comes_before run net.carried l (length run.tables)
 
@@ -57,7 +57,7 @@ module _ (gives : GateGivesClass) (run : Run) (net : Network) (legal : IsLegalRu
       let given = gives d.cycle_time from.row.octets from.row.pace (depth_behind from.row (came_by from.p.received.way)) from.p.received.at some in
       omega (arith, ap (λ (z : QueuedFrame). z.arrival.class) from.is, given, gives_streams (from.p.received.at / d.cycle_time))
 
-  -- so what comes is told by its class
+  -- so what arrives is recognised by its class
   pub told : All IsToldByClass comes
   told = all_from_members IsToldByClass comes (λ q c. elim (comes_of run net.carried l (length run.tables) q c) [
     | inl back ↦
@@ -77,14 +77,14 @@ module _ (gives : GateGivesClass) (run : Run) (net : Network) (legal : IsLegalRu
       let x = contains_from_map backed_frame (filter (is_backed_at l (c * d.cycle_time + k.0)) (numbered_background run.background)) q k.2 in
       ap is_background (sym x.2)
 
-  -- and a queued one of one
+  -- and a queued one is of a stream
   queued_some : (c : ℕ) (q : QueuedFrame) → Contains (queued_in run net.carried l c) q → is_background q ≡ false
   queued_some c q m =
       let end = (c + 1) * d.cycle_time in
       let kept = contains_from_filter (λ (x : QueuedFrame). cycle_of d x.arrival.at.0 == c) (queued_before run net.carried l end) q m in
       ap is_background (sym (queued_from d l (policed_before run net.carried (bridge_of d l) end) q kept.0).is)
 
-  -- so the background frames that come are the link's of each cycle
+  -- so the background frames that arrive are the link's of each cycle
   backs_by_cycle : filter is_background comes ≡ each_below (backed_in d run.background l) (length run.tables)
   backs_by_cycle =
       filter_below is_background (comes_in run net.carried l) (length run.tables)

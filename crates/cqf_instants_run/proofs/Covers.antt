@@ -27,7 +27,7 @@ use Rattle.cqf_instants_run.specs.declared.judged.Used.{Used}
 use Rattle.cqf_instants_run.specs.Begun.{IsLastBegun, LeadsToLast}
 use Rattle.cqf_instants_run.specs.Coverage.{AreJudged, JudgedFor, queued_as, used_at, used_in, verdict_of}
 
--- what the offers below a place have used of each live row, in a cycle
+-- what the offers below an index have used of each live row in a cycle
 abbrev pub AreUsed : Domain → List Recorded → List Row → List Offer → ℕ → ℕ → List Used → Type 0
 AreUsed d entries rows offers place cycle used = (k : ℕ) (row : Row) → slice_get rows k ≡ Some row → is_live row cycle ≡ true → cycle < seals entries →
     taken_by d row cycle (take place (numbered offers)) ≡ used_at used cycle k
@@ -38,7 +38,7 @@ pub record IsFor (d : Domain) (entries : List Recorded) (rows : List Row) (offer
   pub judged : AreJudged d entries rows offers place edge_verdicts
   pub counted : AreUsed d entries rows offers place cycle used
 
--- by a cycle, the last of the offers below a place
+-- the same by a cycle, the last one of the offers below an index
 pub record CoversTo (d : Domain) (rows : List Row) (offers : List Offer) (place begun : ℕ) (place_of : List ℕ → Option ℕ) (used : List Used)
     (edge_verdicts : List EdgeVerdict) : Type 0 where
   pub within : begun ≤ length rows
@@ -51,7 +51,7 @@ pub record CoversTo (d : Domain) (rows : List Row) (offers : List Offer) (place 
   pub stamps : (k : ℕ) (u : Used) → slice_get used k ≡ Some u → u.cycle ≤ cycle
   pub for_each : (entries : List Recorded) → IsLegalHistory d entries → streams_of d entries ≡ rows → IsFor d entries rows offers place cycle used edge_verdicts
 
--- the offer at a place, with its number
+-- the offer at an index, with its number
 pub numbered_at : (offers : List Offer) (p : ℕ) (offer : Offer) → slice_get offers p ≡ Some offer →
     slice_get (numbered offers) p ≡ Some (record { frame = p + 1; offer = offer })
 numbered_at offers p offer at =
@@ -89,7 +89,7 @@ fresh used cycle later k stamps less inside =
     ap (λ b. if b then u.octets else 0)
     (ne_eqb u.cycle later (λ e. omega (arith, e, less, stamps k u (slice_get-get_or used k none inside))))
 
--- what a row's verdict does to its own counter, and to another
+-- the effect of a row's verdict on its own counter, and on another
 pub own_counter : (cycle place : ℕ) (before after : List Used) (j : EdgeVerdict) (live begins fits : Bool) (n : ℕ) → live ≡ true → place < length before →
     JudgedFor cycle place before after j (if not live then Err Withdrawn
     else (if not begins then Err OtherBridge else (if not fits then Err Octets else Ok n))) →
@@ -112,7 +112,7 @@ other_counter cycle place k before after j (Ok n) other by_row =
     ap (λ us. used_at us cycle k) by_row.1
     ∙ ap (used_in cycle) (get_or-set_other before place k (record { cycle = cycle; octets = n }) none other)
 
--- and what it says
+-- and the verdict itself
 pub own_verdict : (rows : List Row) (cycle place : ℕ) (row : Row) (before after : List Used) (j : EdgeVerdict) (live begins fits also_fits : Bool) (n : ℕ) →
     slice_get rows place ≡ Some row → (live ≡ true → fits ≡ also_fits) →
     JudgedFor cycle place before after j (if not live then Err Withdrawn
@@ -131,7 +131,7 @@ own_verdict rows cycle place row before after j true true fits also_fits n at sa
     by false e by_row =
         ap (verdict_of rows cycle) by_row.0 ∙ ap (λ b. if not b then DroppedFor Octets else Queued (as_of cycle row)) e
 
--- what stands as often as one likes stands at each place
+-- a replicated element is at each index
 same_there : {X : Type 0} (n k : ℕ) (v : X) → get_or (replicate n v) k v ≡ v
 same_there zero k v = refl
 same_there (suc n) zero v = refl
@@ -163,7 +163,7 @@ covers_none d rows offers place_of used edge_verdicts nowhere none none_judged =
       };
     }
 
--- and behind the last all are
+-- and after the last offer all are judged
 pub covers_all : (d : Domain) (rows : List Row) (offers : List Offer) (place begun : ℕ) (place_of : List ℕ → Option ℕ) (used : List Used)
     (edge_verdicts : List EdgeVerdict) → place ≡ length offers → CoversTo d rows offers place begun place_of used edge_verdicts →
     (entries : List Recorded) → IsLegalHistory d entries → streams_of d entries ≡ rows → AreJudged d entries rows offers (length offers) edge_verdicts

@@ -1,4 +1,4 @@
--- The drops by verdicts, in order, are those of the book of each history by which the offers are judged so.
+-- The drops by verdicts, in order, are those of the book of each history that judges the offers by these verdicts.
 use Rattle.std.proofs.Common.{◌≡◌, ℕ, suc, ◌+◌, ◌*◌, ◌≤◌, ◌<◌, [], ◌∷◌, ◌++◌, ◌==◌, ◌&&◌, List, Bool, true, false}
 use Rattle.std.proofs.Common.{Option, Some, None, sym, ap, ◌∙◌, subst, arith, refl, eq-eqb, eqb-true, ne_eqb}
 use Rattle.std.proofs.Common.{AllPairs, Contains, filter, get_or, length}
@@ -41,7 +41,7 @@ use Rattle.cqf_instants_run.specs.Drops.{AreDropsBy, drop_at}
 use Rattle.cqf_instants_run.proofs.ByPlace.{by_place, drop_is_judged, drop_of_offer, frames_ascend, judged_is_drop}
 use Rattle.cqf_laws_coverage.proofs.Single.{IsDropOf, drop_of_place, one_drop}
 
--- so many offers have so many numbers
+-- there are as many numbers as offers
 many_numbers : (offers : List Offer) → length (numbered offers) ≡ length offers
 many_numbers offers =
     length-map (enumerate_from 1 offers) (λ (z : ℕ × Offer). record { frame = z.0; offer = z.1 }) ∙ length-enumerate_from 1 offers
@@ -57,7 +57,7 @@ module _ (decide : OffersAreJudged) (d : Domain) (entries : List Recorded) (offe
   tables_count : length (tables_of d entries cycles) ≡ cycles
   tables_count = length-singles (table_at d entries) cycles
 
-  -- the offer at a place, with its number
+  -- the offer at an index, with its number
   abbrev placed : ℕ → Offer → Offered
   placed place offer = record { frame = place + 1; offer = offer }
 
@@ -89,7 +89,7 @@ module _ (decide : OffersAreJudged) (d : Domain) (entries : List Recorded) (offe
         octets = refl;
       })
 
-  -- one that isn't covered is judged so
+  -- an offer that isn't covered has such a verdict
   judged_so : (x : Offered) (cycle : ℕ) (reason : Reason) (j : EdgeVerdict) → IsUncovered run x reason → IsDecided run x (verdict_of rows cycle j) →
       j ≡ edge_verdict.Dropped reason
   judged_so x cycle reason (edge_verdict.Dropped other) uncovered decided =
@@ -141,7 +141,7 @@ module _ (decide : OffersAreJudged) (d : Domain) (entries : List Recorded) (offe
     abbrev many : ℕ
     many = length (tables_of d entries cycles)
 
-    -- what becomes of the frames that come to a bridge
+    -- the verdicts on the frames that arrive at a bridge
     abbrev given : ℕ → List Policed
     given bridge = policed_before run is_book.is_book.net.carried bridge (many * d.cycle_time)
 
@@ -149,7 +149,7 @@ module _ (decide : OffersAreJudged) (d : Domain) (entries : List Recorded) (offe
     abbrev in_cycle : ℕ → List Dropped
     in_cycle cycle = each_below (drops_in d (length offers) given cycle) (length d.bridges)
 
-    -- a test for a cycle, a bridge and the number of a place says what a drop has
+    -- a test for a cycle, a bridge and the number of an index tells what a drop has
     has_keys : (cycle bridge place : ℕ) (x : Dropped) → is_drop_of cycle bridge (place + 1) x ≡ true → IsDropOf cycle bridge place x
     has_keys cycle bridge place x e =
         let first = and_parts (x.cycle.0 == cycle) ((x.bridge == bridge) && (x.frame == place + 1)) e in
@@ -194,7 +194,7 @@ module _ (decide : OffersAreJudged) (d : Domain) (entries : List Recorded) (offe
         (subst (λ n. Contains (drops_at d given by_cycle.0 n place) x) same_bridge
         (subst (λ n. Contains (drops_at d given by_cycle.0 by_bridge.0 n) x) same_place at.2))
 
-    -- so each offer has the same
+    -- so for each offer the drops are the same
     at_one_place : (cycle bridge place : ℕ) → cycle < many → bridge < length d.bridges → place < length offers →
         drops_at d given cycle bridge place ≡ filter (is_drop_of cycle bridge (place + 1)) by_edge_verdicts
     at_one_place cycle bridge place in_run is_bridge is_place =
@@ -226,7 +226,7 @@ module _ (decide : OffersAreJudged) (d : Domain) (entries : List Recorded) (offe
         none_of_both true false = refl
         none_of_both false b = refl
 
-    -- so each bridge has
+    -- so for each bridge
     at_one_bridge : (cycle bridge : ℕ) → cycle < many → bridge < length d.bridges →
         drops_in d (length offers) given cycle bridge ≡ each_below (λ frame. filter (is_drop_of cycle bridge frame) by_edge_verdicts) (length offers + 1)
     at_one_bridge cycle bridge in_run is_bridge =
@@ -238,7 +238,7 @@ module _ (decide : OffersAreJudged) (d : Domain) (entries : List Recorded) (offe
         ∙ sym (first_below by (length offers))
         ∙ ap (each_below by) next
 
-    -- and so the book
+    -- and so for the book
     pub ordered_is_book : in_book_order cycles (length d.bridges) (length offers + 1) by_edge_verdicts ≡ book.drops
     ordered_is_book =
         ap (λ n. in_book_order n (length d.bridges) (length offers + 1) by_edge_verdicts) (sym tables_count)

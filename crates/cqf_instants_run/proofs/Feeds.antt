@@ -15,17 +15,17 @@ use Rattle.cqf_model.specs.declared.ports.Arrival.{Arrival}
 use Rattle.cqf_instants_run.specs.Feeding.{AddsStart, AreFed, arrival_of_frame, arrival_of_start, fed, frames_fed_on, streams_fed_on}
 use Rattle.cqf_instants_run.proofs.Starting.{given_whole}
 
--- with no streams' frames a port is given its background frames
+-- without streams' frames a port is given its background frames
 pub fed-nil : (frames : List Arrival) → fed frames [] ≡ frames
 fed-nil [] = refl
 fed-nil (x ∷ frames) = ap (λ z. x ∷ z) (append-nil frames)
 
--- and with more, more
+-- more streams' frames are appended
 fed-more : (frames streams more : List Arrival) → fed (fed frames streams) more ≡ fed frames (streams ++ more)
 fed-more [] streams more = refl
 fed-more (x ∷ frames) streams more = ap (λ z. x ∷ z) (append_assoc frames streams more)
 
--- what isn't 0 is more
+-- a number that isn't 0 is positive
 pub some_in : (n : ℕ) → (n == 0) ≡ false → 0 < n
 some_in zero e = absurd (true≢false e)
 some_in (suc n) e = omega arith
@@ -34,7 +34,7 @@ some_in (suc n) e = omega arith
 abbrev link_of : Backed → ℕ
 link_of x = x.background.link
 
--- with a background frame more its arrival is put to its link
+-- one more background frame is appended to its link's list
 pub AreFed-frame : (links : ℕ) (frames more : List Backed) (x : Backed) (before after : List (List Arrival)) → more ≡ frames ++ x ∷ [] →
     AddsTo before after x.background.link (arrival_of_frame x) → AreFed frames [] links before → AreFed more [] links after
 AreFed-frame links frames more x before after is adds h = record {
@@ -42,14 +42,14 @@ AreFed-frame links frames more x before after is adds h = record {
   each = λ link none below. grown.each link none below ∙ sym (fed-nil (frames_fed_on link more));
 }
   where
-    -- with no streams' frames, the lists are those of the background frames
+    -- without streams' frames, the lists are those of the background frames
     grown : AreListsBy (made_by_key link_of arrival_of_frame more) links after
     grown = listed_by_key link_of arrival_of_frame frames more x links before after is adds (record {
       one_each = h.one_each;
       each = λ link none below. h.each link none below ∙ fed-nil (frames_fed_on link frames);
     })
 
--- what a start has on its link
+-- what a start adds on its link
 start_here : (s : Started) (link : ℕ) → (s.link == link) ≡ true → streams_fed_on link (s ∷ []) ≡ arrival_of_start s ∷ []
 start_here = made_here (λ (s : Started). s.link) arrival_of_start
 
@@ -57,7 +57,7 @@ start_here = made_here (λ (s : Started). s.link) arrival_of_start
 start_elsewhere : (s : Started) (link : ℕ) → (s.link == link) ≡ false → streams_fed_on link (s ∷ []) ≡ []
 start_elsewhere = made_elsewhere (λ (s : Started). s.link) arrival_of_start
 
--- where a link's port is given nothing a start is passed by
+-- if a link's port is given nothing, a start is skipped
 pub AddsStart-none : (lists : List (Vec Arrival Global)) (place : ℕ) (list d : Vec Arrival Global) (s : Started) → place ≡ s.link → place < length lists →
     list ≡ get_or lists place d → length list.items ≡ 0 → AddsStart (lists_of lists) (lists_of lists) s
 AddsStart-none lists place list d s is below at empty = record { as_many = refl; each = λ link none inside. by link none (s.link == link) refl }
@@ -73,7 +73,7 @@ AddsStart-none lists place list d s is below at empty = record { as_many = refl;
         nothing ∙ ap (λ z. fed z (streams_fed_on link (s ∷ []))) (sym nothing)
     by link none false e = sym (fed-nil (get_or (lists_of lists) link none)) ∙ ap (fed (get_or (lists_of lists) link none)) (sym (start_elsewhere s link e))
 
--- and where it is given something the start stands behind it
+-- if it is given something, the start is appended
 pub AddsStart-some : (lists : List (Vec Arrival Global)) (after : List (List Arrival)) (place : ℕ) (list d : Vec Arrival Global) (s : Started)
     → place ≡ s.link → place < length lists →
     list ≡ get_or lists place d → 0 < length list.items → AddsTo (lists_of lists) after s.link (arrival_of_start s) → AddsStart (lists_of lists) after s
@@ -95,7 +95,7 @@ AddsStart-some lists after place list d s is below at some adds =
         adds.others link none (apart_from_key (λ (x : Started). x.link) arrival_of_start s link e) ∙ sym (fed-nil (get_or (lists_of lists) link none))
         ∙ ap (fed (get_or (lists_of lists) link none)) (sym (start_elsewhere s link e))
 
--- with a start more each link's port is given what it adds
+-- with one more start each link's port is given what it adds
 pub AreFed-start : (links : ℕ) (frames : List Backed) (starts more : List Started) (s : Started) (before after : List (List Arrival)) → more
     ≡ starts ++ s ∷ [] →
     AddsStart before after s → AreFed frames starts links before → AreFed frames more links after

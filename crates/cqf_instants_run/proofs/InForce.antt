@@ -1,4 +1,4 @@
--- The row of a name that is in force, among all rows: the last that has begun, where it is held.
+-- The row of a name that is in force, among all rows: the last one that has begun, if it is held.
 use Rattle.std.proofs.Common.{◌≡◌, ℕ, suc, zero, ◌+◌, ◌<◌, ◌≤◌, ◌∷◌, [], List, Bool, true, false, Option, Some, None}
 use Rattle.std.proofs.Common.{inl, inr, refl, sym, ap, ◌∙◌, subst, arith, length, find, AllPairs, get_or, nat_le}
 use Rattle.std.proofs.Common.{nat_lt, ◌&&◌, cond}
@@ -16,11 +16,11 @@ use Rattle.cqf_laws_coverage.specs.Rows.{EndsBefore}
 use Rattle.cqf_instants_run.specs.Begun.{IsHeldLast, IsInForce, IsLastBegun, IsLastOf, LeadsToLast}
 use Rattle.cqf_instants_run.proofs.LastRows.{one_there}
 
--- a number is no more than another or not
+-- a number is not at most a smaller one
 not_le : (a b : ℕ) → b < a → nat_le a b ≡ false
 not_le a b h = grind (arith, h)
 
--- the first that passes a test is at its place
+-- the first element that passes a test is at its index
 find_at : {X : Type 0} (test : X → Bool) (xs : List X) (k : ℕ) (x : X) → slice_get xs k ≡ Some x → test x ≡ true →
     ((j : ℕ) (y : X) → j < k → slice_get xs j ≡ Some y → test y ≡ false) → find test xs ≡ Some x
 find_at test [] k x at passes none = absurd (omega (arith, slice_get_within [] k x at))
@@ -29,7 +29,7 @@ find_at test (z ∷ zs) (suc k) x at passes none =
     ap (λ b. cond b (Some z) (find test zs)) (none zero z (omega arith) refl)
     ∙ find_at test zs k x at passes (λ j y l is. none (suc j) y (omega (arith, l)) is)
 
--- none is found where none passes
+-- if none passes, none is found
 find_none : {X : Type 0} (test : X → Bool) (xs : List X) → ((j : ℕ) (y : X) → slice_get xs j ≡ Some y → test y ≡ false) → find test xs ≡ None
 find_none test [] none = refl
 find_none test (z ∷ zs) none =
@@ -39,7 +39,7 @@ find_none test (z ∷ zs) none =
 late : (row : Row) (cycle : ℕ) → cycle < row.admitted.0 → is_held row cycle ≡ false
 late row cycle h = ap (λ b. b && option_map_or (λ (w : Cycle). nat_lt cycle (w.0 + residence row)) row.withdrawn true) (not_le row.admitted.0 cycle h)
 
--- nor is what has ended
+-- a row that has ended isn't held either
 over : (row : Row) (cycle : ℕ) (end : Cycle) → row.withdrawn ≡ Some end → end.0 + residence row ≤ cycle → is_held row cycle ≡ false
 over row cycle end is h =
     ap (λ o. nat_le row.admitted.0 cycle && option_map_or (λ (w : Cycle). nat_lt cycle (w.0 + residence row)) o true) is
@@ -50,7 +50,7 @@ over row cycle end is h =
     and_false true = refl
     and_false false = refl
 
--- the row to which a place leads
+-- the row at an optional index
 abbrev pub row_there : List Row → Option ℕ → Option Row
 row_there rows None = None
 row_there rows (Some place) = slice_get rows place
@@ -64,7 +64,7 @@ module _ (rows : List Row) (begun cycle : ℕ) (name : List ℕ)
   abbrev test : Row → Bool
   test row = is_text row.name name && is_held row cycle
 
-  -- no row behind those that have begun is held
+  -- no row after those that have begun is held
   behind : (j : ℕ) (y : Row) → begun ≤ j → slice_get rows j ≡ Some y → is_held y cycle ≡ false
   behind j y from at = elim (cases_eq begun j) [
     | inl e ↦ late y cycle (next y (ap (slice_get rows) e ∙ at))
@@ -90,7 +90,7 @@ module _ (rows : List Row) (begun cycle : ℕ) (name : List ℕ)
   not_named : (y : Row) → is_text y.name name ≡ false → test y ≡ false
   not_named y f = ap (λ b. b && is_held y cycle) f
 
-  -- one of the name before the last has ended
+  -- a row of the name before its last one has ended
   before_last : (place : ℕ) (last : IsLastOf rows begun name place) (j : ℕ) (y : Row) → j < place → slice_get rows j ≡ Some y →
       is_text y.name name ≡ true → is_held y cycle ≡ false
   before_last place last j y l at named =
@@ -102,7 +102,7 @@ module _ (rows : List Row) (begun cycle : ℕ) (name : List ℕ)
       (follow j place y l (slice_get_within rows place last.row last.is))) names in
       over y cycle ends.end ends.is (omega (arith, ends.over, begun_by place last.row last.below last.is))
 
-  -- where the last is known
+  -- if the last one is known
   one : (place : ℕ) → IsHeldLast rows begun name cycle place → find test rows ≡ slice_get rows place
   one place held =
       find_at test rows place held.last.row held.last.is (both (is_text held.last.row.name name) (is_held held.last.row cycle) held.last.named held.held)
@@ -115,7 +115,7 @@ module _ (rows : List Row) (begun cycle : ℕ) (name : List ℕ)
       both true b p q = q
       both false b p q = absurd cc
 
-  -- and where it isn't held, or there is none
+  -- and if it isn't held, or there is none
   none : (o : Option ℕ) → IsLastBegun rows begun name o → IsInForce rows begun name cycle None → (j : ℕ) (y : Row) → slice_get rows j ≡ Some y → test y ≡ false
   none o leads in_force j y at = elim (cases_lt j begun) [
     | inr from ↦ not_held y (behind j y from at)

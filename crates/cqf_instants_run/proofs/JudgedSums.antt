@@ -1,4 +1,4 @@
--- Where the verdicts are what the definitions say, so are the sums.
+-- If the verdicts are those of the definitions, so are the sums.
 use Rattle.std.proofs.Common.{◌≡◌, ℕ, ◌+◌, ◌-◌, ◌<◌, ◌≤◌, List, Some, inl, inr, sym, ap, ◌∙◌, subst, arith, length}
 use Rattle.std.proofs.Common.{sum_by, get_or, Contains, le-ltb, ne_eqb, ◌==◌, nat_lt}
 use Rattle.std.specs.Prelude.{slice_get}
@@ -36,7 +36,7 @@ module _ (d : Domain) (cycles : ℕ) (counts : ℕ → ℕ → ℕ → ℕ) (lat
   abbrev of : (Offered → Verdict) → Offered → ℕ
   of verdict x = sum_by (λ (hop : Hop). counts hop.link (offer_cycle d x + hop.depth) x.offer.octets) (hops_of (verdict x))
 
-  -- behind the cycles nothing
+  -- nothing after the cycles
   none : (verdict : Offered → Verdict) (x : Offered) → cycles ≤ offer_cycle d x → of verdict x ≡ 0
   none verdict x late =
       sum_none (λ (hop : Hop). counts hop.link (offer_cycle d x + hop.depth) x.offer.octets) (hops_of (verdict x))
@@ -51,7 +51,7 @@ module _ (d : Domain) (cycles : ℕ) (counts : ℕ → ℕ → ℕ → ℕ) (lat
 
 module _ (d : Domain) (entries : List Recorded) (rows : List Row) (offers : List Offer) (edge_verdicts : List EdgeVerdict)
     (judged : AreJudged d entries rows offers (length offers) edge_verdicts) (cycles : ℕ) (closed : cycles ≤ seals entries) where
-  -- the verdict at an offer's place is the verdict on it
+  -- the verdict at an offer's index is the verdict on it
   pub at_place : (x : Offered) → Contains (numbered offers) x → offer_cycle d x < cycles → verdict_at d rows edge_verdicts x ≡ judged_of d entries offers x
   at_place x c early =
       let k = c.0 in

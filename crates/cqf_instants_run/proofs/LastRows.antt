@@ -10,11 +10,11 @@ use Rattle.cqf_model.specs.Domain.{is_text}
 use Rattle.cqf_model.proofs.Texts.{is_text_itself, is_text_same, pointwise-is_text}
 use Rattle.cqf_instants_run.specs.Begun.{Begins, HasBegun, HaveNone, IsLastBegun, IsLastOf, LeadsToLast}
 
--- one row stands at a place
+-- there is only one row at an index
 pub one_there : (rows : List Row) (k : ℕ) (a b : Row) → slice_get rows k ≡ Some a → slice_get rows k ≡ Some b → a ≡ b
 one_there rows k a b p q = same_Some a b (sym p ∙ q)
 
--- names are compared alike in either order
+-- comparing names is symmetric
 pub same_name : (a b : List ℕ) → pointwise nat_eq a b ≡ is_text a b
 same_name a b = elim (cases_Bool (is_text a b)) [
   | inl t ↦ ap (λ z. pointwise nat_eq z b) (is_text_same a b t) ∙ pointwise-is_text b b ∙ is_text_itself b ∙ sym t
@@ -55,7 +55,7 @@ module _ (rows : List Row) (p : ℕ) (row : Row) (is : slice_get rows p ≡ Some
         (still name (place_of name) (leads name) f)
   ]
 
--- where all have begun there is no next one
+-- if all have begun, there is no next one
 pub begins_all : (rows : List Row) (from k cycle : ℕ) (place_of : List ℕ → Option ℕ) → length rows ≤ k → Begins rows from k cycle place_of →
     HasBegun rows from (length rows) cycle place_of
 begins_all rows from k cycle place_of all b = record {
@@ -66,7 +66,7 @@ begins_all rows from k cycle place_of all b = record {
     same : (a b : ℕ) → b ≤ a → a ≤ b → a ≡ b
     same a b above below = omega (arith, above, below)
 
--- there is one last row
+-- there is only one last row
 pub last_once : (rows : List Row) (begun : ℕ) (name : List ℕ) (p q : ℕ) → (a : IsLastOf rows begun name p) → (b : IsLastOf rows begun name q) → a.row ≡ b.row
 last_once rows begun name p q a b = elim (cases_eq p q) [
   | inl e ↦ one_there rows q a.row b.row (ap (slice_get rows) (sym e) ∙ a.is) b.is
@@ -79,7 +79,7 @@ last_once rows begun name p q a b = elim (cases_eq p q) [
     true_not_false : true ≡ false → ⊥
     true_not_false e = absurd cc
 
--- where a name leads nowhere no row of it is the last
+-- if a name leads nowhere, no row of it is the last
 pub none_last : (rows : List Row) (begun : ℕ) (name : List ℕ) (place : ℕ) → HaveNone rows begun name → IsLastOf rows begun name place → ⊥
 none_last rows begun name place none l = true_not_false (sym l.named ∙ none place l.row l.below l.is)
   where

@@ -1,4 +1,4 @@
--- Starts, background frames and drops of a history are its book.
+-- The starts, background frames and drops of a history are its book.
 use Rattle.std.proofs.Common.{◌≡◌, ℕ, ◌<◌, [], List, true, Option, Some, None, inl, inr, sym, ap, ◌∙◌, subst, arith, refl, is_some}
 use Rattle.std.proofs.Common.{Contains, get_or, length, map}
 use Rattle.std.specs.Prelude.{◌==◌, filter}
@@ -28,14 +28,14 @@ use Rattle.cqf_lists.proofs.EachBelow.{length-singles}
 use Rattle.cqf_laws_coverage.specs.Told.{BookOfHistoryIsThere, IsThere}
 use Rattle.cqf_instants_run.specs.Parts.{AreBookOfHistory, AreQuietBookOfHistory}
 
--- a frame of a stream starts no background frame
+-- a stream's frame starts no background frame
 streams_start_none : (t : ℕ) (x : Arrival) (stream : Option ℕ) → is_some stream ≡ true → backed_by t x stream ≡ []
 streams_start_none t x None e = absurd (false≢true e)
 streams_start_none t x (Some number) e = refl
 
--- where no background frames come, none starts
+-- if no background frame arrives, none starts
 module _ (run : Run) (quiet : run.background ≡ []) (net : Network) (legal : IsLegalRun run net) where
-  -- what comes to a port
+  -- what arrives at a port
   abbrev comes : ℕ → List QueuedFrame
   comes l = comes_before run net.carried l (length run.tables)
 
@@ -86,7 +86,7 @@ parts_are_book are_orderly is_there starts backed drops d entries offers backgro
     λ i. record { starts = sym first i; background = sym second i; drops = sym third i } in
     subst (IsThere d entries offers background cycles) same there
 
--- where no background frame comes, starts and drops are
+-- if there are no background frames, starts and drops are the book
 pub quiet_parts_are_book : (starts : List Started) (drops : List Dropped) (book : Contents) → AreBookOfHistory starts [] drops book →
     AreQuietBookOfHistory starts drops book
 quiet_parts_are_book starts drops book is d entries offers cycles accepted legal offered sealed are_starts are_drops =

@@ -40,13 +40,13 @@ empty_cell columns links width empty link cycle is_link =
       | inr past ↦ get_or_past (replicate width 0) cycle 0 (omega (arith, past, length-replicate {A = ℕ} width 0))
     ]
 
--- those below a place, and at most 200 frames for each on a link
+-- the offers below an index, and at most 200 frames for each on a link
 pub record AreCounted (d : Domain) (cycles : ℕ) (verdict : Offered → Verdict) (offers : List Offer) (place : ℕ) (before now : List Column) : Type 0 where
   pub adds : AddsFrame cycles before now (λ link. sum_of_hops d verdict (counts_frames link cycles) (take place (numbered offers)))
       (λ link cycle. sum_of_hops d verdict (counts_in link cycle) (take place (numbered offers)))
   pub few : (link : ℕ) → link < length before → frames_by now link ≤ 200 * place
 
--- the last offer is in no earlier cycle than another, so that no frame is under way 256 cycles behind it
+-- the last offer is in no earlier cycle than another, so no frame is sent 256 or more cycles after it
 pub wide : (cycle_time cycles : ℕ) (offers : List Offer) (last : Offer) (at width : ℕ) → 10000 ≤ cycle_time →
     All (λ (o : Offer). o.at.0 < 1000000000000) offers → StandInOrder offers → Some last ≡ slice_get offers (length offers - 1) →
     at ≡ cycle_at cycle_time last.at.0 → width ≡ min cycles (at + 256) → IsWide cycle_time cycles offers width
@@ -62,7 +62,7 @@ wide cycle_time cycles offers last at width time early order is cycle wide_is = 
       omega (arith, cycles_ordered cycle_time (get_or offers k d).at.0 last.at.0 (omega (arith, time)) ordered, cycle, wide_is, in_run, short);
 }
 
--- a hop counts once at most
+-- a hop counts at most once
 few_hops : (cycles link first octets : ℕ) (hops : List Hop) →
     sum_by (λ (h : Hop). counts_frames link cycles h.link (first + h.depth) octets) hops ≤ length hops
 few_hops cycles link first octets [] = omega arith
@@ -74,7 +74,7 @@ few_hops cycles link first octets (hop ∷ hops) =
       few_hops cycles link first octets hops,
     )
   where
-    -- two tests count one at most
+    -- two tests count at most one
     once : (a b : Bool) → (if a && b then 1 else 0) ≤ 1
     once true true = omega arith
     once true false = omega arith
@@ -93,14 +93,14 @@ module _ (d : Domain) (cycles : ℕ) (verdict : Offered → Verdict) (offers : L
   abbrev x : Offered
   x = record { frame = place + 1; offer = offer }
 
-  -- what it counts
+  -- what it counts for
   abbrev frames_of : ℕ → Offered → ℕ
   frames_of l y = sum_by (λ (h : Hop). counts_frames l cycles h.link (offer_cycle d y + h.depth) y.offer.octets) (hops_of (verdict y))
 
   abbrev octets_of : ℕ → ℕ → Offered → ℕ
   octets_of l c y = sum_by (λ (h : Hop). counts_in l c h.link (offer_cycle d y + h.depth) y.offer.octets) (hops_of (verdict y))
 
-  -- it stands at its place
+  -- it is at its index
   within : place < length (numbered offers)
   within = omega (arith, slice_get_within offers place offer at, numbered_all offers)
 
@@ -191,7 +191,7 @@ pub empty_for : (d : Domain) (links width : ℕ) (columns : List Column) → lin
     AreEmptyColumns columns (length d.links) width
 empty_for d links width columns same empty = subst (λ (n : ℕ). AreEmptyColumns columns n width) same empty
 
--- behind the last offer the columns have the sums
+-- after the last offer the columns have the sums
 pub counted_all : (d : Domain) (cycles : ℕ) (verdict : Offered → Verdict) (offers : List Offer) (place width : ℕ) (before now : List Column) →
     AreCounted d cycles verdict offers place before now → AreEmptyColumns before (length d.links) width → width ≤ cycles → length offers ≤ place →
     AreSumsBy d cycles verdict offers now

@@ -1,5 +1,5 @@
--- A port that is given streams' frames at the instants at which they started, and its background frames when they come, starts
--- everything as it did.
+-- A port starts everything as before if it is given streams' frames at the instants at which they started, and its background frames when
+-- they arrive.
 use Rattle.std.proofs.Common.{◌≡◌, ℕ, ◌<◌, ◌≤◌, ◌⊎◌, List, length, get_or, map, cond, inl, inr, sym, ap, ◌∙◌, subst, arith, Contains, le-leb}
 use Rattle.std.proofs.lemmas.Bool.{cases_lt, cases_order, cond-false, cond-true, lt-leb}
 use Rattle.cqf_units.specs.Timing.{ending_of, idle_after}
@@ -11,12 +11,12 @@ use Rattle.cqf_lists.proofs.Members.{contains_from_map, contains_map}
 use Rattle.cqf_lists.proofs.Pairs.{one_of_pairs, pairs_map}
 use Rattle.cqf_laws_cycle.specs.OnePort.{BackgroundAt, StreamsAt}
 
--- an arrival that comes at another instant
+-- an arrival at another instant
 abbrev pub retimed : ℕ → Arrival → Arrival
 retimed t x = record { at = record { 0 = t }; class = x.class; octets = x.octets; frame = x.frame }
 
--- a list has the background frames of another, and its streams' frames that started, each at the instant of its start: the
--- background frames at the places of one function, the streams' frames by their instants at those of another
+-- `alone` has the background frames of `mixed`, and its streams' frames that started, each at the instant of its start. `back_place` maps
+-- the indices of the background frames, and `stream_place` gives the index of a stream's frame from its instant
 pub record AreFedWith (mixed alone : List Arrival) (starts : List Transmission) (back_place stream_place : ℕ → ℕ) : Type 0 where
   pub back_inside : (p : ℕ) → p < length mixed → BackgroundAt mixed p → back_place p < length alone
   pub back_is : (p : ℕ) → p < length mixed → BackgroundAt mixed p → get_or alone (back_place p) no_arrival ≡ get_or mixed p no_arrival
@@ -27,21 +27,21 @@ pub record AreFedWith (mixed alone : List Arrival) (starts : List Transmission) 
   pub each : (k : ℕ) → k < length alone → ((p : ℕ) × (s : ℕ) × Contains starts (p, s) × StreamsAt mixed p × (stream_place s ≡ k))
       ⊎ ((p : ℕ) × (p < length mixed) × BackgroundAt mixed p × (back_place p ≡ k))
 
--- a start of the frame at a place
+-- a start of the frame at an index
 abbrev start_at : ℕ → ℕ → Transmission
 start_at p s = (p, s)
 
--- a start with its place in the other list
+-- the index of a start in the other list
 abbrev pub place_by : List Arrival → (ℕ → ℕ) → (ℕ → ℕ) → Transmission → ℕ
 place_by mixed back_place stream_place start = cond (is_streams (get_or mixed start.0 no_arrival)) (stream_place start.1) (back_place start.0)
 
--- and with its instant
+-- and the start with that index and its instant
 abbrev pub moved_by : List Arrival → (ℕ → ℕ) → (ℕ → ℕ) → Transmission → Transmission
 moved_by mixed back_place stream_place start = (place_by mixed back_place stream_place start, start.1)
 
 module _ (rules : PortRules) (mixed alone : List Arrival) (end : ℕ) (starts : List Transmission) (back_place stream_place : ℕ → ℕ)
     (are : AreFedWith mixed alone starts back_place stream_place) (legal : AreLegal rules mixed end starts) where
-  -- the place of a start in the other list
+  -- the index of a start in the other list
   abbrev place_of : Transmission → ℕ
   place_of = place_by mixed back_place stream_place
 
@@ -49,26 +49,26 @@ module _ (rules : PortRules) (mixed alone : List Arrival) (end : ℕ) (starts : 
   abbrev moved : List Transmission
   moved = map (moved_by mixed back_place stream_place) starts
 
-  -- a stream's start goes by its instant
+  -- for a stream's frame it depends on the instant
   of_stream : (p s : ℕ) → StreamsAt mixed p → place_of (p, s) ≡ stream_place s
   of_stream p s streams = cond-true (is_streams (get_or mixed p no_arrival)) (stream_place s) (back_place p) (le-leb 6 (class_of mixed p) streams)
 
-  -- and a background frame's by its place
+  -- and for a background frame on the index
   of_back : (p s : ℕ) → BackgroundAt mixed p → place_of (p, s) ≡ back_place p
   of_back p s back = cond-false (is_streams (get_or mixed p no_arrival)) (stream_place s) (back_place p) (lt-leb 6 (class_of mixed p) back)
 
-  -- what starts has a place
+  -- what starts has an index
   has_place : (p s : ℕ) → Contains starts (p, s) → p < length mixed
   has_place p s c = (legal.first p s c).waits.inside
 
-  -- what starts stands there with its class and octets, and has come
+  -- what starts is in the other list with its class and octets, and has arrived
   record Stands (p s k : ℕ) : Type 0 where
     inside : k < length alone
     class : class_of alone k ≡ class_of mixed p
     octets : octets_of alone k ≡ octets_of mixed p
     come : instant_of alone k ≤ s
 
-  -- so each start does
+  -- this holds for each start
   stands : (p s : ℕ) → Contains starts (p, s) → Stands p s (place_of (p, s))
   stands p s c = elim (cases_lt (class_of mixed p) 6) [
     | inl back ↦
@@ -89,12 +89,12 @@ module _ (rules : PortRules) (mixed alone : List Arrival) (end : ℕ) (starts : 
         })
   ]
 
-  -- two starts at one instant are one
+  -- two starts at one instant are the same
   one_start : (a b : Transmission) → Contains starts a → Contains starts b → a.1 ≡ b.1 → a ≡ b
   one_start a b c e same = one_of_pairs (λ (x y : Transmission). x.1 < y.1) starts a b legal.in_order c e (λ less. omega (arith, less, same))
       (λ less. omega (arith, less, same))
 
-  -- places of background frames that are one there are one
+  -- background frames with the same index in the other list have the same index here
   one_back : (p q : ℕ) → p < length mixed → q < length mixed → BackgroundAt mixed p → BackgroundAt mixed q → back_place p ≡ back_place q → p ≡ q
   one_back p q p_inside q_inside p_back q_back same = elim (cases_order p q) [
     | inl e ↦ e
@@ -104,7 +104,7 @@ module _ (rules : PortRules) (mixed alone : List Arrival) (end : ℕ) (starts : 
     ]
   ]
 
-  -- and their order there is theirs
+  -- and their order there is their order here
   order_back : (q p : ℕ) → q < length mixed → p < length mixed → BackgroundAt mixed q → BackgroundAt mixed p → back_place q < back_place p → q < p
   order_back q p q_inside p_inside q_back p_back less = elim (cases_order q p) [
     | inl e ↦ absurd (omega (arith, ap back_place e, less))
@@ -120,7 +120,7 @@ module _ (rules : PortRules) (mixed alone : List Arrival) (end : ℕ) (starts : 
     started : Contains starts (p, s)
     is_place : place_of (p, s) ≡ k
 
-  -- by the start that was moved there
+  -- it is the moved one
   from_moved : (k s : ℕ) → Contains moved (k, s) → CameFrom k s
   from_moved k s c =
       let m = contains_from_map (moved_by mixed back_place stream_place) starts (k, s) c in
@@ -135,11 +135,11 @@ module _ (rules : PortRules) (mixed alone : List Arrival) (end : ℕ) (starts : 
   to_moved : (p s : ℕ) → Contains starts (p, s) → Contains moved (place_of (p, s), s)
   to_moved p s c = contains_map (moved_by mixed back_place stream_place) starts (p, s) c
 
-  -- a start at the place of a stream's start is that one
+  -- a start at the index of a stream's start is that start
   stream_back : (p s k t : ℕ) → Contains starts (p, s) → StreamsAt mixed p → stream_place s ≡ k → Contains moved (k, t) → s ≡ t
   stream_back p s k t c streams is e = same (from_moved k t e)
     where
-      -- what stands there is the stream's frame at its start
+      -- the stream's frame at its start is there
       here : get_or alone k no_arrival ≡ retimed s (get_or mixed p no_arrival)
       here = ap (λ z. get_or alone z no_arrival) (sym is) ∙ are.stream_is p s c streams
 
@@ -157,7 +157,7 @@ module _ (rules : PortRules) (mixed alone : List Arrival) (end : ℕ) (starts : 
             omega (arith, ap (λ (a : Arrival). a.at.0) here, ap (λ (a : Arrival). a.at.0) at)
       ]
 
-  -- a stream's frame that waits there starts at that very instant
+  -- a stream's frame that waits there starts at that instant
   waits_to_start : (p s k t : ℕ) → Contains starts (p, s) → StreamsAt mixed p → stream_place s ≡ k → Waits alone moved k t → s ≡ t
   waits_to_start p s k t c streams is waits =
       let stands_there = are.stream_is p s c streams in
@@ -173,7 +173,7 @@ module _ (rules : PortRules) (mixed alone : List Arrival) (end : ℕ) (starts : 
     not_started = λ s c. waits.not_started s (subst (λ z. Contains moved (z, s)) (of_back p s back ∙ is) (to_moved p s c));
   }
 
-  -- and the other way round
+  -- and conversely
   waits_back : (p t : ℕ) → p < length mixed → BackgroundAt mixed p → Waits mixed starts p t → Waits alone moved (back_place p) t
   waits_back p t inside back waits = record {
     inside = are.back_inside p inside back;
@@ -214,7 +214,7 @@ module _ (rules : PortRules) (mixed alone : List Arrival) (end : ℕ) (starts : 
       let there : idle_after s (octets_of alone (place_of (p, s))) rules.octet_time ≤ t = idle (place_of (p, s)) s (to_moved p s c) less in
       subst (λ z. idle_after s z rules.octet_time ≤ t) (stands p s c).octets there
 
-  -- and the other way round
+  -- and conversely
   from_idle : (t : ℕ) → IsIdle rules mixed starts t → IsIdle rules alone moved t
   from_idle t idle k s c less =
       let m = from_moved k s c in
@@ -222,7 +222,7 @@ module _ (rules : PortRules) (mixed alone : List Arrival) (end : ℕ) (starts : 
       let octets : octets_of mixed m.p ≡ octets_of alone k = sym (stands m.p s m.started).octets ∙ ap (octets_of alone) m.is_place in
       subst (λ z. idle_after s z rules.octet_time ≤ t) octets here
 
-  -- with the same class and octets what is eligible is so in either list
+  -- in either list the same class and octets are eligible
   same_eligible : (xs ys : List Arrival) (i j t : ℕ) → class_of xs i ≡ class_of ys j → octets_of xs i ≡ octets_of ys j → IsEligible rules xs i t
       → IsEligible rules ys j t
   same_eligible xs ys i j t class octets eligible =
@@ -235,7 +235,7 @@ module _ (rules : PortRules) (mixed alone : List Arrival) (end : ℕ) (starts : 
       let at : get_or alone k no_arrival ≡ get_or mixed p no_arrival = ap (λ z. get_or alone z no_arrival) (sym is) ∙ are.back_is p inside back in
       same_eligible alone mixed k p t (ap (λ (a : Arrival). a.class) at) (ap (λ (a : Arrival). a.octets) at) eligible
 
-  -- none waits there before what starts, of its class
+  -- no frame of its class waits there before one that starts
   none_there : (p s j : ℕ) → Contains starts (p, s) → j < place_of (p, s) → class_of alone j ≡ class_of alone (place_of (p, s)) → Waits alone moved j s → ⊥
   none_there p s j c less same waits = elim (are.each j waits.inside) [
     | inl own ↦
@@ -263,7 +263,7 @@ module _ (rules : PortRules) (mixed alone : List Arrival) (end : ℕ) (starts : 
     none_before = λ j less same waits. none_there p s j c less same waits;
   }
     where
-      -- a start at its place is at its instant
+      -- a start at its index is at its instant
       same_instant : (t : ℕ) → CameFrom (place_of (p, s)) t → s ≡ t
       same_instant t m = elim (cases_lt (class_of mixed p) 6) [
         | inl back ↦ elim (cases_lt (class_of mixed m.p) 6) [
@@ -277,7 +277,7 @@ module _ (rules : PortRules) (mixed alone : List Arrival) (end : ℕ) (starts : 
             (subst (λ z. Contains moved (z, t)) m.is_place (to_moved m.p t m.started))
       ]
 
-  -- nothing of a higher class may start there instead
+  -- no frame of a higher class may start there instead
   none_higher : (p s other : ℕ) → Contains starts (p, s) → class_of alone (place_of (p, s)) < class_of alone other → IsFirst alone moved other s →
       IsEligible rules alone other s → ⊥
   none_higher p s other c less first eligible = elim (are.each other first.waits.inside) [
@@ -293,7 +293,7 @@ module _ (rules : PortRules) (mixed alone : List Arrival) (end : ℕ) (starts : 
         (back_first back.0 other s back.1 back.2 back.3 first) (back_eligible back.0 other s back.1 back.2 back.3 eligible)
   ]
 
-  -- where something may start there, something starts
+  -- if a frame may start there, one starts
   some_starts : (t other : ℕ) → t < end → IsIdle rules alone moved t → IsFirst alone moved other t → IsEligible rules alone other t →
       (k : ℕ) × Contains moved (k, t)
   some_starts t other early idle first eligible = elim (are.each other first.waits.inside) [
@@ -324,7 +324,7 @@ module _ (rules : PortRules) (mixed alone : List Arrival) (end : ℕ) (starts : 
     work_conserving = some_starts;
   }
     where
-      -- and the other way round
+      -- and conversely
       again : (t s k : ℕ) → Contains moved (k, t) → Contains moved (k, s) → t ≤ s
       again t s k e c = let m = from_moved k t e in
           (first_there m.p t m.started).waits.not_started s (subst (λ z. Contains moved (z, s)) (sym m.is_place) c)

@@ -1,4 +1,4 @@
--- The starts of a history's run can be told from what is laid out of it.
+-- The starts of a history's run can be computed from its layout.
 use Rattle.std.proofs.Common.{◌≡◌, ℕ, ◌+◌, ◌-◌, ◌*◌, ◌/◌, ◌^◌, ◌<◌, ◌≤◌, [], List, Bool, true, false, Option, Some}
 use Rattle.std.proofs.Common.{None, inl, inr, refl, sym, ap, ◌∙◌, subst, arith, length, Contains, get_or, nat_lt, ◌==◌}
 use Rattle.std.proofs.Common.{if◌then◌else◌, ltb-true, eqb-true}
@@ -59,7 +59,7 @@ use Rattle.cqf_instants_run.proofs.Streams.{while_live}
 abbrev no_row : Row
 no_row = record { no = 0; name = []; octets = 0; pace = each_cycle; tree = record { items = [] }; admitted = record { 0 = 0 }; withdrawn = None }
 
--- the numbered offers are as many as the offers
+-- there are as many numbered offers as offers
 numbered_count : (offers : List Offer) → length (numbered offers) ≡ length offers
 numbered_count offers =
     length-map (enumerate_from 1 offers) (λ (z : ℕ × Offer). let x : Offered = record { frame = z.0; offer = z.1 } in x) ∙ length-enumerate_from 1 offers
@@ -77,13 +77,13 @@ covering_none covers run x reason inside uncovered = by (covering run x) refl
     by (Some row) e =
         absurd (differ row (sym (covered_judged run x row ((covers run x row inside).0 e)) ∙ uncovered_judged run x reason uncovered))
 
--- what is offered behind the run's tables is covered by none
+-- an offer after the run's tables is covered by no row
 covering_late : (run : Run) (x : Offered) → length run.tables ≤ offer_cycle run.domain x → covering run x ≡ None
 covering_late run x late =
     ap (λ (rows : List Row). if_passes (covers run x) (row_named rows x.offer.stream))
     (get_or_past run.tables (offer_cycle run.domain x) [] late)
 
--- what is offered at the end of some cycles or later is in none of them
+-- an offer at the end of some cycles or later is in none of them
 late_cycle : (n t cycles : ℕ) → 0 < n → cycles * n ≤ t → cycles ≤ t / n
 late_cycle n t cycles some late = elim (cases_lt (t / n) cycles) [
   | inl less ↦ absurd (omega (arith, before_cycle n t (t / n) cycles some refl less, late))
@@ -105,7 +105,7 @@ module _ (d : Domain) (rows : List Row) (offers : List Offer) (edge_verdicts : L
   abbrev end : ℕ
   end = cycles * d.cycle_time
 
-  -- the row of whose tree a branch is a hop
+  -- the row whose tree has a branch
   abbrev row_at : ℕ → Row
   row_at h = while_live (get_or rows (laid.row_of h) no_row)
 
@@ -113,7 +113,7 @@ module _ (d : Domain) (rows : List Row) (offers : List Offer) (edge_verdicts : L
   row_is h place row at is =
       ap (λ (p : ℕ). while_live (get_or rows p no_row)) at ∙ ap while_live (get_or_from_slice_get rows place row no_row is)
 
-  -- hops of a row's tree that are laid are so in each run
+  -- laid hops of a row's tree are the hops of that tree in each run
   are_hops : (given : Given) → given.row_at ≡ row_at → (place : ℕ) (row : Row) (way : Option ℕ) (group : Group) → slice_get rows place ≡ Some row →
       AreHopsOf laid.row_of place row.tree.items way branches group → AreHops given branches group.first group.many (while_live row) way
   are_hops given same place row way group is hops = record {
@@ -122,7 +122,7 @@ module _ (d : Domain) (rows : List Row) (offers : List Offer) (edge_verdicts : L
     rows = λ k below. ap (λ (f : ℕ → Row). f (group.first + k)) same ∙ row_is (group.first + k) place row (hops.owned k below) is;
   }
 
-  -- an offer by its place, with what was judged of it
+  -- an offer by its index, with its verdict
   record IsPlaced (x : Offered) : Type 0 where
     k : ℕ
     offer : Offer
@@ -159,7 +159,7 @@ module _ (d : Domain) (rows : List Row) (offers : List Offer) (edge_verdicts : L
             judged = slice_get-get_or edge_verdicts k (Dropped Unknown) (omega (arith, below, count));
           }
 
-  -- the offers stand by instant, and their hops are there
+  -- the offers are in order of instant, and their hops are there
   stand_by_instant : length edge_verdicts ≡ length offers → StandInOrder offers → length offers ≤ 16777215 → StandByInstant entering branches
   stand_by_instant count ordered few = record {
     rise = λ i j le inside. elim (cases_eq i j) [
@@ -174,7 +174,7 @@ module _ (d : Domain) (rows : List Row) (offers : List Offer) (edge_verdicts : L
     inside = λ p below. hops_inside p (omega (arith, below, entered.count));
   }
     where
-      -- the offer at a place
+      -- the offer at an index
       is_at : (k : ℕ) (x : Offer) → k < length offers → offer_at entering k
           ≡ entering_by (get_or offers k x) (group_until end groups (get_or offers k x) (get_or edge_verdicts k (Dropped Unknown)))
       is_at k x below =
@@ -204,7 +204,7 @@ module _ (d : Domain) (rows : List Row) (offers : List Offer) (edge_verdicts : L
   module _ (orderly : TablesAreOrderly) (counted : ThereAreSoManyTables) (say : RowsSayTheTables) (as_live : AsLive) (decide : OffersAreJudged)
       (covers : CoveringCovers) (accepted : IsAccepted d) (offered : AreOffers d offers) (ordered : StandInOrder offers) (few : length offers ≤ 16777215)
       (entries : List Recorded) (is : IsLaidOutHistoryOf d cycles rows offers edge_verdicts entries) where
-    -- so many branches
+    -- the branches fit in 32 bits
     few_branches : length branches < 2 ^ 32
     few_branches = omega (arith, laid.few, few_streams d entries is.legal, ap length is.streams)
 
@@ -240,7 +240,7 @@ module _ (d : Domain) (rows : List Row) (offers : List Offer) (edge_verdicts : L
           }
 
       module _ (x : Offered) (inside : Contains (numbered offers) x) (at : IsPlaced x) where
-        -- an offer within the run is decided as it is judged
+        -- an offer within the run is decided by its verdict
         decided : offer_cycle d x < cycles → IsDecided run x (verdict_of rows (offer_cycle d x) at.edge_verdict)
         decided early =
             subst (IsDecided run x) (sym (is.judged.each at.k x at.edge_verdict at.below at.here at.judged (omega (arith, early, is.sealed))))
@@ -273,7 +273,7 @@ module _ (d : Domain) (rows : List Row) (offers : List Offer) (edge_verdicts : L
         some_time : 0 < d.cycle_time
         some_time = omega (arith, accepted.cycle_least)
 
-        -- it goes by the hops with which it enters
+        -- it takes the hops with which it enters
         enters : goes (group_until end groups x.offer at.edge_verdict)
         enters = elim (cases_Bool (nat_lt x.offer.at.0 end)) [
           | inl early ↦
@@ -323,7 +323,7 @@ module _ (d : Domain) (rows : List Row) (offers : List Offer) (edge_verdicts : L
         stand = stand;
       }
 
-      -- and each can be told
+      -- and it is the basis of each
       pub is_basis : (background : List Background) (net : Network) → IsLegalRun (run_of_history d entries offers background cycles) net →
           IsBasisOf (given background net) basis
       is_basis background net legal = record {

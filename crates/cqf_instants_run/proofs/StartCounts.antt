@@ -1,4 +1,4 @@
--- In a list of starts in order of instant one stands behind as many as start before it.
+-- In a list of starts in order of instant, each start's index is the number of starts before it.
 use Rattle.std.proofs.Common.{◌≡◌, ℕ, ◌<◌, ◌≤◌, ◌∷◌, [], Bool, List, length, get_or, filter, nat_lt, inl, inr, ap, ◌∙◌, arith, AllPairs, Contains, suc}
 use Rattle.std.proofs.lemmas.Bool.{cases_order, cond-true, le-ltb, lt-ltb}
 use Rattle.std.proofs.lemmas.List.Elements.{Contains-get_or}
@@ -11,16 +11,16 @@ use Rattle.cqf_lists.proofs.Pairs.{pairs_head, pairs_tail}
 abbrev pub is_before : ℕ → Transmission → Bool
 is_before t x = nat_lt x.1 t
 
--- how many are
+-- how many are before it
 abbrev pub many_before : List Transmission → ℕ → ℕ
 many_before xs t = length (filter (is_before t) xs)
 
--- a start stands at that place
+-- a start is at that index
 pub record StandsBehind (xs : List Transmission) (x d : Transmission) : Type 0 where
   pub inside : many_before xs x.1 < length xs
   pub same : get_or xs (many_before xs x.1) d ≡ x
 
--- behind none before a first one none is
+-- no start is before the first one
 none_before : (y x : Transmission) (xs : List Transmission) → AllPairs (λ (a b : Transmission). a.1 < b.1) (y ∷ xs) → y ≡ x →
     filter (is_before x.1) (y ∷ xs) ≡ []
 none_before y x xs pairs e = filter_none (is_before x.1) (y ∷ xs) (λ z h. le-ltb z.1 x.1 (later z h))
@@ -32,7 +32,7 @@ none_before y x xs pairs e = filter_none (is_before x.1) (y ∷ xs) (λ z h. le-
       | inr behind ↦ omega (arith, ap (λ (w : Transmission). w.1) e, pairs_head (λ (a b : Transmission). a.1 < b.1) y xs z pairs behind)
     ]
 
--- so does each of the list
+-- each start of the list is at that index
 pub stands_behind : (xs : List Transmission) (x d : Transmission) → AllPairs (λ (a b : Transmission). a.1 < b.1) xs → Contains xs x → StandsBehind xs x d
 stands_behind [] x d pairs c = absurd (contains_none x c)
 stands_behind (y ∷ xs) x d pairs c = elim (contains_cases y xs x c) [
@@ -47,7 +47,7 @@ stands_behind (y ∷ xs) x d pairs c = elim (contains_cases y xs x c) [
       record { inside = omega (arith, more, rest.inside); same = ap (λ k. get_or (y ∷ xs) k d) more ∙ rest.same }
 ]
 
--- and the one at a place stands behind as many as the place says
+-- and the start at an index has that many starts before it
 pub many_at : (xs : List Transmission) (k : ℕ) (d : Transmission) → AllPairs (λ (a b : Transmission). a.1 < b.1) xs → k < length xs →
     many_before xs (get_or xs k d).1 ≡ k
 many_at xs k d pairs inside =

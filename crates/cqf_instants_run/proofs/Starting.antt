@@ -1,4 +1,4 @@
--- A port starts the same background frames where the streams' frames come to it when they start.
+-- A port starts the same background frames if the streams' frames arrive when they start.
 use Rattle.std.proofs.Common.{◌≡◌, ℕ, ◌+◌, ◌-◌, ◌/◌, ◌<◌, ◌≤◌, ◌⊎◌, ◌↔◌, ◌++◌, ◌∷◌, [], All, Bool, true, not, cond}
 use Rattle.std.proofs.Common.{List, None, Option, Some, length, get_or, filter}
 use Rattle.std.proofs.Common.{map, nat_lt, is_some, inl, inr, sym, ap, ◌∙◌, subst, arith, refl, AllPairs, Contains, le-leb, leb-true, length-append}
@@ -32,22 +32,22 @@ use Rattle.cqf_instants_run.proofs.Kept.{flat_filter, map_flat}
 use Rattle.cqf_instants_run.proofs.Retimed.{AreFedWith, legal_there, moved_by, place_by}
 use Rattle.cqf_instants_run.proofs.Retimed.{retimed}
 
--- an arrival is of no stream
+-- the arrival is of no stream
 abbrev is_other : Arrival → Bool
 is_other a = not (is_streams a)
 
--- it is where its class is low
+-- it is of no stream if its class is low
 other_low : (a : Arrival) → a.class < 6 → is_other a ≡ true
 other_low a low = ap not (lt-leb 6 a.class low)
 
--- and its class is low where it is
+-- and only then
 low_other : (a : Arrival) → is_other a ≡ true → a.class < 6
 low_other a other = elim (cases_lt a.class 6) [
   | inl low ↦ low
   | inr high ↦ absurd (false≢true (sym (ap not (le-leb 6 a.class high)) ∙ other))
 ]
 
--- something is something
+-- a value isn't none
 some_there : (k : ℕ) → (Some k ≡ None) → ⊥
 some_there k e = false≢true (sym (ap is_some e))
 
@@ -55,14 +55,14 @@ some_there k e = false≢true (sym (ap is_some e))
 abbrev start_from : ℕ → Arrival → Start
 start_from t a = record { start = record { 0 = t }; class = a.class; octets = a.octets; frame = a.frame }
 
--- a frame that is told by its class is of a stream where it has a stream's class
+-- a frame that is recognised by its class is of a stream if it has a stream's class
 told_high : (a : Arrival) (k : ℕ) → ((Some k ≡ None) ↔ (a.class < 6)) → 6 ≤ a.class
 told_high a k told = elim (cases_lt a.class 6) [
   | inl low ↦ absurd (some_there k (told.1 low))
   | inr high ↦ high
 ]
 
--- what a transmission sends of a stream comes when it starts
+-- what a transmission sends of a stream arrives when it starts
 one_sent : (d : Domain) (t : ℕ) (a : Arrival) (stream : Option ℕ) → ((stream ≡ None) ↔ (a.class < 6)) →
     (6 ≤ a.class → a.class ≡ open_class (t / d.cycle_time)) →
     map (arrival_of_sent d) (sent_by t a stream) ≡ cond (is_streams a) (retimed t a ∷ []) []
@@ -71,11 +71,11 @@ one_sent d t a (Some k) told class =
     let high = told_high a k told in
     ap (λ c. of_class c ∷ []) (sym (class high)) ∙ sym (cond-true (is_streams a) (retimed t a ∷ []) [] (le-leb 6 a.class high))
   where
-    -- it is of the class that its cycle sends
+    -- it has the class that its cycle sends
     of_class : ℕ → Arrival
     of_class c = record { at = record { 0 = t }; class = c; octets = a.octets; frame = a.frame }
 
--- and what it sends of no stream is what a port starts of the same arrival
+-- and what it sends of no stream is what a port starts for the same arrival
 one_backed : (t : ℕ) (a b : Arrival) (stream : Option ℕ) → ((stream ≡ None) ↔ (a.class < 6)) → (a.class < 6 → b ≡ a) → (6 ≤ a.class → b.class ≡ a.class) →
     backed_by t a stream ≡ cond (is_low (start_from t b)) (start_from t b ∷ []) []
 one_backed t a b None told same class =
@@ -85,17 +85,17 @@ one_backed t a b (Some k) told same class =
     let high = told_high a k told in
     sym (cond-false (is_low (start_from t b)) (start_from t b ∷ []) [] (le-ltb b.class 6 (omega (arith, class high, high))))
 
--- a list with something in front is given whole
+-- if there are background frames, all is given
 pub given_whole : (frames streams : List Arrival) → 0 < length frames → fed frames streams ≡ frames ++ streams
 given_whole [] streams some = absurd (omega (arith, some))
 given_whole (x ∷ frames) streams some = refl
 
--- and an empty one not at all
+-- and else nothing is
 pub given_none : (frames streams : List Arrival) → length frames ≡ 0 → fed frames streams ≡ []
 given_none [] streams none = refl
 given_none (x ∷ frames) streams none = absurd (omega (arith, none))
 
--- where nothing comes nothing starts
+-- if nothing arrives, nothing starts
 nothing_starts : (rules : PortRules) (end : ℕ) → AreLegal rules [] end []
 nothing_starts rules end = record {
   in_order = λ i j e less inside. absurd (omega (arith, inside));
@@ -115,7 +115,7 @@ module _ (law : PortListSends) (d : Domain) (end l : ℕ) (queued : List QueuedF
   abbrev rules : PortRules
   rules = record { entries = compiled_lists d l; octet_time = octet_time_of d l }
 
-  -- what comes to it
+  -- what arrives at it
   abbrev mixed : List Arrival
   mixed = arrivals_of queued
 
@@ -123,7 +123,7 @@ module _ (law : PortListSends) (d : Domain) (end l : ℕ) (queued : List QueuedF
   abbrev starts : List Transmission
   starts = sends.starts
 
-  -- of those the streams'
+  -- the starts of streams' frames
   abbrev own : List Transmission
   own = filter (is_start_of_streams mixed) starts
 
@@ -131,7 +131,7 @@ module _ (law : PortListSends) (d : Domain) (end l : ℕ) (queued : List QueuedF
   abbrev others : List Arrival
   others = filter is_other mixed
 
-  -- a stream's frame as it starts
+  -- a stream's frame when it starts
   abbrev as_started : Transmission → Arrival
   as_started x = retimed x.1 (get_or mixed x.0 no_arrival)
 
@@ -139,15 +139,15 @@ module _ (law : PortListSends) (d : Domain) (end l : ℕ) (queued : List QueuedF
   abbrev alone : List Arrival
   alone = others ++ map as_started own
 
-  -- the place of a background frame in it
+  -- the index of a background frame in it
   abbrev back_place : ℕ → ℕ
   back_place p = rank is_other mixed p
 
-  -- and of a stream's frame that starts at an instant
+  -- and of a stream's frame, by the instant of its start
   abbrev stream_place : ℕ → ℕ
   stream_place s = length others + many_before own s
 
-  -- the frame at a place and its arrival
+  -- the frame at an index and its arrival
   arrival_at : (p : ℕ) → p < length mixed → get_or mixed p no_arrival ≡ (get_or queued p no_frame).arrival
   arrival_at p inside = get_or-map (λ (x : QueuedFrame). x.arrival) queued p no_frame no_arrival
       (omega (arith, inside, length-map queued (λ (x : QueuedFrame). x.arrival)))
@@ -160,18 +160,18 @@ module _ (law : PortListSends) (d : Domain) (end l : ℕ) (queued : List QueuedF
   is_own : (p s : ℕ) → Contains starts (p, s) → StreamsAt mixed p → Contains own (p, s)
   is_own p s c streams = contains_filter (is_start_of_streams mixed) starts (p, s) c (le-leb 6 (class_of mixed p) streams)
 
-  -- a place behind the background frames
+  -- an index after the background frames
   behind : (k : ℕ) → get_or alone (length others + k) no_arrival ≡ get_or (map as_started own) k no_arrival
   behind k =
       let left : (length others + k) - length others ≡ k = omega arith in
       get_or-append_right others (map as_started own) (length others) (length others + k) no_arrival refl (omega arith)
       ∙ ap (λ z. get_or (map as_started own) z no_arrival) left
 
-  -- how long it is
+  -- its length
   length_alone : length alone ≡ length others + length own
   length_alone = length-append others (map as_started own) ∙ ap (λ z. length others + z) (length-map own as_started)
 
-  -- each place of it is one of these
+  -- each index of it is one of these
   each_place : (k : ℕ) → k < length alone → ((p : ℕ) × (s : ℕ) × Contains starts (p, s) × StreamsAt mixed p × (stream_place s ≡ k))
       ⊎ ((p : ℕ) × (p < length mixed) × BackgroundAt mixed p × (back_place p ≡ k))
   each_place k inside = elim (cases_lt k (length others)) [
@@ -187,7 +187,7 @@ module _ (law : PortListSends) (d : Domain) (end l : ℕ) (queued : List QueuedF
         inl (x.0, x.1, kept.0, leb-true 6 (class_of mixed x.0) kept.1, omega (arith, many, rest))
   ]
 
-  -- so it is what the law of a port that is fed with them asks
+  -- so it satisfies the law of a port that is fed with them
   are_fed : AreFedWith mixed alone starts back_place stream_place
   are_fed = record {
     back_inside = λ p inside back. omega (arith, length_alone, (at_rank p inside back).inside);
@@ -200,7 +200,7 @@ module _ (law : PortListSends) (d : Domain) (end l : ℕ) (queued : List QueuedF
     each = each_place;
   }
     where
-      -- a background frame stands at its rank
+      -- a background frame is at its rank
       at_rank : (p : ℕ) → p < length mixed → BackgroundAt mixed p → StandsAtRank is_other mixed p no_arrival
       at_rank p inside back = kept_at_rank is_other mixed p no_arrival inside (other_low (get_or mixed p no_arrival) back)
 
@@ -212,7 +212,7 @@ module _ (law : PortListSends) (d : Domain) (end l : ℕ) (queued : List QueuedF
   legal_alone : AreLegal rules alone end moved
   legal_alone = legal_there rules mixed alone end starts back_place stream_place are_fed sends.legal
 
-  -- what starts is told by its class
+  -- what starts is recognised by its class
   told_at : (p s : ℕ) → Contains starts (p, s) → ((get_or queued p no_frame).stream ≡ None) ↔ ((get_or queued p no_frame).arrival.class < 6)
   told_at p s c = told p no_frame (omega (arith, (sends.legal.first p s c).waits.inside, length-map queued (λ (x : QueuedFrame). x.arrival)))
 
@@ -230,7 +230,7 @@ module _ (law : PortListSends) (d : Domain) (end l : ℕ) (queued : List QueuedF
         | inr low ↦ absurd (omega (arith, low, high))
       ]
 
-  -- what comes of streams is what is sent of them
+  -- the streams' frames that arrive are those that are sent
   streams_come : map as_started own ≡ map (arrival_of_sent d) sents
   streams_come = sym (ap (map (arrival_of_sent d)) sends.are_sent
       ∙ map_flat (sent_of queued) (arrival_of_sent d) (is_start_of_streams mixed) as_started starts one)
@@ -244,11 +244,11 @@ module _ (law : PortListSends) (d : Domain) (end l : ℕ) (queued : List QueuedF
           (one_sent d x.1 q.arrival q.stream (told_at x.0 x.1 c)
           (subst (λ (a : Arrival). 6 ≤ a.class → a.class ≡ open_class (x.1 / d.cycle_time)) at (class_sent x.0 x.1 c)))
 
-  -- what is sent of no stream is what starts of a low class
+  -- the other frames that are sent are those of a low class that start
   backs_start : backed ≡ filter is_low (map (start_of alone) moved)
   backs_start = sends.are_backed ∙ flat_filter (backed_of queued) (moved_by mixed back_place stream_place) (start_of alone) is_low starts one
     where
-      -- what stands at a start's place
+      -- the arrival at a start's index
       there : (x : Transmission) → Arrival
       there x = get_or alone (place_by mixed back_place stream_place x) no_arrival
 
@@ -290,18 +290,18 @@ module _ (law : PortListSends) (d : Domain) (end l : ℕ) (queued : List QueuedF
         | inr high ↦ sym (le-ltb class 6 high)
       ]
 
-      -- by its class an arrival is of none
+      -- by its class an arrival is of no stream
       low_test : (a : Arrival) → is_other a ≡ nat_lt a.class 6
       low_test a = elim (cases_lt a.class 6) [
         | inl low ↦ other_low a low ∙ sym (lt-ltb a.class 6 low)
         | inr high ↦ ap not (le-leb 6 a.class high) ∙ sym (le-ltb a.class 6 high)
       ]
 
-      -- so both tests are one
+      -- so both tests are the same
       same_test : (x : QueuedFrame) → IsToldByClass x → is_other x.arrival ≡ is_background x
       same_test x t = low_test x.arrival ∙ sym (by_stream x.stream x.arrival.class t)
 
-  -- where there is no background frame none starts
+  -- if there is no background frame, none starts
   none_starts : length others ≡ 0 → backed ≡ []
   none_starts none = sends.are_backed ∙ flat_none (backed_of queued) starts one
     where
@@ -319,7 +319,7 @@ module _ (law : PortListSends) (d : Domain) (end l : ℕ) (queued : List QueuedF
           (subst (λ (a : Arrival). a.class < 6 → ⊥) (arrival_at x.0 inside)
           (λ low. omega (arith, none, (kept_at_rank is_other mixed x.0 no_arrival inside (other_low (get_or mixed x.0 no_arrival) low)).inside)))
 
-  -- so the port starts what it did
+  -- so the port starts the same background frames
   starts_background : Backs d end l (fed (backs_among queued) (map (arrival_of_sent d) sents)) backed
   starts_background = elim (cases_lt 0 (length others)) [
     | inl some ↦

@@ -1,4 +1,4 @@
--- One offer more is judged.
+-- One more offer is judged.
 use Rattle.std.proofs.Common.{◌≡◌, ◌≢◌, ℕ, ◌+◌, ◌-◌, ◌/◌, ◌<◌, ◌≤◌, ◌∷◌, [], ◌++◌, List, true, Option, Some, None}
 use Rattle.std.proofs.Common.{inl, inr, Ok, Err, Result, refl, sym, ap, ◌∙◌, subst, arith, length, take, find, AllPairs}
 use Rattle.std.proofs.Common.{Contains, get_or, nat_le, ◌&&◌, if◌then◌else◌}
@@ -29,7 +29,7 @@ use Rattle.cqf_instants_run.proofs.Covers.{AreUsed, CoversTo, IsFor, fresh, live
 use Rattle.cqf_instants_run.proofs.InForce.{found, row_there}
 use Rattle.cqf_instants_run.proofs.LastRows.{one_there}
 
--- the laws that it stands on
+-- the laws that it uses
 pub record Laws : Type 1 where
   pub follow : RowsOfANameFollow
   pub rise : RowsStandAsTheyBegin
@@ -126,21 +126,21 @@ module _ (d : Domain) (rows : List Row) (offers : List Offer) (p begun : ℕ) (p
         (subst (λ (r : Row). is_held r cycle ≡ true → is_held (get_or rows j a) cycle ≡ true → r.name ≢ (get_or rows j a).name) here
         (pairs i j a less (slice_get_within rows j b b_is))) a_held b_held
 
-    -- what an offer's step makes of what is used of a row
+    -- how an offer changes what is used of a row
     step : (row : Row) →
         taken_by d row cycle (take (p + 1) (numbered offers)) ≡ take_octets d row (offer_cycle d x) (taken_by d row cycle (take p (numbered offers))) x
     step row =
         laws.goes_on d row cycle p offers x there
         ∙ ap (λ c. take_octets d row c (taken_by d row cycle (take p (numbered offers))) x) is_cycle
 
-    -- what a row reserves in the offer's cycle it reserves in this one
+    -- a row reserves the same in the offer's cycle and in this one
     in_own_cycle : (row : Row) (n : ℕ) →
         (if begins_at d row offer.bridge && nat_le (n + offer.octets) (reserved_in row 0 (offer_cycle d x)) then n + offer.octets else n)
         ≡ (if begins_at d row offer.bridge && nat_le (n + offer.octets) (reserved_in row 0 cycle) then n + offer.octets else n)
     in_own_cycle row n =
         ap (λ (m : ℕ). if begins_at d row offer.bridge && nat_le (n + offer.octets) (reserved_in row 0 m) then n + offer.octets else n) (sym is_cycle)
 
-    -- of rows that aren't in force nothing is used
+    -- nothing is used of rows that aren't in force
     other_row : (row : Row) (k : ℕ) → slice_get rows k ≡ Some row → is_live row cycle ≡ true → cycle < seals entries →
         (row_in_force d entries cycle offer.stream ≡ Some row → ⊥) →
         taken_by d row cycle (take (p + 1) (numbered offers)) ≡ used_at used cycle k
@@ -183,7 +183,7 @@ module _ (d : Domain) (rows : List Row) (offers : List Offer) (p begun : ℕ) (p
               | inr more ↦ apart j i b a (omega (arith, n, more)) b_is a_is b_held a_held closed (ap (λ (r : Row). r.name) (sym e))
             ]
 
-    -- and the verdict is what the definitions say
+    -- and the verdict is that of the definitions
     verdict_then : (o : Option ℕ) → row_in_force d entries cycle offer.stream ≡ row_there rows o → JudgedAt d rows cycle offer used after edge_verdict o →
         cycle < seals entries → verdict_of rows (offer_cycle d x) edge_verdict ≡ judged_of d entries offers x
     verdict_then None force by_row closed =
@@ -229,7 +229,7 @@ module _ (d : Domain) (rows : List Row) (offers : List Offer) (p begun : ℕ) (p
       counted = counted_then judged.place (in_force judged.place judged.in_force) judged.in_force judged.by_row;
     }
 
-  -- counters stay as many, and none is of a later cycle
+  -- there are as many counters as before, and none is of a later cycle
   counters_then : (o : Option ℕ) → JudgedAt d rows cycle offer used after edge_verdict o →
       (length after ≡ length used) × ((k : ℕ) (u : Used) → slice_get after k ≡ Some u → u.cycle ≤ cycle)
   counters_then None by_row =

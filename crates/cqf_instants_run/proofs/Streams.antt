@@ -23,12 +23,12 @@ use Rattle.cqf_laws_coverage.proofs.Rows.{all_streams}
 use Rattle.cqf_instants_run.proofs.Covers.{live_held}
 use Rattle.cqf_instants_run.specs.Laid.{is_live_below}
 
--- a row as the tables of the cycles in which its stream is live have it: an end is not yet known
+-- a row as the tables have it while its stream is live: its end is not yet known
 abbrev pub while_live : Row → Row
 while_live row =
     record { no = row.no; name = row.name; octets = row.octets; pace = row.pace; tree = row.tree; admitted = row.admitted; withdrawn = None }
 
--- an entry is a Seal, or admits one stream at most
+-- an entry is a Seal, or admits at most one stream
 one_or_seal : (d : Domain) (entries : List Recorded) (effect : ℕ) (act : Act) (reply : Reply) →
     length (stream_by d entries effect act reply) + cond (is_seal act) 1 0 ≤ 1
 one_or_seal d entries effect (Admits asked) (Accepted receipt) = omega arith
@@ -37,7 +37,7 @@ one_or_seal d entries effect (Admits asked) Sealed = omega arith
 one_or_seal d entries effect (Withdraws name) reply = omega arith
 one_or_seal d entries effect Seals reply = omega arith
 
--- so streams and Seals are no more than entries
+-- so there are at most as many streams and Seals as entries
 few_admitted : (d : Domain) (entries : List Recorded) (n : ℕ) → n ≤ length entries → length (admitted_before d entries n) + sealed_before entries n ≤ n
 few_admitted d entries zero within = omega arith
 few_admitted d entries (suc n) within =
@@ -67,7 +67,7 @@ few_streams d entries legal =
       legal.few_calls,
     )
 
--- what is live has no end yet
+-- a live stream has no end yet
 no_end : (row : Row) (cycle : ℕ) → is_live row cycle ≡ true → end_as_of cycle row.withdrawn ≡ None
 no_end row cycle live = by row.withdrawn live
   where
@@ -76,13 +76,13 @@ no_end row cycle live = by row.withdrawn live
     by None h = refl
     by (Some w) h = ap (λ (b : Bool). if b then None else Some w) (and_parts (nat_le row.admitted.0 cycle) (nat_lt cycle w.0) h).1
 
--- so a cycle in which a stream is live has it as each other such cycle
+-- so the tables of all cycles in which a stream is live have the same row
 pub live_as : (row : Row) (cycle : ℕ) → is_live row cycle ≡ true → as_of cycle row ≡ while_live row
 live_as row cycle live =
     ap (λ (end : Option Cycle). let made : Row =
     record { no = row.no; name = row.name; octets = row.octets; pace = row.pace; tree = row.tree; admitted = row.admitted; withdrawn = end } in made) (no_end row cycle live)
 
--- and what is live in one of the first cycles is so in the one in which it is admitted
+-- and a stream that is live in one of the first cycles is live in the cycle of its admission
 pub live_below : (row : Row) (cycle cycles : ℕ) → is_live row cycle ≡ true → cycle < cycles → is_live_below cycles row ≡ true
 live_below row cycle cycles live early = by row.withdrawn live
   where

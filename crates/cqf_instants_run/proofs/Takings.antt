@@ -1,4 +1,4 @@
--- What the ports are given may be taken.
+-- The ports may take what they are given.
 use Rattle.std.proofs.Common.{inl, inr, ◌≡◌, ℕ, ◌*◌, ◌^◌, ◌<◌, ◌≤◌, ◌==◌, ◌++◌, ◌∷◌, [], All, AllPairs, Contains, List}
 use Rattle.std.proofs.Common.{arith, sym, ap, ◌∙◌, subst, length, get_or, map, filter, eqb-true, mul-le-mul_right}
 use Rattle.std.specs.Prelude.{Bool, true, false, if◌then◌else◌, ◌%◌}
@@ -40,7 +40,7 @@ pub record IsGiven (low high : ℕ) (a : Arrival) : Type 0 where
   pub below : a.class < high
   pub early : a.at.0 < 2 ^ 62
 
--- arrivals that a port may take
+-- a port may take these arrivals
 taken : (xs : List Arrival) → ((a : Arrival) → Contains xs a → IsGiven 0 8 a) → AllPairs (λ (a b : Arrival). a.class ≡ b.class → a.at.0 ≤ b.at.0) xs
     → AreTaken xs
 taken xs each pairs = record {
@@ -49,7 +49,7 @@ taken xs each pairs = record {
   by_class = λ p q less inside same. pairs p q no_arrival less inside same;
 }
 
--- with streams' frames in order behind background frames in order
+-- and background frames in order, followed by streams' frames in order
 both_taken : (xs ys : List Arrival) → ((a : Arrival) → Contains xs a → IsGiven 0 6 a) → ((a : Arrival) → Contains ys a → IsGiven 6 8 a) →
     AllPairs (λ (a b : Arrival). a.at.0 ≤ b.at.0) xs → AllPairs (λ (a b : Arrival). a.at.0 ≤ b.at.0) ys → AreTaken (fed xs ys)
 both_taken [] ys low high first second =
@@ -76,7 +76,7 @@ sent_class cycle = either (cycle % 2 == 0)
     either true = (omega arith, omega arith)
     either false = (omega arith, omega arith)
 
--- a background frame of a run by instant is one that may be handed to it, at its instant
+-- a background frame of a run by instant is allowed, and has its instant
 pub of_background : (d : Domain) (background : List Background) (end : ℕ) (x : Backed) → AreBackground d background → Contains (by_instant background end) x →
     IsBackground d x.background
 of_background d background end x behind c =
@@ -90,7 +90,7 @@ of_background d background end x behind c =
     the_backed : ℕ × Background → Backed
     the_backed y = record { frame = y.0; background = y.1 }
 
--- they stand in order
+-- they are in order
 in_order : (background : List Background) (end : ℕ) → AllPairs (λ (a b : Backed). a.background.at.0 ≤ b.background.at.0) (by_instant background end)
 in_order background end =
     pairs_below (λ (a b : Backed). a.background.at.0 ≤ b.background.at.0) at end
@@ -101,7 +101,7 @@ in_order background end =
     at : ℕ → List Backed
     at t = filter (is_at t) (numbered_background background)
 
-    -- which is theirs
+    -- and that is their instant
     when : (t : ℕ) (x : Backed) → Contains (at t) x → x.background.at.0 ≡ t
     when t x c = eqb-true x.background.at.0 t (contains_from_filter (is_at t) (numbered_background background) x c).1
 
@@ -143,7 +143,7 @@ module _ (d : Domain) (cycles : ℕ) (carried : Carried) (background : List Back
       both_taken (frames_fed_on l frames) (map (arrival_of_sent d) (carried l)) (frame_given l) (stream_given l) (frames_in_order l)
       (streams_in_order l is_link)
 
--- so what a port is given in a history's run it may take
+-- so a port may take what it is given in a history's run
 pub all_taken : (d : Domain) (cycles : ℕ) (carried : Carried) (starts : List Started) (background : List Background) (frames : List Backed)
     (lists : List (List Arrival)) → IsAccepted d → cycles < 2 ^ 32 → IsInTurn d cycles carried → starts ≡ starts_of d cycles carried →
     AreBackground d background → frames ≡ by_instant background (cycles * d.cycle_time) → AreFed frames starts (length d.links) lists →

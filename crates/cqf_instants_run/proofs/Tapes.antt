@@ -1,4 +1,4 @@
--- What stands on tapes when their links' ports have started background frames.
+-- The tapes after their links' ports have started background frames.
 use Rattle.std.proofs.Common.{◌≡◌, ◌⊎◌, ℕ, zero, suc, ◌+◌, ◌<◌, ◌≤◌, ◌++◌, ◌∷◌, [], true, false, List, arith, sym, ap, ap₂, ◌∙◌, refl, subst, length, get_or}
 use Rattle.std.proofs.Common.{append-nil, filter, inl, inr, map, set, take}
 use Rattle.std.specs.Prelude.{◌==◌, if◌then◌else◌}
@@ -22,19 +22,19 @@ use Rattle.cqf_instants_run.specs.Taping.{TakeBackground, TakesBackground, arriv
 use Rattle.cqf_instants_run.proofs.Starting.{given_none, given_whole}
 use Rattle.cqf_instants_run.proofs.Tellings.{one_passed, one_told}
 
--- a tape has besides the background frames among some starts
+-- a tape has in addition the background frames among some starts
 pub record HasBesides (made : List Start) (before after : Tape) : Type 0 where
   pub link : after.link ≡ before.link
   pub starts : after.starts ≡ before.starts
   pub background : after.background.items ≡ before.background.items ++ map mark_of_start (filter is_low made)
 
--- at first of none
+-- at first it has none in addition
 pub none_besides : (tape : Tape) → HasBesides [] tape tape
 none_besides tape = record { link = refl; starts = refl; background = sym (append-nil tape.background.items) }
 
 module _ (made : List Start) (k : ℕ) (x e : Start) (inside : k < length made) (there : x ≡ get_or made k e) (before tape : Tape)
     (so_far : HasBesides (take k made) before tape) where
-  -- one more is put there
+  -- one more is appended
   pub one_besides : (after : Tape) → is_low x ≡ true → after.link ≡ tape.link → after.starts ≡ tape.starts →
       after.background.items ≡ tape.background.items ++ mark_of_start x ∷ [] → HasBesides (take (k + 1) made) before after
   one_besides after low link starts more = record {
@@ -44,7 +44,7 @@ module _ (made : List Start) (k : ℕ) (x e : Start) (inside : k < length made) 
         after.background.items low more;
   }
 
-  -- or it is passed by
+  -- or it is skipped
   pub none_more : is_low x ≡ false → HasBesides (take (k + 1) made) before tape
   none_more high = record {
     link = so_far.link;
@@ -52,13 +52,13 @@ module _ (made : List Start) (k : ℕ) (x e : Start) (inside : k < length made) 
     background = one_passed mark_of_start is_low made k x e inside there before.background.items tape.background.items so_far.background high;
   }
 
--- where a port is given background frames, the streams' frames of a tape come behind them
+-- if a port is given background frames, the streams' frames of a tape follow them
 pub given_behind : (d : Domain) (frames arrivals : List Arrival) (items marks : List Mark) → 0 < length frames →
     arrivals ≡ frames ++ map (arrival_of_mark d) items → items ≡ marks → arrivals ≡ fed frames (map (arrival_of_mark d) marks)
 given_behind d frames arrivals items marks some more same =
     more ∙ ap (λ (xs : List Mark). frames ++ map (arrival_of_mark d) xs) same ∙ sym (given_whole frames (map (arrival_of_mark d) marks) some)
 
--- where it is given nothing none starts
+-- if it is given nothing, none starts
 pub nothing_taken : (d : Domain) (end : ℕ) (frames : List Arrival) (tape : Tape) → length frames ≡ 0 → TakesBackground d end frames tape tape
 nothing_taken d end frames tape none = record {
   link = refl;
@@ -66,11 +66,11 @@ nothing_taken d end frames tape none = record {
   background = λ backed b. sym (append-nil tape.background.items) ∙ ap (λ z. tape.background.items ++ map mark_of_start z) (sym (no_backs backed b));
 }
   where
-    -- it is no list with anything in it
+    -- an empty list is given
     given_nil : fed frames (map (arrival_of_mark d) tape.starts.items) ≡ []
     given_nil = given_none frames (map (arrival_of_mark d) tape.starts.items) none
 
-    -- where nothing comes no start is legal
+    -- if nothing arrives, no start is legal
     no_starts : (starts : List Transmission) →
         AreLegal (record { entries = compiled_lists d tape.link; octet_time = octet_time_of d tape.link }) [] end starts → starts ≡ []
     no_starts [] legal = refl
@@ -82,7 +82,7 @@ nothing_taken d end frames tape none = record {
         let h = subst (λ (z : List Arrival). Backs d end tape.link z backed) given_nil b in
         h.are_backed ∙ ap (λ (z : List Transmission). filter is_low (map (start_of []) z)) (no_starts h.starts h.legal)
 
--- and else the tape has what the port starts
+-- else the tape has what the port starts
 pub all_taken : (d : Domain) (end : ℕ) (frames : List Arrival) (before after : Tape) (arrivals : List Arrival) (made : List Start) →
     arrivals ≡ fed frames (map (arrival_of_mark d) before.starts.items) → Hands d end before.link arrivals made → HasBesides made before after →
     TakesBackground d end frames before after
@@ -98,19 +98,19 @@ all_taken d end frames before after arrivals made is h has = record {
         let own = subst (λ (z : List Arrival). Backs d end before.link z backed) (sym is) b in
         ap (filter is_low) (h.are ∙ ap (map (start_of arrivals)) (sym (h.only own.starts own.legal))) ∙ sym own.are_backed
 
--- of the first tapes of a list each has what its link's port starts, and the others are as they were
+-- the first tapes of a list have what their links' ports start, and the others are unchanged
 pub record FirstTake (d : Domain) (end : ℕ) (feeds : ℕ → List Arrival) (before after : List Tape) (place : ℕ) : Type 0 where
   pub many : length after ≡ length before
   pub done : (k : ℕ) (none : Tape) → k < place → k < length before → TakesBackground d end (feeds k) (get_or before k none) (get_or after k none)
   pub left : (k : ℕ) (none : Tape) → place ≤ k → get_or after k none ≡ get_or before k none
 
 module _ (d : Domain) (end : ℕ) (feeds : ℕ → List Arrival) (before : List Tape) where
-  -- at first none has
+  -- at first no tape has it
   pub none_take : FirstTake d end feeds before before 0
   none_take = record { many = refl; done = λ k none below inside. absurd (omega (arith, below)); left = λ k none at. refl }
 
   module _ (after : List Tape) (place : ℕ) (h : FirstTake d end feeds before after place) where
-    -- the next one has too
+    -- the next one has it too
     pub next_takes : (none new : Tape) → place < length before → TakesBackground d end (feeds place) (get_or after place none) new →
         FirstTake d end feeds before (set after place new) (place + 1)
     next_takes none new inside more = record {
@@ -119,15 +119,15 @@ module _ (d : Domain) (end : ℕ) (feeds : ℕ → List Arrival) (before : List 
       left = λ k e at. get_or-set_other after place k new e (λ same. omega (arith, same, at)) ∙ h.left k e (omega (arith, at));
     }
       where
-        -- there is such a place
+        -- there is such an index
         here : place < length after
         here = omega (arith, inside, h.many)
 
-        -- what stood there
+        -- what was there
         was : (e : Tape) → get_or after place none ≡ get_or before place e
         was e = h.left place none (omega arith) ∙ get_or_default before place none e inside
 
-        -- the tape there has, and those before it
+        -- the tape there has it, and so do those before it
         done : (k : ℕ) (e : Tape) → k < length before → (k < place) ⊎ (place ≤ k) → k ≤ place →
             TakesBackground d end (feeds k) (get_or before k e) (get_or (set after place new) k e)
         done k e within (inl less) most =
@@ -139,21 +139,21 @@ module _ (d : Domain) (end : ℕ) (feeds : ℕ → List Arrival) (before : List 
             (subst (λ (t : Tape). TakesBackground d end (feeds place) (get_or before place e) t) (sym (get_or-set_same after place new e here))
             (subst (λ (t : Tape). TakesBackground d end (feeds place) t new) (was e) more))
 
-    -- in the end all have
+    -- in the end all have it
     pub all_take : length before ≤ place → TakeBackground d end feeds before after
     all_take all = record { many = h.many; each = λ k none inside. h.done k none (omega (arith, inside, all)) inside }
 
--- tapes that stand by number of so many links
+-- tapes in order of link number, one for each of the first links
 module _ (count : ℕ) (tapes : List Tape) (by : links_of tapes ≡ first_links count) where
-  -- are so many
+  -- there are as many
   pub as_many_tapes : length tapes ≡ count
   as_many_tapes = sym (length-map tapes link_of_tape) ∙ ap length by ∙ length-singles (λ (l : ℕ). l) count
 
-  -- and stand by their own number
+  -- and each is at the index of its link
   own_number : links_of tapes ≡ first_links (length tapes)
   own_number = by ∙ ap first_links (sym as_many_tapes)
 
-  -- the link of each is its place
+  -- the link of each is its index
   pub link_of_place : (k : ℕ) (none : Tape) → k < length tapes → (get_or tapes k none).link ≡ k
   link_of_place k none inside =
       sym (get_or-map link_of_tape tapes k none 0 inside) ∙ ap (λ (links : List ℕ). get_or links k 0) own_number
@@ -169,7 +169,7 @@ module _ (count : ℕ) (tapes : List Tape) (by : links_of tapes ≡ first_links 
   background_of_place k none inside =
       background_there tapes k (get_or tapes k none) own_number inside (get_or_default tapes k none (get_or tapes k none) inside)
 
--- the tape behind the first ones that have what their ports start
+-- the tape after the first ones that have what their ports start
 module _ (d : Domain) (end : ℕ) (feeds : ℕ → List Arrival) (before after : List Tape) (place : ℕ) (h : FirstTake d end feeds before after place)
     (by : links_of before ≡ first_links (length d.links)) (is_link : place < length d.links) where
   -- there was one
@@ -193,7 +193,7 @@ module _ (d : Domain) (end : ℕ) (feeds : ℕ → List Arrival) (before after :
   pub next_marks : (none : Tape) → (get_or after place none).starts.items ≡ starts_at before place
   next_marks none = ap (λ (tape : Tape). tape.starts.items) (as_before none) ∙ starts_of_place (length d.links) before by place none inside
 
-  -- and once it has what its port starts, one more has
+  -- and once it has what its port starts, one more tape has
   pub next_has : (list : List Arrival) (none new : Tape) → feeds place ≡ list → TakesBackground d end list (get_or after place none) new →
       FirstTake d end feeds before (set after place new) (place + 1)
   next_has list none new is more =
@@ -223,7 +223,7 @@ same_links (b ∷ before) [] h = absurd (omega (arith, h.many))
 same_links (b ∷ before) (a ∷ after) h =
     ap₂ (λ (link : ℕ) (links : List ℕ). link ∷ links) (h.each zero b (omega arith)).link (same_links before after (others_keep b a before after h))
 
--- and on each stand the same streams' frames
+-- and on each tape the streams' frames are the same
 same_starts : (before after : List Tape) (l : ℕ) → KeepStarts before after → starts_at after l ≡ starts_at before l
 same_starts [] [] l h = refl
 same_starts [] (a ∷ after) l h = absurd (omega (arith, h.many))
@@ -239,7 +239,7 @@ one_of : (tapes : List Tape) → 0 < length tapes → Tape
 one_of [] some = absurd (omega (arith, some))
 one_of (tape ∷ tapes) some = tape
 
--- where each tape has what its link's port starts
+-- each tape has what its link's port starts
 module _ (d : Domain) (end : ℕ) (feeds : ℕ → List Arrival) (before after : List Tape) (t : TakeBackground d end feeds before after) where
   -- streams' frames stay
   keep_starts : KeepStarts before after
@@ -256,7 +256,7 @@ module _ (d : Domain) (end : ℕ) (feeds : ℕ → List Arrival) (before after :
   pub starts_stay : (l : ℕ) → starts_at after l ≡ starts_at before l
   starts_stay l = same_starts before after l keep_starts
 
-  -- and the background frames that the port of a link starts stand behind what stood there
+  -- and the background frames that the port of a link starts follow those that were there
   pub background_more : links_of before ≡ first_links (length d.links) → (l : ℕ) → l < length d.links → (backed : List Start) →
       Backs d end l (fed (feeds l) (map (arrival_of_mark d) (starts_at before l))) backed →
       background_at after l ≡ background_at before l ++ map mark_of_start backed

@@ -1,4 +1,4 @@
--- What ports start of background frames is told, one after the other.
+-- The entries of the background frames that ports start, one after the other.
 use Rattle.std.proofs.Common.{◌≡◌, ℕ, suc, ◌+◌, ◌^◌, ◌≤◌, ◌<◌, ◌++◌, All, Bool, true, false, List, [], ◌∷◌, Option, Some, arith}
 use Rattle.std.proofs.Common.{sym, ap, ◌∙◌, subst, length, map, take, get_or, filter, append_assoc, append-nil, inl}
 use Rattle.std.proofs.Common.{inr}
@@ -33,7 +33,7 @@ module _ {X Y : Type 0} (f : X → Y) (keep : X → Bool) (xs : List X) (k : ℕ
   kept_more : filter keep (take (k + 1) xs) ≡ filter keep (take k xs) ++ filter keep (x ∷ [])
   kept_more = ap (filter keep) (take_more xs k d inside ∙ ap (λ (y : X). take k xs ++ y ∷ []) (sym there)) ∙ filter-append keep (take k xs) (x ∷ [])
 
-  -- it is told
+  -- its entry is appended
   pub one_told : (after : List Y) → keep x ≡ true → after ≡ list ++ f x ∷ [] → after ≡ before ++ map f (filter keep (take (k + 1) xs))
   one_told after hit more =
       more ∙ ap (λ (ys : List Y). ys ++ f x ∷ []) so_far
@@ -41,7 +41,7 @@ module _ {X Y : Type 0} (f : X → Y) (keep : X → Bool) (xs : List X) (k : ℕ
       ∙ ap (λ (ys : List Y). before ++ ys) (sym (map-append f (filter keep (take k xs)) (x ∷ []))
       ∙ ap (map f) (ap (λ (ys : List X). filter keep (take k xs) ++ ys) (sym (cond-true (keep x) (x ∷ []) [] hit)) ∙ sym kept_more))
 
-  -- or it is passed by
+  -- or it is skipped
   pub one_passed : keep x ≡ false → list ≡ before ++ map f (filter keep (take (k + 1) xs))
   one_passed miss =
       so_far ∙ ap (λ (ys : List X). before ++ map f ys) (sym (append-nil (filter keep (take k xs)))
@@ -51,14 +51,14 @@ module _ {X Y : Type 0} (f : X → Y) (keep : X → Bool) (xs : List X) (k : ℕ
 abbrev rules_on : Domain → ℕ → PortRules
 rules_on d l = record { entries = compiled_lists d l; octet_time = octet_time_of d l }
 
--- are those of its list and rate
+-- they are those of its list and rate
 rules_same : (d : Domain) (l : ℕ) (list : List Entry) (link : Link) → list ≡ compiled_lists d l → slice_get d.links l ≡ Some link →
     rules_of list link.rate ≡ rules_on d l
 rules_same d l list link is there =
     let octet : ticks_of_octet link.rate ≡ octet_time_of d l = ap (λ o. option_map_or (λ (x : Link). ticks_of_octet x.rate) o 0) (sym there) in
     λ i. record { entries = is i; octet_time = octet i }
 
--- the guard time of a link is some time within the cycle, and its list goes by it
+-- the guard band of a link is shorter than the cycle, and its list goes by it
 pub own_guard : (d : Domain) (l : ℕ) (link : Link) (cycle_time guard own : ℕ) → IsAccepted d → slice_get d.links l ≡ Some link →
     cycle_time ≡ d.cycle_time → guard ≡ d.guard → own ≡ guard_by guard link → (0 < own) × (own < cycle_time)
 own_guard d l link cycle_time guard own accepted there time is told =
@@ -77,9 +77,9 @@ own_list d l link cycle_time guard own list there time is told listed =
 abbrev pub fed_port : PortRules → List Arrival → PortState
 fed_port rules arrivals = record { rules = rules; reached = 0; arrivals = arrivals; starts = [] }
 
--- a port that ran up to an end hands out what is legal for what it has taken, and no others are
+-- a port that ran up to an end returns what is legal for its arrivals, and nothing else is legal
 module _ (d : Domain) (end l : ℕ) (arrivals : List Arrival) (after : PortState) (made : List Start) where
-  -- where it is known what it has become
+  -- if its new state is known
   became : (starts : List Transmission) → after ≡ record { rules = rules_on d l; reached = end; arrivals = arrivals; starts = starts } →
       IsPort after → AreOnly after →
       made ≡ map (start_of arrivals) starts → Hands d end l arrivals made
@@ -88,7 +88,7 @@ module _ (d : Domain) (end l : ℕ) (arrivals : List Arrival) (after : PortState
       let o = subst AreOnly is only in
       record { starts = starts; legal = f.legal; only = o; are = handed }
 
-  -- so it is behind a run
+  -- so it is the state after a run
   ran : IsPort after → AreOnly after → (0 < end → Advances (fed_port (rules_on d l) arrivals) after end [] made) →
       (end ≤ 0 → (after ≡ fed_port (rules_on d l) arrivals) × (made ≡ [])) → Hands d end l arrivals made
   ran facts only on past = elim (cases_lt 0 end) [
@@ -103,7 +103,7 @@ module _ (d : Domain) (end l : ℕ) (arrivals : List Arrival) (after : PortState
       at_instant : ℕ → PortState
       at_instant t = record { rules = rules_on d l; reached = t; arrivals = arrivals; starts = [] }
 
--- the same of the port that was made
+-- the same for the port that was made
 pub hands : (d : Domain) (end l : ℕ) (arrivals : List Arrival) (list : List Entry) (link : Link) (before after : PortState) (given made : List Start) →
     list ≡ compiled_lists d l → slice_get d.links l ≡ Some link → before ≡ fed_port (rules_of list link.rate) arrivals → given ≡ [] →
     IsPort after → AreOnly after → (before.reached < end → Advances before after end given made) →
@@ -128,7 +128,7 @@ hands_fit d end l cycle_time arrivals made same some few h =
     let order = cycles_ordered d.cycle_time m.0.1 end some (omega (arith, early)) in
     subst (λ (z : Start). cycle_at d.cycle_time z.start.0 < 2 ^ 32) m.2 (omega (arith, order, few)))))
 
--- a link is told
+-- the entries of a link are appended
 pub tells : (d : Domain) (end l cycle_time : ℕ) (arrivals : List Arrival) (made : List Start) (before after : List Started) → cycle_time ≡ d.cycle_time →
     Hands d end l arrivals made → after ≡ before ++ map (told cycle_time l) (filter is_low made) → TellsLink d end l arrivals before after
 tells d end l cycle_time arrivals made before after same h is backed b =
@@ -138,11 +138,11 @@ tells d end l cycle_time arrivals made before after same h is backed b =
 
 module _ (front : List (Vec Arrival Global)) (p : Vec Arrival Global) (rest all : List (Vec Arrival Global)) (link : ℕ) (parts : front ++ p ∷ rest ≡ all)
     (at : length front ≡ link) where
-  -- there is such a place
+  -- there is such a link
   pub below_all : link < length all
   below_all = omega (arith, ap (λ (ps : List (Vec Arrival Global)). length ps) parts, length-append front (p ∷ rest), at)
 
-  -- what stands there
+  -- its list is there
   pub list_there : get_or (lists_of all) link [] ≡ p.items
   list_there =
       get_or-map (λ (v : Vec Arrival Global). v.items) all link p [] below_all
@@ -153,7 +153,7 @@ module _ (front : List (Vec Arrival Global)) (p : Vec Arrival Global) (rest all 
   pub taken_there : ((l : ℕ) → l < length all → AreTaken (get_or (lists_of all) l [])) → AreTaken p.items
   taken_there each = subst AreTaken list_there (each link below_all)
 
-  -- and told
+  -- and its entries are appended
   pub link_told : (d : Domain) (end : ℕ) (starts after : List Started) → TellsLinks d end (λ l. get_or (lists_of all) l []) link starts →
       TellsLink d end link p.items starts after → TellsLinks d end (λ l. get_or (lists_of all) l []) (link + 1) after
   link_told d end starts after so_far one backed each =
@@ -162,7 +162,7 @@ module _ (front : List (Vec Arrival Global)) (p : Vec Arrival Global) (rest all 
       ∙ ap (λ xs. xs ++ map (told d.cycle_time link) (backed link)) (so_far backed (λ l less. each l (omega (arith, less))))
       ∙ ap (each_below (λ l. map (told d.cycle_time l) (backed l))) next
 
--- in the end all are
+-- in the end the entries of all are appended
 pub all_told : (d : Domain) (end : ℕ) (front rest all : List (Vec Arrival Global)) (link : ℕ) (starts : List Started) → front ++ rest ≡ all
     → length front ≡ link →
     length rest ≡ 0 → TellsLinks d end (λ l. get_or (lists_of all) l []) link starts → TellsLinks d end (λ l. get_or (lists_of all) l []) (length all) starts

@@ -1,4 +1,4 @@
--- One stream's tree more is laid.
+-- One more stream's tree is laid.
 use Rattle.std.proofs.Common.{◌≡◌, ℕ, ◌+◌, ◌<◌, ◌≤◌, ◌∷◌, [], ◌++◌, List, Bool, true, false, Option, Some, None, inl}
 use Rattle.std.proofs.Common.{inr, refl, sym, ap, ◌∙◌, subst, arith, length, nat_lt, if◌then◌else◌, lt-ltb, le-ltb}
 use Rattle.std.specs.Prelude.{slice_get}
@@ -25,7 +25,7 @@ lays_none cycles rows = record {
   inside = λ place. omega arith;
 }
 
--- hops that stood somewhere stand there still
+-- hops keep their positions
 stay : (old new : ℕ → ℕ) (place : ℕ) (tree : List Hop) (way : Option ℕ) (before after : List LaidHop) (group : Group) → length before ≤ length after →
     ((h : ℕ) → h < length before → branch_at after h ≡ branch_at before h) → ((h : ℕ) → h < length before → new h ≡ old h) →
     AreHopsOf old place tree way before group → AreHopsOf new place tree way after group
@@ -34,7 +34,7 @@ stay old new place tree way before after group longer front same hops = record {
   owned = λ k below. same (group.first + k) (omega (arith, below, hops.stand.inside)) ∙ hops.owned k below;
 }
 
--- so does a row's branch
+-- and so do a row's branches
 stay_hop : (cycles : ℕ) (rows : List Row) (old new : ℕ → ℕ) (before after : List LaidHop) (h : ℕ) → length before ≤ length after →
     ((j : ℕ) → j < length before → branch_at after j ≡ branch_at before j) → ((j : ℕ) → j < length before → new j ≡ old j) → h < length before →
     IsHopOfRow cycles rows before old h → IsHopOfRow cycles rows after new h
@@ -57,7 +57,7 @@ module _ (cycles : ℕ) (rows : List Row) (place : ℕ) (row : Row) (before afte
   abbrev more : List Group
   more = groups ++ group ∷ []
 
-  -- the groups that were there, the new one, and none behind it
+  -- the earlier groups, the new one, and no other after it
   old_group : (k : ℕ) → k < place → group_at more k ≡ group_at groups k
   old_group k below = get_or_append_left groups (group ∷ []) no_group k (omega (arith, below, laid.count))
 
@@ -77,11 +77,11 @@ module _ (cycles : ℕ) (rows : List Row) (place : ℕ) (row : Row) (before afte
     ]
   ]
 
-  -- the row at the place
+  -- the row at the index
   its_row : (k : ℕ) (other : Row) → k ≡ place → slice_get rows k ≡ Some other → other ≡ row
   its_row k other e is = same_Some other row (sym is ∙ ap (slice_get rows) e ∙ at)
 
-  -- where the stream isn't live
+  -- if the stream isn't live
   other : is_live_below cycles row ≡ false → AreLaid cycles rows (place + 1) after more
   other none =
       let same = sym (lays.other_branches none) in
@@ -100,12 +100,12 @@ module _ (cycles : ℕ) (rows : List Row) (place : ℕ) (row : Row) (before afte
         inside = all_inside stood (subst (λ (g : Group). g.first + g.many ≤ length after) (sym (lays.other_group none)) (omega arith));
       }
 
-  -- where it is
+  -- if it is live
   module _ (live : is_live_below cycles row ≡ true) where
     is_laid : IsLaidBranch row.tree.items before after group
     is_laid = lays.live live
 
-    -- what is new is of its tree
+    -- the new branches are of its tree
     abbrev row_of : ℕ → ℕ
     row_of h = if nat_lt h (length before) then laid.row_of h else place
 

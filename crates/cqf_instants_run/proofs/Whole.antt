@@ -1,4 +1,4 @@
--- What the ports start of background frames is what the legal network of the run does, in the order of a book.
+-- The background frames that the ports start are those of the legal network of the run, in the order of a book.
 use Rattle.std.proofs.Common.{◌≡◌, ℕ, ◌*◌, ◌/◌, ◌^◌, ◌<◌, ◌==◌, [], All, Contains, List, arith, sym, ap, ◌∙◌, subst}
 use Rattle.std.proofs.Common.{refl, length, get_or, map, filter, eqb-true}
 use Rattle.std.specs.List.Sorted.{IsNonDecreasingBy, IsPermutation, IsStableByKey}
@@ -45,7 +45,7 @@ cycle_in x = x.cycle.0
 of_cycle : ℕ → Started
 of_cycle n = record { cycle = record { 0 = n }; link = 0; frame = 0; octets = 0; start = record { 0 = 0 } }
 
--- which is its cycle
+-- and that is its cycle
 of_cycles : (n : ℕ) → cycle_in (of_cycle n) ≡ n
 unfolding of_cycle
 of_cycles n = refl
@@ -86,7 +86,7 @@ module _ (d : Domain) (cycles : ℕ) (backed : ℕ → List Start) (before_end :
       ∙ same_below (λ l. filter (λ x. cycle_in x == cycle) (map (told d.cycle_time l) (backed l))) (background_in d backed cycle) (length d.links)
       (λ l inside. there cycle l))
 
--- what is made for a number of cycles, and what it means
+-- what is made for a number of cycles, and its meaning
 abbrev Means : Run → Network → List Started → List Backed → List (List Arrival) → List Started → List Started → ℕ → Type 0
 Means run net starts frames lists listed sorted cycles =
     frames ≡ by_instant run.background (cycles * run.domain.cycle_time) → starts ≡ starts_of run.domain cycles net.carried →
@@ -113,7 +113,7 @@ module _ (gives : GateGivesClass) (law : PortStartsTheBackground) (run : Run) (n
       sorted_book run.domain (length run.tables) net.backed (backed_in_run run (compiled_lists run.domain) (length run.tables) net legal.legal) sorted
       (subst (λ z. SortsByCycle z sorted) (tells net.backed each) sorts)
 
--- so they are the background of each history of which the starts are
+-- so they are the background starts of each history with these starts
 pub background_is : (gives : GateGivesClass) (law : PortStartsTheBackground) (d : Domain) (cycles end links : ℕ) (starts : List Started)
     (background : List Background)
     (frames : List Backed) (lists : List (List Arrival)) (listed sorted : List Started) → end ≡ cycles * d.cycle_time → links ≡ length d.links →
@@ -138,7 +138,7 @@ pub record AreOfRun (d : Domain) (cycles : ℕ) (starts : List Started) : Type 0
   pub turn : IsInTurn d cycles carried
   pub are : starts ≡ starts_of d cycles carried
 
--- starts of a history are
+-- starts of a history are such
 pub some_run : TablesAreOrderly → LegalNetworkExists → (d : Domain) (cycles : ℕ) (starts : List Started) → IsAccepted d →
     SomeStarts d cycles starts → AreOfRun d cycles starts
 some_run orderly exists d cycles starts accepted s =

@@ -1,4 +1,4 @@
--- The starts of a history's run, from which those of its background frames follow.
+-- The starts of a history's run, which determine the starts of its background frames.
 use Rattle.std.specs.Prelude.{ℕ, ◌≤◌, List}
 use Rattle.cqf_model.specs.declared.frames.Background.{Background}
 use Rattle.cqf_model.specs.declared.frames.Offer.{Offer}
@@ -8,8 +8,8 @@ use Rattle.cqf_model.specs.History.{IsLegalHistory, Recorded, seals}
 use Rattle.cqf_model.specs.Run.{AreBackground, AreOffers}
 use Rattle.cqf_instants_run.specs.Parts.{AreStartsOfHistory}
 
--- there is a legal history of the domain that closes so many cycles, and offers, of which these are the starts beside some
--- background frames
+-- there are a legal history of the domain that closes at least `cycles` cycles, offers, and some background frames, so that these are the
+-- starts of streams' frames
 pub record SomeStarts (d : Domain) (cycles : ℕ) (starts : List Started) : Type 0 where
   pub entries : List Recorded
   pub offers : List Offer

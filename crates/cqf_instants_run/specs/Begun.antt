@@ -1,10 +1,10 @@
--- The rows that have begun by a cycle, and which of a name is in force.
+-- The rows that have begun by a cycle, and the row of a name that is in force.
 use Rattle.std.specs.Prelude.{ℕ, true, false, ◌≡◌, ◌≤◌, ◌<◌, List, Option, Some, None, length, slice_get}
 use Rattle.cqf_model.specs.declared.topology.Row.{Row}
 use Rattle.cqf_model.specs.Domain.{is_text}
 use Rattle.cqf_model.specs.Table.{is_held}
 
--- of the rows below a place the last of a name
+-- the row at `place` is the last row of the name among the first `begun` rows
 pub record IsLastOf (rows : List Row) (begun : ℕ) (name : List ℕ) (place : ℕ) : Type 0 where
   pub row : Row
   pub is : slice_get rows place ≡ Some row
@@ -13,7 +13,7 @@ pub record IsLastOf (rows : List Row) (begun : ℕ) (name : List ℕ) (place : �
   pub later : (other : ℕ) (row_there : Row) → place < other → other < begun → slice_get rows other ≡ Some row_there →
       is_text row_there.name name ≡ false
 
--- there is none of the name
+-- none of the first `begun` rows is of the name; and: the given index, if any, is that of the last row of the name
 abbrev pub HaveNone : List Row → ℕ → List ℕ → Type 0
 HaveNone rows begun name =
     (place : ℕ) (row : Row) → place < begun → slice_get rows place ≡ Some row → is_text row.name name ≡ false
@@ -22,23 +22,24 @@ abbrev pub IsLastBegun : List Row → ℕ → List ℕ → Option ℕ → Type 0
 IsLastBegun rows begun name None = HaveNone rows begun name
 IsLastBegun rows begun name (Some place) = IsLastOf rows begun name place
 
--- each name leads to the last of its rows below a place
+-- each name leads to the last of its rows among the first `begun` rows
 abbrev pub LeadsToLast : List Row → ℕ → (List ℕ → Option ℕ) → Type 0
 LeadsToLast rows begun place_of = (name : List ℕ) → IsLastBegun rows begun name (place_of name)
 
--- the rows from a place up to another have begun by a cycle, and names lead to the last of those below
+-- the rows from index `from` up to `to` have begun by the cycle, and names lead to their last rows among the first `to`
 pub record Begins (rows : List Row) (from to cycle : ℕ) (place_of : List ℕ → Option ℕ) : Type 0 where
   pub forth : from ≤ to
   pub within : to ≤ length rows
   pub begun : (place : ℕ) (row : Row) → from ≤ place → place < to → slice_get rows place ≡ Some row → row.admitted.0 ≤ cycle
   pub leads : LeadsToLast rows to place_of
 
--- and the next one hasn't
+-- and the next row hasn't begun
 pub record HasBegun (rows : List Row) (from to cycle : ℕ) (place_of : List ℕ → Option ℕ) : Type 0 where
   pub begins : Begins rows from to cycle place_of
   pub next : (row : Row) → slice_get rows to ≡ Some row → cycle < row.admitted.0
 
--- the last row of a name, if it is held in a cycle
+-- the last row of a name is held in a cycle; and: the given index, if any, is that row's, and without one the last row isn't held or there
+-- is none
 pub record IsHeldLast (rows : List Row) (begun : ℕ) (name : List ℕ) (cycle place : ℕ) : Type 0 where
   pub last : IsLastOf rows begun name place
   pub held : is_held last.row cycle ≡ true

@@ -1,4 +1,4 @@
--- What becomes of each offer, by the rows that were ever granted.
+-- The verdict on each offer, by the rows that were ever granted.
 use Rattle.std.specs.Prelude.{ℕ, ◌≡◌, ◌+◌, ◌<◌, ◌==◌, if◌then◌else◌, not, nat_le, List, Option, Some, None, Result, Ok}
 use Rattle.std.specs.Prelude.{Err, length, slice_get, slice_index_or, slice_set}
 use Rattle.cqf_model.specs.declared.frames.Offer.{Offer}
@@ -18,7 +18,7 @@ use Rattle.cqf_instants_run.specs.declared.judged.EdgeVerdict.{EdgeVerdict}
 use Rattle.cqf_instants_run.specs.declared.judged.EdgeVerdict.TheVariants.{Covered, Dropped}
 use Rattle.cqf_instants_run.specs.declared.judged.Used.{Used}
 
--- what is used of a row in a cycle behind an offer that it covers, or the first reason against the offer
+-- the octets used of a row in a cycle after an offer that it covers, or the first reason against the offer
 abbrev pub used_behind : Domain → Row → ℕ → ℕ → Offer → Result ℕ Reason
 used_behind d row cycle used offer =
     if not (is_live row cycle) then Err Withdrawn
@@ -26,14 +26,14 @@ used_behind d row cycle used offer =
     else (if not (nat_le (used + offer.octets) (reserved_in row 0 cycle)) then Err Octets
     else Ok (used + offer.octets)))
 
--- what is used in a cycle
+-- the octets used in a cycle, and those used of the row at an index
 abbrev pub used_in : ℕ → Used → ℕ
 used_in cycle used = if used.cycle == cycle then used.octets else 0
 
 abbrev pub used_at : List Used → ℕ → ℕ → ℕ
 used_at used cycle place = used_in cycle (slice_index_or used place (record { cycle = 0; octets = 0 }))
 
--- a verdict as the definitions have it: a row is as the table of the offer's cycle has it
+-- an edge verdict in the terms of the definitions: the row is as in the table of the offer's cycle
 abbrev pub queued_as : ℕ → Option Row → Verdict
 queued_as cycle None = LacksRow
 queued_as cycle (Some row) = Queued (as_of cycle row)
@@ -42,18 +42,18 @@ abbrev pub verdict_of : List Row → ℕ → EdgeVerdict → Verdict
 verdict_of rows cycle (Covered place) = queued_as cycle (slice_get rows place)
 verdict_of rows cycle (Dropped reason) = DroppedFor reason
 
--- where no row is in force, an offer is dropped and nothing is used
+-- if no row is in force, the offer is dropped and no octets are used
 pub record IsUnknown (before after : List Used) (edge_verdict : EdgeVerdict) : Type 0 where
   pub dropped : edge_verdict ≡ Dropped Unknown
   pub same : after ≡ before
 
--- for a reason against it, it is dropped and nothing is used; else it is covered, and its octets are used
+-- if there is a reason against the offer, it is dropped and no octets are used; else it is covered and its octets are used
 abbrev pub JudgedFor : ℕ → ℕ → List Used → List Used → EdgeVerdict → Result ℕ Reason → Type 0
 JudgedFor cycle place before after edge_verdict (Err reason) = (edge_verdict ≡ Dropped reason) × (after ≡ before)
 JudgedFor cycle place before after edge_verdict (Ok octets) =
     (edge_verdict ≡ Covered place) × (after ≡ slice_set before place (record { cycle = cycle; octets = octets }))
 
--- the row in force judges
+-- the verdict is that of the row in force
 pub record IsJudgedBy (d : Domain) (rows : List Row) (cycle place : ℕ) (offer : Offer) (before after : List Used) (edge_verdict : EdgeVerdict) : Type 0 where
   pub row : Row
   pub is : slice_get rows place ≡ Some row
@@ -69,7 +69,7 @@ pub record IsJudged (d : Domain) (rows : List Row) (begun cycle : ℕ) (offer : 
   pub in_force : IsInForce rows begun offer.stream cycle place
   pub by_row : JudgedAt d rows cycle offer before after edge_verdict place
 
--- the offers below a place are judged as the definitions say, where their cycle is closed
+-- the first `many` offers are judged as the definitions say, if their cycle is closed
 pub record AreJudged (d : Domain) (entries : List Recorded) (rows : List Row) (offers : List Offer) (many : ℕ) (edge_verdicts : List EdgeVerdict) : Type 0 where
   pub count : length edge_verdicts ≡ many
   pub each : (place : ℕ) (x : Offered) (edge_verdict : EdgeVerdict) → place < many → slice_get (numbered offers) place ≡ Some x →

@@ -1,4 +1,4 @@
--- What is dropped of some offers, by their verdicts.
+-- The drops of some offers, by their verdicts.
 use Rattle.std.specs.Prelude.{ℕ, ◌≡◌, ◌+◌, if◌then◌else◌, nat_lt, List, [], ◌∷◌, Option, Some, None, length, slice_get}
 use Rattle.cqf_units.specs.Timing.{cycle_at}
 use Rattle.cqf_model.specs.declared.frames.Background.{Background}
@@ -14,23 +14,23 @@ use Rattle.cqf_instants_run.specs.declared.judged.EdgeVerdict.{EdgeVerdict}
 use Rattle.cqf_instants_run.specs.declared.judged.EdgeVerdict.TheVariants as edge_verdict
 use Rattle.cqf_instants_run.specs.Coverage.{AreJudged}
 
--- the drop of an offer of a cycle, where it is judged so
+-- the drop of an offer in a cycle if its verdict is a drop
 abbrev pub drop_judged : ℕ → ℕ → Offer → EdgeVerdict → Option Dropped
 drop_judged cycle frame offer (edge_verdict.Covered row) = None
 drop_judged cycle frame offer (edge_verdict.Dropped reason) =
     Some (record { cycle = record { 0 = cycle }; bridge = offer.bridge; frame = frame; octets = offer.octets; reason = reason })
 
--- where its cycle is one of the first so many
+-- the same if the offer's cycle is one of the first `cycles` cycles, else none
 abbrev pub drop_within : ℕ → ℕ → ℕ → Offer → EdgeVerdict → Option Dropped
 drop_within cycle_time cycles frame offer judged = let cycle = cycle_at cycle_time offer.at.0 in
     if nat_lt cycle cycles then drop_judged cycle frame offer judged else None
 
--- an answer that is there, as a list
+-- an optional drop as a list
 abbrev pub where_any : Option Dropped → List Dropped
 where_any None = []
 where_any (Some drop) = drop ∷ []
 
--- the drop of an offer that stands at a place, with its verdict
+-- the drop of the offer at an index, with the verdict at the same index
 abbrev pub drop_by_both : ℕ → ℕ → ℕ → Option Offer → Option EdgeVerdict → List Dropped
 drop_by_both cycle_time cycles frame None judged = []
 drop_by_both cycle_time cycles frame (Some offer) None = []
@@ -40,12 +40,12 @@ abbrev pub drop_at : ℕ → ℕ → List Offer → List EdgeVerdict → ℕ →
 drop_at cycle_time cycles offers edge_verdicts place =
     drop_by_both cycle_time cycles (place + 1) (slice_get offers place) (slice_get edge_verdicts place)
 
--- they are the drops of each book of a history, whatever background frames come beside the offers
+-- they are the drops of each book of a history with these offers, for any background frames
 abbrev pub AreDropsOfHistory : Domain → List Recorded → List Offer → ℕ → List Dropped → Type 0
 AreDropsOfHistory d entries offers cycles drops =
     (background : List Background) (book : Contents) → AreBackground d background → IsBookOfHistory d entries offers background cycles book → drops ≡ book.drops
 
--- of each legal history by which the offers are judged so
+-- they are the drops of each legal history that judges the offers by these verdicts
 abbrev pub AreDropsBy : Domain → List Offer → ℕ → List EdgeVerdict → List Dropped → Type 0
 AreDropsBy d offers cycles edge_verdicts drops =
     (entries : List Recorded) (rows : List Row) → IsLegalHistory d entries →

@@ -1,4 +1,4 @@
--- The offers of a run, with where their first hops stand.
+-- The offers of a run, with the positions of their first hops.
 use Rattle.std.specs.Prelude.{ℕ, ◌≡◌, ◌<◌, nat_lt, if◌then◌else◌, List, Some, length, slice_get}
 use Rattle.cqf_model.specs.declared.frames.Offer.{Offer}
 use Rattle.cqf_instants.specs.declared.offers.Entering.{Entering}
@@ -9,12 +9,12 @@ use Rattle.cqf_instants_run.specs.declared.judged.EdgeVerdict.{EdgeVerdict}
 use Rattle.cqf_instants_run.specs.declared.judged.EdgeVerdict.TheVariants.{Covered, Dropped}
 use Rattle.cqf_instants_run.specs.Laid.{no_group}
 
--- by what an offer goes: the first hops of the row that covers it, and none where it is dropped
+-- the first hops of an offer: those of the row that covers it, and none if it is dropped
 abbrev pub group_for : List Group → EdgeVerdict → Group
 group_for groups (Covered place) = group_at groups place
 group_for groups (Dropped reason) = no_group
 
--- and none where it is offered behind the run's end
+-- and none if it is offered at the run's end or later
 abbrev pub group_until : ℕ → List Group → Offer → EdgeVerdict → Group
 group_until end groups offer edge_verdict = if nat_lt offer.at.0 end then group_for groups edge_verdict else no_group
 
@@ -22,7 +22,7 @@ group_until end groups offer edge_verdict = if nat_lt offer.at.0 end then group_
 abbrev pub entering_by : Offer → Group → Entering
 entering_by offer group = record { at = offer.at.0; octets = offer.octets; first = group.first; many = group.many }
 
--- the offers below a place enter as they are judged
+-- the first `many` offers enter by their verdicts
 pub record AreEntered (end : ℕ) (offers : List Offer) (edge_verdicts : List EdgeVerdict) (groups : List Group) (many : ℕ) (entering : List Entering) : Type 0 where
   pub count : length entering ≡ many
   pub each : (place : ℕ) (offer : Offer) (edge_verdict : EdgeVerdict) → place < many → slice_get offers place ≡ Some offer →

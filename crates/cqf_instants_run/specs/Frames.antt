@@ -5,14 +5,14 @@ use Rattle.cqf_model.specs.declared.frames.Backed.{Backed}
 use Rattle.cqf_model.specs.declared.frames.Background.{Background}
 use Rattle.cqf_model.specs.Network.{numbered_background}
 
--- a background frame comes before an instant
+-- the background frame arrives before an instant
 abbrev pub is_early : ℕ → Backed → Bool
 is_early end x = nat_lt x.background.at.0 end
 
--- a background frame comes at an instant
+-- the background frame arrives at an instant
 abbrev pub is_at : ℕ → Backed → Bool
 is_at t x = x.background.at.0 == t
 
--- those before an instant, by instant, then place
+-- the background frames before an instant, by instant, then index
 abbrev pub by_instant : List Background → ℕ → List Backed
 by_instant background end = each_below (λ t. filter (is_at t) (numbered_background background)) end

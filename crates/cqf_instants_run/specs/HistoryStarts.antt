@@ -1,4 +1,4 @@
--- A run of a history, as its starts are told: from the links, the streams' trees and the offers, with what was judged of them.
+-- A run of a history as the basis for its starts: from the links, the streams' trees and the offers with their verdicts.
 use Rattle.std.specs.Prelude.{ℕ, ◌≡◌, ◌≤◌, List, length}
 use Rattle.cqf_model.specs.declared.frames.Background.{Background}
 use Rattle.cqf_model.specs.declared.frames.Offer.{Offer}
@@ -16,8 +16,8 @@ use Rattle.cqf_instants.specs.Progress.{IsBasisOf}
 use Rattle.cqf_instants_run.specs.declared.judged.EdgeVerdict.{EdgeVerdict}
 use Rattle.cqf_instants_run.specs.Coverage.{AreJudged}
 
--- a legal history of the domain that closes so many cycles, of which the rows are the streams that were ever granted, and in which the
--- verdicts say what becomes of the offers
+-- a legal history of the domain that closes at least `cycles` cycles; the rows are the streams that it ever granted, and the verdicts are
+-- those on the offers
 pub record IsLaidOutHistoryOf (d : Domain) (cycles : ℕ) (rows : List Row) (offers : List Offer) (edge_verdicts : List EdgeVerdict)
     (entries : List Recorded) : Type 0 where
   pub legal : IsLegalHistory d entries
@@ -25,19 +25,19 @@ pub record IsLaidOutHistoryOf (d : Domain) (cycles : ℕ) (rows : List Row) (off
   pub streams : streams_of d entries ≡ rows
   pub judged : AreJudged d entries rows offers (length offers) edge_verdicts
 
--- there is one
+-- there is such a history
 pub record SomeHistory (d : Domain) (cycles : ℕ) (rows : List Row) (offers : List Offer) (edge_verdicts : List EdgeVerdict) : Type 0 where
   pub entries : List Recorded
   pub is : IsLaidOutHistoryOf d cycles rows offers edge_verdicts entries
 
--- the starts of a run can be told from a basis
+-- the starts of the run can be computed from the basis
 pub record IsBasisOfRun (run : Run) (net : Network) (basis : Basis) : Type 0 where
   pub given : Given
   pub is_run : given.run ≡ run
   pub is_net : given.net ≡ net
   pub is_basis : IsBasisOf given basis
 
--- there is a run of which they can be, and of each history with these rows they can be, in each legal network of its run, whatever the background
+-- the basis is that of some run, and of the run of each history with these rows, in each of its legal networks, for any background frames
 pub record IsBasisOfHistory (d : Domain) (cycles : ℕ) (rows : List Row) (offers : List Offer) (edge_verdicts : List EdgeVerdict) (basis : Basis) : Type 0 where
   pub are_cycles : basis.cycles ≡ cycles
   pub some : SomeRun basis

@@ -1,4 +1,4 @@
--- The trees of the streams of a run, laid one behind the other.
+-- The trees of a run's streams, laid one after the other.
 use Rattle.std.specs.Prelude.{ℕ, Bool, true, false, ◌≡◌, ◌+◌, ◌*◌, ◌≤◌, ◌<◌, ◌&&◌, nat_lt, All, Contains, List, Option, Some, None, length, slice_get}
 use Rattle.cqf_model.specs.declared.topology.Hop.{Hop}
 use Rattle.cqf_model.specs.declared.topology.Row.{Row}
@@ -8,7 +8,7 @@ use Rattle.cqf_instants.specs.Lanes.{branch_at}
 use Rattle.cqf_instants.specs.declared.laying.Group.{Group}
 use Rattle.cqf_instants.specs.LaidTrees.{IsLaidBranch, StandBehind, behind_at, group_at, is_of_tree}
 
--- whether a stream is live in one of the first cycles: the first in which it may be is the one in which it is admitted
+-- whether a stream is live in one of the first `cycles` cycles; the first cycle in which it can be live is that of its admission
 abbrev pub is_live_below : ℕ → Row → Bool
 is_live_below cycles row = nat_lt row.admitted.0 cycles && is_live row row.admitted.0
 
@@ -20,18 +20,18 @@ HaveLowLinks rows = (row : Row) → Contains rows row → All (λ (hop : Hop). h
 abbrev pub no_group : Group
 no_group = record { first = 0; many = 0 }
 
--- a stream's tree is laid behind the branches where it is live in one of the first cycles; else nothing is
+-- a stream's tree is laid after the branches if the stream is live in one of the first `cycles` cycles; else nothing is laid
 pub record LaysStream (cycles : ℕ) (row : Row) (before after : List LaidHop) (group : Group) : Type 0 where
   pub live : is_live_below cycles row ≡ true → IsLaidBranch row.tree.items before after group
   pub other_group : is_live_below cycles row ≡ false → group ≡ no_group
   pub other_branches : is_live_below cycles row ≡ false → after ≡ before
 
--- branches that stand side by side are the hops that follow a way in the tree of the row at a place
+-- adjacent branches are the hops that follow a path in the tree of the row at an index
 pub record AreHopsOf (row_of : ℕ → ℕ) (place : ℕ) (tree : List Hop) (way : Option ℕ) (branches : List LaidHop) (group : Group) : Type 0 where
   pub stand : StandBehind tree way branches group
   pub owned : (k : ℕ) → k < group.many → row_of (group.first + k) ≡ place
 
--- a branch is a hop of a row's tree, and leads to those that follow it
+-- a branch is a hop of a row's tree, and leads to the hops that follow it
 pub record IsHopOfRow (cycles : ℕ) (rows : List Row) (branches : List LaidHop) (row_of : ℕ → ℕ) (h : ℕ) : Type 0 where
   pub row : Row
   pub is : slice_get rows (row_of h) ≡ Some row
@@ -39,8 +39,8 @@ pub record IsHopOfRow (cycles : ℕ) (rows : List Row) (branches : List LaidHop)
   pub of_tree : is_of_tree row.tree.items h (branch_at branches h)
   pub behind : AreHopsOf row_of (row_of h) row.tree.items (Some (branch_at branches h).link) branches (behind_at branches h)
 
--- of the rows below a place the trees of those that are live in one of the first cycles are laid; a group a row says where the
--- hops from the edge stand. The row of whose tree a branch is a hop is known by its place
+-- the trees of those of the first `many` rows that are live in one of the first `cycles` cycles are laid; the group of each row is the
+-- position of its hops from the edge bridge. `row_of` gives the index of the row whose tree has a branch
 pub record AreLaid (cycles : ℕ) (rows : List Row) (many : ℕ) (branches : List LaidHop) (groups : List Group) : Type 0 where
   pub count : length groups ≡ many
   pub few : length branches ≤ 40200 * many

@@ -11,5 +11,5 @@ pub mod Feeding
 pub mod Sending
 pub mod BackgroundStarts
 pub mod Taping
--- what the inner functions say
+-- contracts of the inner functions
 pub mod Frames

@@ -14,17 +14,17 @@ use Rattle.cqf_laws_shift.specs.Run.{IsLegalRun}
 use Rattle.cqf_laws_coverage.specs.Told.{IsThere}
 use Rattle.cqf_instants_run.specs.Drops.{AreDropsOfHistory}
 
--- what streams' frames start in each legal run over the first cycles of a history
+-- the starts of streams' frames in each legal run over the first cycles of a history
 abbrev pub AreStartsOfHistory : Domain → List Recorded → List Offer → List Background → ℕ → List Started → Type 0
 AreStartsOfHistory d entries offers background cycles starts =
     (net : Network) → IsLegalRun (run_of_history d entries offers background cycles) net → starts ≡ starts_of d cycles net.carried
 
--- and what background frames
+-- the starts of background frames in these runs
 abbrev pub AreBackgroundOfHistory : Domain → List Recorded → List Offer → List Background → ℕ → List Started → Type 0
 AreBackgroundOfHistory d entries offers background cycles starts =
     (net : Network) → IsLegalRun (run_of_history d entries offers background cycles) net → starts ≡ background_of d cycles net.backed
 
--- a book is that of each legal history of which these are the starts, the background frames' starts, and the drops
+-- the book is that of each legal history with these starts, these starts of background frames, and these drops
 abbrev pub AreBookOfHistory : List Started → List Started → List Dropped → Contents → Type 0
 AreBookOfHistory starts backed drops book =
     (d : Domain) (entries : List Recorded) (offers : List Offer) (background : List Background) (cycles : ℕ) → IsAccepted d → IsLegalHistory d entries →
@@ -32,7 +32,7 @@ AreBookOfHistory starts backed drops book =
     AreStartsOfHistory d entries offers background cycles starts → AreBackgroundOfHistory d entries offers background cycles backed →
     AreDropsOfHistory d entries offers cycles drops → IsThere d entries offers background cycles book
 
--- where no background frame comes, of each of which these are the starts and the drops
+-- the same for each history without background frames that has these starts and drops
 abbrev pub AreQuietBookOfHistory : List Started → List Dropped → Contents → Type 0
 AreQuietBookOfHistory starts drops book =
     (d : Domain) (entries : List Recorded) (offers : List Offer) (cycles : ℕ) → IsAccepted d → IsLegalHistory d entries →

@@ -13,7 +13,8 @@ use Rattle.cqf_instants.specs.Progress.{AreStartsOf, Progress}
 use Rattle.cqf_instants_run.specs.declared.judged.EdgeVerdict.{EdgeVerdict}
 use Rattle.cqf_instants_run.specs.HistoryStarts.{IsLaidOutHistoryOf}
 
--- a pass before its first cycle, which tells the starts of each legal network of the run of each history with these rows, whatever the background
+-- a pass before its first cycle: it returns the starts of each legal network of the run of each history with these rows, for any background
+-- frames
 pub record IsPassOf (d : Domain) (cycles : ℕ) (rows : List Row) (offers : List Offer) (edge_verdicts : List EdgeVerdict) (pass : Progress) : Type 0 where
   pub begins : pass.told ≡ 0
   pub tells : (entries : List Recorded) (background : List Background) (net : Network) → IsLaidOutHistoryOf d cycles rows offers edge_verdicts entries →

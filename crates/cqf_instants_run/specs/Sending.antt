@@ -1,4 +1,4 @@
--- What a port starts of background frames beside streams' frames that come when they start.
+-- The background frames that a port starts if streams' frames arrive when they start.
 use Rattle.std.specs.Prelude.{ℕ, ◌≡◌, ◌<◌, ◌++◌, All, Bool, List, filter, length, map, nat_lt}
 use Rattle.cqf_units.specs.Timing.{cycle_at}
 use Rattle.cqf_lists.specs.Lists.{each_below}
@@ -14,17 +14,17 @@ use Rattle.cqf_laws_cycle.specs.Beside.{IsToldByClass}
 use Rattle.cqf_port.specs.PortState.{start_of}
 use Rattle.cqf_instants_run.specs.Feeding.{arrival_of_sent, backs_among, fed}
 
--- a start is of a background frame: of a class below 6
+-- the start is of a background frame: its class is below 6
 abbrev pub is_low : Start → Bool
 is_low start = nat_lt start.class 6
 
--- the background frames that a port of a link under the compiled gate list starts, up to an end, of what it is given
+-- the background frames that a link's port under the compiled gate list starts up to `end`, if it is given these arrivals
 pub record Backs (d : Domain) (end l : ℕ) (arrivals : List Arrival) (backed : List Start) : Type 0 where
   pub starts : List Transmission
   pub legal : AreLegal (record { entries = compiled_lists d l; octet_time = octet_time_of d l }) arrivals end starts
   pub are_backed : backed ≡ filter is_low (map (start_of arrivals) starts)
 
--- a port hands out, up to an end, starts that are legal for what it is given, and no others are
+-- a port returns starts up to `end` that are legal for its arrivals, and no other starts are legal
 pub record Hands (d : Domain) (end l : ℕ) (arrivals : List Arrival) (made : List Start) : Type 0 where
   pub starts : List Transmission
   pub legal : AreLegal (record { entries = compiled_lists d l; octet_time = octet_time_of d l }) arrivals end starts
@@ -32,23 +32,22 @@ pub record Hands (d : Domain) (end l : ℕ) (arrivals : List Arrival) (made : Li
       AreLegal (record { entries = compiled_lists d l; octet_time = octet_time_of d l }) arrivals end others → others ≡ starts
   pub are : made ≡ map (start_of arrivals) starts
 
--- a port starts the same background frames where the streams' frames come to it when they start, and where one has no background
--- frame, none
+-- a port starts the same background frames if the streams' frames arrive when they start; a port without background frames starts none
 abbrev pub PortStartsTheBackground : Type 0
 PortStartsTheBackground = (d : Domain) (end l : ℕ) (queued : List QueuedFrame) (sents : List Sent) (backed : List Start) →
     IsAccepted d → l < length d.links → All IsToldByClass queued → Sends d (compiled_lists d l) end l queued sents backed →
     Backs d end l (fed (backs_among queued) (map (arrival_of_sent d) sents)) backed
 
--- a start in the background list, in the cycle of its instant
+-- a start as an entry of the background list, in the cycle of its instant
 abbrev pub told : ℕ → ℕ → Start → Started
 told cycle_time link start = started_backed (cycle_at cycle_time start.start.0) link start
 
--- what a port starts of background frames is told behind what was
+-- the background frames that a port starts are appended as entries
 abbrev pub TellsLink : Domain → ℕ → ℕ → List Arrival → List Started → List Started → Type 0
 TellsLink d end l arrivals before after =
     (backed : List Start) → Backs d end l arrivals backed → after ≡ before ++ map (told d.cycle_time l) backed
 
--- and so is what the ports of the first links start, by link
+-- the entries of the background frames that the ports of the first `count` links start, by link
 abbrev pub TellsLinks : Domain → ℕ → (ℕ → List Arrival) → ℕ → List Started → Type 0
 TellsLinks d end feeds count starts = (backed : ℕ → List Start) → ((l : ℕ) → l < count → Backs d end l (feeds l) (backed l)) →
     starts ≡ each_below (λ l. map (told d.cycle_time l) (backed l)) count

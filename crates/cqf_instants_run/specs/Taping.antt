@@ -1,4 +1,4 @@
--- What the links' tapes get of background frames when a run has ended, beside what stands on them.
+-- The background frames that are added to the links' tapes when a run has ended.
 use Rattle.std.specs.Prelude.{ℕ, ◌≡◌, ◌<◌, ◌*◌, ◌^◌, ◌++◌, List, length, map, slice_index_or}
 use Rattle.cqf_model.specs.declared.frames.Background.{Background}
 use Rattle.cqf_model.specs.declared.ports.Arrival.{Arrival}
@@ -14,12 +14,12 @@ use Rattle.cqf_tape.specs.Tapes.{background_at, first_links, links_of, mark_of_s
 use Rattle.cqf_instants_run.specs.Feeding.{fed}
 use Rattle.cqf_instants_run.specs.Sending.{Backs}
 
--- a stream's frame on a tape that comes when it starts, with the class that its cycle sends
+-- the arrival of a stream's frame on a tape at the instant at which it starts, with the class that its cycle sends
 abbrev pub arrival_of_mark : Domain → Mark → Arrival
 arrival_of_mark d m = record { at = m.start; class = open_class (cycle_of d m.start.0); octets = m.octets; frame = m.frame }
 
--- a legal run of the domain with these background frames, which ends then: the tapes stand by number of their links, and on each stand the
--- streams' frames that its link carries
+-- a legal run of the domain with these background frames that ends at `end`; the tapes are in order of link number, and each has exactly
+-- the streams' frames that its link carries
 pub record IsTapedRun (d : Domain) (end : ℕ) (background : List Background) (tapes : List Tape) (run : Run) (net : Network) : Type 0 where
   pub legal : IsLegalRun run net
   pub of_domain : run.domain ≡ d
@@ -35,21 +35,21 @@ pub record SomeTapedRun (d : Domain) (end : ℕ) (background : List Background) 
   pub net : Network
   pub is : IsTapedRun d end background tapes run net
 
--- each link's tape has besides what the network of each such run starts of background frames there, and nothing else is changed
+-- to each link's tape the background frames are added that the network of each such run starts there, and nothing else changes
 pub record BacksTheTapes (d : Domain) (end : ℕ) (frames : List Background) (before after : List Tape) : Type 0 where
   pub links : links_of after ≡ links_of before
   pub starts : (l : ℕ) → starts_at after l ≡ starts_at before l
   pub background : (run : Run) (net : Network) → IsTapedRun d end frames before run net → (l : ℕ) → l < length d.links →
       background_at after l ≡ background_at before l ++ map mark_of_start (net.backed l)
 
--- a tape has besides what its link's port starts of background frames up to an end, given these and the streams' frames of the tape
+-- to a tape the background frames are added that its link's port starts up to `end`, given these frames and the streams' frames of the tape
 pub record TakesBackground (d : Domain) (end : ℕ) (frames : List Arrival) (before after : Tape) : Type 0 where
   pub link : after.link ≡ before.link
   pub starts : after.starts ≡ before.starts
   pub background : (backed : List Start) → Backs d end before.link (fed frames (map (arrival_of_mark d) before.starts.items)) backed →
       after.background.items ≡ before.background.items ++ map mark_of_start backed
 
--- and so each tape of a list does, with the background frames that are fed by its place
+-- the same for each tape of a list, with the background frames that are given for its index
 pub record TakeBackground (d : Domain) (end : ℕ) (feeds : ℕ → List Arrival) (before after : List Tape) : Type 0 where
   pub many : length after ≡ length before
   pub each : (k : ℕ) (none : Tape) → k < length before → TakesBackground d end (feeds k) (slice_index_or before k none) (slice_index_or after k none)

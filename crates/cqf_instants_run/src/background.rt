@@ -16,14 +16,15 @@ use cqf_topology::Domain;
 use cqf_units::{Memory, Nanos};
 use std::alloc::Global;
 
-/// The starts of background frames in a run over so many cycles of a domain, all of which a history of it has closed, by cycle, then
-/// link, then instant: of each legal network of the run in which streams' frames start as given. There are at most
-/// 16,777,215 background frames, each for a link of the domain. The time grows with the starts, and with the
-/// background frames and their starts times the logarithm of their number, since these are sorted; a cycle in which nothing starts
-/// takes none.
+/// Returns the starts of background frames in the first `cycles` cycles of a domain, by cycle, then link, then instant. A legal history of
+/// the domain must have closed all these cycles. The result holds for each legal network of a run in which streams' frames start as given.
+/// There are at most 16,777,215 background frames, each for a link of the domain.
+///
+/// The time grows with the starts of streams' frames, and with n log n for n background frames and their starts, since these are sorted. A
+/// cycle in which nothing starts takes no time.
 ///
 /// # Errors
-/// Where a growth is refused.
+/// Returns `Memory` if an allocation fails.
 pub fn background_of_history(
     alloc: Global,
     domain: &Domain,
@@ -47,7 +48,7 @@ pub fn background_of_history(
     let end = Nanos(u64::from(cycles) * cycle_time.0);
     let frames = frames_before(alloc, background, end)?;
     let lists = feed_links(alloc, links, frames.as_slice(), starts)?;
-    // their ports have them now
+    // the ports have these frames now
     drop(frames);
     let mut backed = tell_links(alloc, domain, end, lists)?;
     backed.sort_by_key(|start| start.cycle.0)?;

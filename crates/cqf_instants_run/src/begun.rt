@@ -14,14 +14,14 @@ use std::collections::BTreeMap;
 pub(crate) struct RowsBegun<'r> {
     /// All rows, in order of number.
     pub(crate) rows: &'r [Row],
-    /// How many have begun: the first ones.
+    /// The number of rows that have begun. These are the first rows.
     pub(crate) count: usize,
-    /// By name, the place of the last one that has begun.
+    /// For each name, the index of its last row that has begun.
     pub(crate) last: &'r BTreeMap<Name, usize>,
 }
 
-/// Notes each row that has begun by a cycle as the last of its name, from a place on, and gives the place of the first that
-/// hasn't.
+/// Records each row from index `from` on that has begun by a cycle as the last of its name. Returns the index of the first row that hasn't
+/// begun.
 pub(crate) fn begin(
     rows: &[Row],
     from: usize,
@@ -42,7 +42,7 @@ pub(crate) fn begin(
     Ok(rows.len())
 }
 
-/// The place of the row of a name that is in force in a cycle, where the last of each name is known of those that have begun.
+/// Returns the index of the row of a name that is in force in a cycle, from the last row of each name among those that have begun.
 pub(crate) fn find_in_force(begun: &RowsBegun<'_>, name: &Name, cycle: Cycle) -> Option<usize>
     requires within { begun.now.count ≤ length begun.now.rows.now }
     requires leads { LeadsToLast begun.now.rows.now begun.now.count (λ name. get (slice_cmp nat_cmp) begun.now.last.now name) }

@@ -1,4 +1,4 @@
-//! The hops of covered offers, counted link by link.
+//! The hops of covered offers, counted for each link.
 ghost use Rattle.std.specs.Prelude.{ℕ, ◌≡◌, ◌+◌, ◌≤◌, ◌<◌, All, IfOk, length, sum_by};
 ghost use Rattle.cqf_model.specs.Run.{AreOffers};
 ghost use Rattle.cqf_model.specs.Traffic.{numbered};
@@ -15,10 +15,10 @@ use cqf_topology::Domain;
 use cqf_units::{Cycle, Memory, Nanos, cycle_of};
 use std::alloc::Global;
 
-/// Each hop of a tree is less deep than this.
+/// Each hop number of a tree is less than this.
 const DEPTHS: u32 = 256;
 
-/// Columns of so many cycles for so many links, in which nothing is counted.
+/// Returns a column for each of the first `links` links, with `width` cycles and nothing counted.
 fn empty_columns(alloc: Global, links: u16, width: u32) -> Result<Vec<Column>, Memory>
     ensures { IfOk result (λ columns. AreEmptyColumns columns.items links width) }
 {
@@ -30,7 +30,7 @@ fn empty_columns(alloc: Global, links: u16, width: u32) -> Result<Vec<Column>, M
     Ok(columns)
 }
 
-/// How many cycles columns need, of so many: in later ones no frame of these offers is under way.
+/// Returns how many of the first `cycles` cycles the columns need. In later cycles no frame of these offers is sent.
 fn width_of(offers: &[Offer], cycle_time: Nanos, cycles: u32) -> u32
     requires time { 10000 ≤ cycle_time.0 }
     requires early { All (λ offer. offer.at.0 < end_of_offers) offers.now }
@@ -43,7 +43,7 @@ fn width_of(offers: &[Offer], cycle_time: Nanos, cycles: u32) -> u32
     }
 }
 
-/// The hops by which an offer that is judged so leaves.
+/// Returns the hops by which an offer with this verdict leaves.
 fn hops_of(rows: &[Row], edge_verdict: EdgeVerdict) -> &[Hop]
     ensures hops { (cycle : ℕ) → result.now ≡ hops_of (verdict_of rows.now cycle edge_verdict) }
     ensures few { length result.now ≤ 200 }
@@ -58,7 +58,7 @@ fn hops_of(rows: &[Row], edge_verdict: EdgeVerdict) -> &[Hop]
     }
 }
 
-/// Counts a frame that leaves by a link in a cycle, where the domain has the link and the cycle is one of so many.
+/// Counts a frame that leaves by a link in a cycle, if the domain has the link and the cycle is one of the first `cycles` cycles.
 fn add_hop(columns: &mut Vec<Column>, link: u16, cycle: u32, octets: u32, cycles: u32)
     requires width { cycle < cycles → HaveWidth columns.old.items (cycle + 1) }
     requires room { HaveRoomFor cycles columns.old.items (λ l. counts_frames l cycles link cycle octets) (λ l c. counts_in l c link cycle octets) }
@@ -72,7 +72,7 @@ fn add_hop(columns: &mut Vec<Column>, link: u16, cycle: u32, octets: u32, cycles
     }
 }
 
-/// Counts a frame of an offer of a cycle at each of the hops by which it leaves.
+/// Counts a frame of an offer of this cycle at each of its hops.
 fn add_hops(columns: &mut Vec<Column>, hops: &[Hop], cycle: Cycle, octets: u32, cycles: u32)
     requires early { cycle.0 ≤ 100000000 }
     requires width { (depth : ℕ) → depth < 256 → cycle.0 + depth < cycles → HaveWidth columns.old.items (cycle.0 + depth + 1) }
@@ -94,13 +94,13 @@ fn add_hops(columns: &mut Vec<Column>, hops: &[Hop], cycle: Cycle, octets: u32, 
     }
 }
 
-/// What each of a domain's links carries in so many cycles, by number, when each of some offers is judged as the verdict at
-/// its place says: an offer that a row covers leaves by each link of the row's tree, as many cycles after its own as the link is
-/// deep. The offers stand in order of instant, and no link has 2^32 octets in a cycle. The time grows with the hops of
-/// the covered offers and with the columns, which end 256 cycles behind the last offer's.
+/// Returns the frames and octets that each of a domain's links carries in the first `cycles` cycles, by link number, if each offer is
+/// judged by the verdict at the same index. An offer that a row covers leaves by each link of the row's tree, as many cycles after its own
+/// as the link's hop number. The offers are in order of instant, and each link carries less than 2^32 octets in each cycle. The time grows
+/// with the hops of the covered offers and with the columns, which end at most 256 cycles after the last offer's cycle.
 ///
 /// # Errors
-/// Where a growth is refused.
+/// Returns `Memory` if an allocation fails.
 pub fn columns_of(
     alloc: Global,
     domain: &Domain,

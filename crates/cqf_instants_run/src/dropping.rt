@@ -1,4 +1,4 @@
-//! What edges drop, in the order of a book.
+//! The drops of edge bridges, in the order of a book.
 ghost use Rattle.std.specs.Prelude.{◌≡◌, ◌++◌, ◌≤◌, ◌<◌, All, IfOk, OnOk, length};
 ghost use Rattle.cqf_lists.specs.Lists.{each_below};
 ghost use Rattle.cqf_model.specs.Run.{AreOffers};
@@ -13,7 +13,7 @@ use cqf_topology::Domain;
 use cqf_units::{Cycle, Memory, Nanos, cycle_of};
 use std::alloc::Global;
 
-/// The drop of an offer of a cycle, where it is judged so.
+/// Returns the drop of an offer in a cycle if its verdict is a drop.
 fn drop_judged(
     cycle: Cycle,
     frame: u32,
@@ -34,7 +34,7 @@ fn drop_judged(
     }
 }
 
-/// The same, where its cycle is one of the first so many.
+/// Returns the same if the offer's cycle is one of the first `cycles` cycles, else `None`.
 fn drop_within(
     cycle_time: Nanos,
     cycles: u32,
@@ -54,7 +54,7 @@ fn drop_within(
     }
 }
 
-/// Puts a drop behind others, where there is one.
+/// Appends a drop if there is one.
 fn put(drops: &mut Vec<Dropped>, drop: Option<Dropped>) -> Result<(), Memory>
     ensures { OnOk result (drops.new.items ≡ drops.old.items ++ where_any drop) }
 {
@@ -64,7 +64,7 @@ fn put(drops: &mut Vec<Dropped>, drop: Option<Dropped>) -> Result<(), Memory>
     Ok(())
 }
 
-/// The drops of the offers of the first so many cycles, by place.
+/// Returns the drops of the offers in the first `cycles` cycles, in order of the offers.
 fn drops_by_place(
     alloc: Global,
     cycle_time: Nanos,
@@ -92,13 +92,14 @@ fn drops_by_place(
     Ok(drops)
 }
 
-/// The drops of a run of a domain over so many cycles, from what became of each offer, as each book has them of each legal
-/// history by which the offers are judged so: by cycle, then bridge, then frame. Offers of later cycles are in no
-/// book. The offers stand in order of instant, and each has a verdict at its place. They are gathered in one pass by place,
-/// and then sorted once: the time grows with the offers, and with the drops times the logarithm of their number.
+/// Returns the drops of a run of a domain over the first `cycles` cycles, by cycle, then bridge, then frame. The drops are those of each
+/// book of each legal history that judges the offers as the verdicts say. Offers of later cycles are in no book. The offers are in order of
+/// instant, and each has a verdict at the same index.
+///
+/// The drops are collected in one pass over the offers, then sorted once. The time grows with the offers, and with n log n for n drops.
 ///
 /// # Errors
-/// Where a growth is refused.
+/// Returns `Memory` if an allocation fails.
 pub fn drops_of(
     alloc: Global,
     domain: &Domain,

@@ -1,4 +1,4 @@
-//! The offers of a run, with where their first hops stand.
+//! The offers of a run, with the positions of their first hops.
 ghost use Rattle.std.specs.Prelude.{◌≡◌, IfOk, length};
 ghost use Rattle.cqf_instants_run.specs.Entered.{AreEntered, group_for, group_until};
 
@@ -11,7 +11,7 @@ use std::alloc::Global;
 /// No hops.
 const NONE: Group = Group { first: 0, many: 0 };
 
-/// Where the first hops of an offer stand that is judged so.
+/// Returns the first hops of an offer with this verdict.
 fn group_for(groups: &[Group], edge_verdict: EdgeVerdict) -> Group
     ensures { result ≡ group_for groups.now edge_verdict }
 {
@@ -24,7 +24,7 @@ fn group_for(groups: &[Group], edge_verdict: EdgeVerdict) -> Group
     }
 }
 
-/// And of one that is offered before an instant; of a later one none stand.
+/// Returns the same for an offer before `end`, and no hops for a later offer.
 fn group_until(end: Nanos, groups: &[Group], offer: &Offer, edge_verdict: EdgeVerdict) -> Group
     ensures { result ≡ group_until end.0 groups.now offer.now edge_verdict }
 {
@@ -35,12 +35,12 @@ fn group_until(end: Nanos, groups: &[Group], offer: &Offer, edge_verdict: EdgeVe
     }
 }
 
-/// Gives each of some offers, in their order, with where the hops stand by which it enters: where a row covers it, those of the
-/// group of the row, which is at the row's place; none where it is dropped, or offered at the end or later. There
-/// are as many verdicts as offers. The time grows with the offers.
+/// Returns the offers in order, each with the hops by which it enters. An offer that a row covers has the group at the row's index. An
+/// offer that is dropped, or is offered at `end` or later, has no hops. There are as many verdicts as offers. The time grows with the
+/// offers.
 ///
 /// # Errors
-/// Where a growth is refused.
+/// Returns `Memory` if an allocation fails.
 pub fn enter_offers(
     alloc: Global,
     end: Nanos,

@@ -1,4 +1,4 @@
-//! What the ports are given, link by link.
+//! The frames that each link's port is given.
 ghost use Rattle.std.specs.Prelude.{◌≡◌, ◌<◌, [], All, IfOk, OnOk, length};
 ghost use Rattle.cqf_lists.specs.ByNumber.{AddsTo, lists_of};
 ghost use Rattle.cqf_laws_cycle.specs.Compiled.{open_class};
@@ -11,10 +11,10 @@ use std::alloc::Global;
 /// The class of streams' frames that even cycles send.
 const CLASS_OF_EVEN_CYCLES: u8 = 7;
 
-/// The class that odd ones send.
+/// The class of streams' frames that odd cycles send.
 const CLASS_OF_ODD_CYCLES: u8 = 6;
 
-/// The class of streams' frames that a cycle sends.
+/// Returns the class of streams' frames that a cycle sends.
 pub(crate) fn class_of_cycle(cycle: u64) -> u8
     ensures { result ≡ open_class cycle }
 {
@@ -25,7 +25,7 @@ pub(crate) fn class_of_cycle(cycle: u64) -> u8
     }
 }
 
-/// A stream's frame that comes when it starts, with the class that its cycle sends.
+/// Returns the arrival of a stream's frame at the instant at which it starts, with the class that its cycle sends.
 fn arrival_of_start(start: &Started) -> Arrival
     ensures { result ≡ arrival_of_start start.now }
 {
@@ -37,7 +37,7 @@ fn arrival_of_start(start: &Started) -> Arrival
     }
 }
 
-/// A background frame as its port gets it.
+/// Returns the arrival of a background frame at its port.
 pub(crate) fn arrival_of_frame(frame: &Backed) -> Arrival
     ensures { result ≡ arrival_of_frame frame.now }
 {
@@ -49,7 +49,7 @@ pub(crate) fn arrival_of_frame(frame: &Backed) -> Arrival
     }
 }
 
-/// An empty list for each of so many links.
+/// Returns an empty list for each of the first `links` links.
 fn no_arrivals(alloc: Global, links: u16) -> Result<Vec<Vec<Arrival>>, Memory>
     ensures { IfOk result (λ lists. AreFed [] [] links (lists_of lists.items)) }
 {
@@ -60,7 +60,7 @@ fn no_arrivals(alloc: Global, links: u16) -> Result<Vec<Vec<Arrival>>, Memory>
     Ok(lists)
 }
 
-/// Puts an arrival behind those of a link.
+/// Appends an arrival to the list of a link.
 fn put_arrival(lists: &mut Vec<Vec<Arrival>>, link: u16, arrival: Arrival) -> Result<(), Memory>
     requires { link < length lists.old.items }
     ensures { OnOk result (AddsTo (lists_of lists.old.items) (lists_of lists.new.items) link arrival) }
@@ -69,7 +69,7 @@ fn put_arrival(lists: &mut Vec<Vec<Arrival>>, link: u16, arrival: Arrival) -> Re
     Ok(())
 }
 
-/// The background frames, link by link.
+/// Returns the background frames of each link.
 pub(crate) fn feed_frames(
     alloc: Global,
     links: u16,
@@ -85,7 +85,7 @@ pub(crate) fn feed_frames(
     Ok(lists)
 }
 
-/// Puts a stream's frame behind what its link's port is given, where that is anything.
+/// Appends a stream's frame to the list of its link, unless that list is empty.
 fn put_start(lists: &mut Vec<Vec<Arrival>>, start: &Started) -> Result<(), Memory>
     requires { start.now.link < length lists.old.items }
     ensures { OnOk result (AddsStart (lists_of lists.old.items) (lists_of lists.new.items) start.now) }
@@ -97,8 +97,8 @@ fn put_start(lists: &mut Vec<Vec<Arrival>>, start: &Started) -> Result<(), Memor
     Ok(())
 }
 
-/// What the port of each link is given: its background frames, and where there are any its streams' frames behind them, each
-/// from the instant on at which it starts.
+/// Returns what the port of each link is given: its background frames, then, if there are any, its streams' frames, each arriving at the
+/// instant at which it starts.
 pub(crate) fn feed_links(
     alloc: Global,
     links: u16,

@@ -8,7 +8,7 @@ use cqf_model::{Backed, Background};
 use cqf_units::{Memory, Nanos};
 use std::alloc::Global;
 
-/// The background frame at a place among all, with its number.
+/// Returns the background frame at an index, with its number, from 1.
 fn numbered_frame(place: usize, background: &Background) -> Backed
     requires { place + 1 < 2 ^ 32 }
     ensures { result ≡ record { frame = place + 1; background = background.now } }
@@ -19,14 +19,14 @@ fn numbered_frame(place: usize, background: &Background) -> Backed
     }
 }
 
-/// Whether a background frame comes before an instant.
+/// Returns whether a background frame arrives before an instant.
 fn is_early(frame: &Background, end: Nanos) -> bool
     ensures { result ≡ nat_lt frame.now.at.0 end.0 }
 {
     frame.at.0 < end.0
 }
 
-/// The background frames that come before an instant, as they are listed.
+/// Returns the background frames that arrive before an instant, in the order of the list.
 fn listed_before(
     alloc: Global,
     background: &[Background],
@@ -44,7 +44,7 @@ fn listed_before(
     Ok(frames)
 }
 
-/// The background frames that come before an instant, by instant, then place, each with its number among all.
+/// Returns the background frames that arrive before an instant, by instant, then index, each with its number among all background frames.
 pub(crate) fn frames_before(
     alloc: Global,
     background: &[Background],

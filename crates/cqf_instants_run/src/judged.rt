@@ -1,4 +1,4 @@
-//! What becomes of offers, in their order.
+//! The verdicts on offers, in order.
 ghost use Rattle.std.specs.Prelude.{◌≡◌, ◌≤◌, ◌<◌, IfOk, List, None, length, replicate};
 ghost use Rattle.std.specs.BTreeMap.{get};
 ghost use Rattle.std.specs.Cmp.Lexicographic.{slice_cmp};
@@ -17,24 +17,24 @@ use cqf_units::{Cycle, Memory, cycle_of};
 use std::alloc::Global;
 use std::collections::BTreeMap;
 
-/// What becomes of an offer at its edge.
+/// The verdict on an offer at its edge bridge.
 #[derive(Clone, Copy, Debug, PartialEq, Eq)]
 pub enum EdgeVerdict {
-    /// The row at this place covers it.
+    /// The row at this index covers the offer.
     Covered(usize),
-    /// It is dropped, for this reason.
+    /// The offer is dropped for this reason.
     Dropped(Reason),
 }
 
-/// What covered offers have used of a row's octets in a cycle, the last in which one used some.
+/// The octets of a row that covered offers have used in `cycle`, the last cycle in which one used any.
 #[derive(Clone, Copy, Debug)]
 pub(crate) struct Used {
     pub(crate) cycle: u32,
     pub(crate) octets: u32,
 }
 
-/// What is used of a row in a cycle behind an offer that it covers, of which so much is used before, or the first reason
-/// against the offer.
+/// Returns the octets used of a row in a cycle after an offer that it covers, given the octets used before. Returns the first reason
+/// against the offer if the row doesn't cover it.
 fn used_behind(
     domain: &Domain,
     row: &Row,
@@ -60,7 +60,7 @@ fn used_behind(
     Ok(asked as u32)
 }
 
-/// What is used of a row in a cycle.
+/// Returns the octets used of a row in a cycle.
 fn octets_in(used: &Used, cycle: Cycle) -> u32
     ensures { result ≡ used_in cycle.0 used.now }
 {
@@ -71,7 +71,7 @@ fn octets_in(used: &Used, cycle: Cycle) -> u32
     }
 }
 
-/// Judges an offer of a cycle, and counts what it uses.
+/// Judges an offer of a cycle, and counts the octets that it uses.
 fn judge(
     domain: &Domain,
     begun: &RowsBegun<'_>,
@@ -100,7 +100,7 @@ fn judge(
     }
 }
 
-/// A counter for each of so many rows, of which nothing is used.
+/// Returns an unused counter for each of `rows` rows.
 fn no_use(alloc: Global, rows: usize) -> Result<Vec<Used>, Memory>
     ensures { IfOk result (λ used. used.items ≡ replicate rows (record { cycle = 0; octets = 0 })) }
 {
@@ -110,13 +110,13 @@ fn no_use(alloc: Global, rows: usize) -> Result<Vec<Used>, Memory>
     }; rows]?)
 }
 
-/// What becomes of each of some offers of a domain, by the rows that were ever granted in it, in order of number: the row of
-/// the offer's name that is held in the offer's cycle covers it, where it is live, begins at the offer's bridge, and has the
-/// octets left that the covered offers before it in this cycle leave; else it is dropped, for the first of these reasons
-///. Of a cycle that the history hasn't closed nothing is said. The time grows with the rows and the offers.
+/// Returns the verdict on each offer of a domain, by the rows that were ever granted in the domain, in order of number. The row of the
+/// offer's name that is held in the offer's cycle covers the offer if it is live, begins at the offer's bridge, and has enough octets left
+/// after the covered offers before it in this cycle. Else the offer is dropped for the first of these reasons. The verdict on an offer says
+/// nothing if the history hasn't closed the offer's cycle. The time grows with the rows and the offers.
 ///
 /// # Errors
-/// Where a growth is refused.
+/// Returns `Memory` if an allocation fails.
 pub fn cover(
     alloc: Global,
     domain: &Domain,

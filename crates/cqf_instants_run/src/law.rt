@@ -1,9 +1,9 @@
-//! What a port starts of background frames.
+//! The background frames that a port starts.
 ghost use Rattle.cqf_instants_run.specs.Sending.{PortStartsTheBackground};
 
-/// A port under the compiled gate list starts the same background frames from the same instants on where the streams' frames
-/// come to it when they start, each with the class that its cycle sends, and not earlier; and where no background frame comes,
-/// it starts none (IEEE 802.1Q, 8.6.8; profile).
+/// States a law: a port under the compiled gate list starts the same background frames at the same instants if each stream's frame arrives
+/// only when it starts, with the class that its cycle sends, and not earlier. If no background frame arrives, the port starts none (IEEE
+/// 802.1Q, 8.6.8).
 pub fn port_starts_the_background()
     ensures { PortStartsTheBackground }
 {

@@ -1,4 +1,4 @@
-//! The trees of streams, one behind the other.
+//! The trees of streams, one after the other.
 ghost use Rattle.std.specs.Prelude.{◌≡◌, ◌+◌, ◌<◌, ◌≤◌, ◌^◌, ◌&&◌, All, IfOk, length};
 ghost use Rattle.cqf_instants_run.specs.Laid.{AreLaid, HaveLowLinks, LaysStream, is_live_below};
 ghost use Rattle.cqf_model.specs.Limits.{most_calls};
@@ -8,21 +8,21 @@ use cqf_model::Row;
 use cqf_units::Memory;
 use std::alloc::Global;
 
-/// Whether a stream is live in one of the first cycles, of so many.
+/// Returns whether a stream is live in one of the first `cycles` cycles.
 fn is_live_below(row: &Row, cycles: u32) -> bool
     ensures { result ≡ is_live_below cycles row.now }
 {
     row.admitted.0 < cycles && row.live(row.admitted)
 }
 
-/// A place for each link, for the groups of a tree.
+/// Returns an empty group for each of 4,096 links, as working memory for one tree.
 fn no_groups(alloc: Global) -> Result<Vec<Group>, Memory>
     ensures { IfOk result (λ groups. length groups.items ≡ 4096) }
 {
     Ok(vec![in alloc; Group { first: 0, many: 0 }; 4096]?)
 }
 
-/// Lays a stream's tree behind the branches, where the stream is live in one of the first cycles. The groups are room to work in.
+/// Lays a stream's tree after the branches if the stream is live in one of the first `cycles` cycles. `groups` is working memory.
 fn lay_stream(
     row: &Row,
     cycles: u32,
@@ -42,12 +42,12 @@ fn lay_stream(
     }
 }
 
-/// Lays the trees of some streams one behind the other, of those that are live in one of the first cycles, of so many; no frame
-/// goes by another's. Gives the hops, and for each stream, by place, where those from the edge stand. There are at most 100,000
-/// streams, whose links have numbers below 4,096. The time grows with the hops.
+/// Lays the trees of the streams that are live in one of the first `cycles` cycles, one after the other. No frame takes the tree of another
+/// stream. Returns the hops and, for each stream by index, the group of its hops from the edge bridge. There are at most 100,000 streams,
+/// and their links have numbers below 4,096. The time grows with the hops.
 ///
 /// # Errors
-/// Where a growth is refused.
+/// Returns `Memory` if an allocation fails.
 pub fn lay_streams(
     alloc: Global,
     cycles: u32,

@@ -1,4 +1,4 @@
-//! What the starts of a history's run are told from.
+//! The basis from which the starts of a history's run are computed.
 ghost use Rattle.std.specs.Prelude.{◌≡◌, ◌≤◌, IfOk, length};
 ghost use Rattle.cqf_model.specs.Run.{AreOffers};
 ghost use Rattle.cqf_laws_coverage.specs.Judged.{StandInOrder};
@@ -14,7 +14,7 @@ use cqf_topology::Domain;
 use cqf_units::{Memory, Nanos};
 use std::alloc::Global;
 
-/// The links of a domain, by number.
+/// Returns the links of a domain, by number.
 fn links_of(alloc: Global, domain: &Domain) -> Result<Vec<Link>, Memory>
     ensures { IfOk result (λ links. links.items ≡ domain.now.links) }
 {
@@ -25,13 +25,12 @@ fn links_of(alloc: Global, domain: &Domain) -> Result<Vec<Link>, Memory>
     Ok(links)
 }
 
-/// Lays out a run over so many cycles of a domain, all of which a history of it has closed: the trees of the streams that the
-/// history ever granted, which are the rows, and the offers, which stand in order of instant, by what is judged of them
-///. From it the starts of the run are told, and background frames change none of them. The time grows with the
-/// hops of the rows and with the offers.
+/// Lays out a run over the first `cycles` cycles of a domain, all closed by a legal history. The rows are the streams that the history ever
+/// granted; their trees are laid. The offers are in order of instant; they are entered by their verdicts. The starts of the run are
+/// computed from the result, and background frames change none of them. The time grows with the hops of the rows and with the offers.
 ///
 /// # Errors
-/// Where a growth is refused.
+/// Returns `Memory` if an allocation fails.
 pub fn lay_run(
     alloc: Global,
     domain: &Domain,

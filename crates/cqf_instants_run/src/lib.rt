@@ -1,23 +1,25 @@
-//! A run without gates, by exact instants: what becomes of each offer at its edge, what its starts are told from, what each link carries, what
-//! edges drop, and when background frames start.
+//! A run without gates, by exact instants: the verdict on each offer at its edge bridge, the basis from which starts are computed, the
+//! frames and octets of each link, the drops of edge bridges, and the starts of background frames.
 //!
-//! - **Offers.** [`cover`] judges them in their order, by the streams that were ever granted alone: by the row of the offer's name that is in
-//!   force in its cycle, and by what the offers before it have used of that row. A [`EdgeVerdict`] is what becomes of one.
-//! - **Starts.** `lay_run` makes a pass's basis of a domain, of the rows that a history ever granted, and of the offers as they are judged:
-//!   `lay_streams` lays the trees of the streams that are live in the run, one behind the other, and `enter_offers` gives each offer with
-//!   where its first hops stand. [`pass_of_history`] makes a pass of that, which tells the starts cycle by cycle and asks for no memory;
-//!   [`starts_of_history`] gathers them in one list.
-//! - **Sums by link**, from the offers alone. [`columns_of`] gives for each link how many frames it starts in the cycles of a run, and the octets
-//!   of those of each cycle: an offer that is covered leaves by each link of its stream's tree, as many cycles after its own as the link is deep.
-//! - **Background frames.** [`background_of_history`] gives the background list of a run's book. The port of each link that has such frames is
-//!   given these, and the streams' frames of the link, each from the instant on at which it starts; what it then starts of the former is told. No
-//!   stream gate is asked, and the port of a link without background frames is given nothing. [`keep_background`] puts the same on the tapes of a
-//!   run's links, when the run has ended. Behind both stands a law, [`port_starts_the_background`]: where the streams' frames come only when they
-//!   start, a port starts the same background frames from the same instants on.
-//! - **The book.** [`drops_of`] gives the drops of the cycles that are run, as a book has them, by cycle, bridge and frame. [`book_of_parts`]
-//!   makes the book of starts, background frames and drops, and `book_by_instants` that of a run in which no background frame comes.
+//! - **Offers.** [`cover`] judges offers in order. It uses only the streams that were ever granted: the row of the offer's name that is in
+//!   force in the offer's cycle, and the octets that earlier offers have used of that row. An [`EdgeVerdict`] is the result for one offer.
+//! - **Starts.** `lay_run` makes the basis of a pass from a domain, the rows that a history ever granted, and the judged offers. For this,
+//!   `lay_streams` lays the trees of the streams that are live in the run, one after the other, and `enter_offers` lists each offer with the
+//!   position of its first hops. [`pass_of_history`] makes a pass from the basis. The pass returns the starts cycle by cycle and allocates no
+//!   memory. [`starts_of_history`] collects them in one list.
+//! - **Sums by link**, from the offers alone. [`columns_of`] returns how many frames each link starts in the cycles of a run, and how many
+//!   octets in each cycle. A covered offer leaves by each link of its stream's tree, as many cycles after its own as the link's hop number.
+//! - **Background frames.** [`background_of_history`] returns the background list of a run's book. For each link with background frames, a
+//!   port is given these frames, and the link's streams' frames, each arriving at the instant at which it starts. The background frames that
+//!   the port then starts are recorded. No stream gate is used, and the port of a link without background frames is given nothing.
+//!   [`keep_background`] writes the same starts on the tapes of a run's links after the run. Both use the law
+//!   [`port_starts_the_background`]: if the streams' frames arrive only when they start, a port starts the same background frames at the same
+//!   instants.
+//! - **The book.** [`drops_of`] returns the drops of a run's cycles as a book has them, by cycle, bridge and frame. [`book_of_parts`] makes
+//!   the book from starts, background frames and drops, and `book_by_instants` makes the book of a run without background frames.
 //!
-//! With a stream `x` of 1,500 octets by the links 2 and 5, which begins at bridge 0 and is granted from cycle 0 on, over three cycles:
+//! An example: a stream `x` reserves 1,500 octets on the links 2 and 5, begins at bridge 0 and is granted from cycle 0 on. The run has
+//! three cycles:
 //!
 //! ```text
 //! frame 1, x at bridge 0, 1,000 octets     Covered(0)
@@ -28,8 +30,8 @@
 //!     drops: cycle 0, bridge 0, frame 2, Octets; cycle 0, bridge 0, frame 4, Unknown
 //! ```
 //!
-//! Of one link at 1,000 Mb/s, in cycles of 125,000 ns with 5,000 ns of guard time, whose stream's frame of 1,000 octets starts at 125,000, and is
-//! followed by the gap until 133,160:
+//! Another example: a link at 1,000 Mb/s, cycles of 125,000 ns and a guard band of 5,000 ns. A stream's frame of 1,000 octets starts at
+//! 125,000; with its gap it takes until 133,160:
 //!
 //! ```text
 //! starts: frame 1 at 125,000, 1,000 octets        the port is given: class 6 at 125,000, 1,000 octets

@@ -1,4 +1,4 @@
-//! The book of a run, made of its parts.
+//! The book of a run, made from its parts.
 ghost use Rattle.std.specs.Prelude.{◌≡◌, []};
 ghost use Rattle.cqf_model.specs.Book.{contents_of};
 ghost use Rattle.cqf_instants_run.specs.Parts.{AreBookOfHistory, AreQuietBookOfHistory};
@@ -6,8 +6,8 @@ ghost use Rattle.cqf_instants_run.specs.Parts.{AreBookOfHistory, AreQuietBookOfH
 use cqf_model::{Book, Dropped, Started};
 use std::alloc::Global;
 
-/// The book with these starts of streams' frames, these of background frames, and these drops. Where they are those of each
-/// legal run of a history, it is the one book of the history, and all that is promised of a run's book holds of it.
+/// Returns the book with these starts of streams' frames, these starts of background frames, and these drops. If they are those of each
+/// legal run of a history, it is the one book of the history, and all guarantees for a run's book hold for it.
 pub fn book_of_parts(starts: Vec<Started>, background: Vec<Started>, drops: Vec<Dropped>) -> Book
     ensures parts { contents_of result ≡ record { starts = starts.items; background = background.items; drops = drops.items } }
     ensures book { AreBookOfHistory starts.items background.items drops.items (contents_of result) }
@@ -21,8 +21,7 @@ pub fn book_of_parts(starts: Vec<Started>, background: Vec<Started>, drops: Vec<
     }
 }
 
-/// The same of a run in which no background frame comes: the book of its starts by exact instants, and of what its edges drop
-/// 
+/// Returns the same for a run without background frames: the book with these starts and these drops of edge bridges.
 pub fn book_by_instants(alloc: Global, starts: Vec<Started>, drops: Vec<Dropped>) -> Book
     ensures parts { contents_of result ≡ record { starts = starts.items; background = []; drops = drops.items } }
     ensures book { AreQuietBookOfHistory starts.items drops.items (contents_of result) }

@@ -20,13 +20,13 @@ use cqf_topology::Domain;
 use cqf_units::Memory;
 use std::alloc::Global;
 
-/// A pass over so many cycles of a domain, all of which a history of it has closed. It tells the starts of the streams' frames cycle by
-/// cycle, each by link, then instant: those of each legal network of the run, beside any background frames. The rows are the streams that
-/// the history ever granted, the offers stand in order of instant, and the verdicts say what becomes of them. It has all the
-/// memory that it will need, and the time grows with the hops of the rows and with the offers.
+/// Returns a pass over the first `cycles` cycles of a domain, all closed by a legal history. The pass returns the starts of the streams'
+/// frames cycle by cycle, each cycle by link, then instant: those of each legal network of the run, with any background frames. The rows
+/// are the streams that the history ever granted, the offers are in order of instant, and the verdicts are those of the offers. The pass
+/// has all the memory that it will need. The time grows with the hops of the rows and with the offers.
 ///
 /// # Errors
-/// Where a growth is refused.
+/// Returns `Memory` if an allocation fails.
 pub fn pass_of_history(
     alloc: Global,
     domain: &Domain,
@@ -45,11 +45,11 @@ pub fn pass_of_history(
     Pass::new(alloc, basis)
 }
 
-/// The starts that such a pass tells, of all cycles, by cycle, then link, then instant. The time grows with the hops of the
-/// rows, with the offers, and with the starts.
+/// Returns the starts of such a pass in all cycles, by cycle, then link, then instant. The time grows with the hops of the rows, with the
+/// offers and with the starts.
 ///
 /// # Errors
-/// Where a growth is refused.
+/// Returns `Memory` if an allocation fails.
 pub fn starts_of_history(
     alloc: Global,
     domain: &Domain,

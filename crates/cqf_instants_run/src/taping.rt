@@ -1,4 +1,4 @@
-//! The background frames that links start, put on their tapes when a run has ended.
+//! The starts of background frames, added to the links' tapes after a run.
 ghost use Rattle.std.specs.Prelude.{◌≡◌, ◌++◌, ◌<◌, ◌≤◌, ◌^◌, ℕ, [], OnOk, length, map, slice_index_or};
 ghost use Rattle.cqf_lists.specs.ByNumber.{lists_of};
 ghost use Rattle.cqf_model.specs.Limits.{most_rows};
@@ -17,7 +17,7 @@ use cqf_topology::Domain;
 use cqf_units::{Memory, Nanos};
 use std::alloc::Global;
 
-/// A stream's frame that comes when it starts, with the class that its cycle sends.
+/// Returns the arrival of a stream's frame at the instant at which it starts, with the class that its cycle sends.
 fn arrival_of_mark(domain: &Domain, mark: Mark) -> Arrival
     ensures { result ≡ arrival_of_mark domain.now mark }
 {
@@ -29,7 +29,7 @@ fn arrival_of_mark(domain: &Domain, mark: Mark) -> Arrival
     }
 }
 
-/// Puts a tape's streams' frames behind what its link's port is given, each from the instant on at which it starts.
+/// Appends a tape's streams' frames to its port's arrivals, each at the instant at which it starts.
 fn put_marks(domain: &Domain, marks: &[Mark], arrivals: &mut Vec<Arrival>) -> Result<(), Memory>
     ensures { OnOk result (arrivals.new.items ≡ arrivals.old.items ++ map (arrival_of_mark domain.now) marks.now) }
 {
@@ -39,8 +39,8 @@ fn put_marks(domain: &Domain, marks: &[Mark], arrivals: &mut Vec<Arrival>) -> Re
     Ok(())
 }
 
-/// Puts on a tape what its link's port starts of these background frames up to an end, beside what stands there of streams' frames: the
-/// port of a link without any is given nothing.
+/// Adds to a tape the starts of these background frames by its link's port up to `end`. The streams' frames on the tape stay. A link
+/// without background frames needs no port.
 fn keep_on(
     alloc: Global,
     domain: &Domain,
@@ -71,8 +71,8 @@ fn keep_on(
     Ok(())
 }
 
-/// Puts on each tape what its link's port starts of the background frames in the list of its place. Each list is let go once its port has
-/// run.
+/// Adds to each tape the starts by its link's port of the background frames in the list at the same index. Each list is freed after its
+/// port has run.
 fn keep_on_each(
     alloc: Global,
     domain: &Domain,
@@ -96,12 +96,14 @@ fn keep_on_each(
     Ok(())
 }
 
-/// Puts on the tapes of a run's links, by number, what each link starts of background frames until the run's end, beside what stands there
-/// of streams' frames: in each legal network of the run in which streams' frames start as on the tapes. The time grows with the
-/// background frames times the logarithm of their number, since these are sorted, and with what the ports of links that have any start.
+/// Adds to the tapes of a run's links, which are in order of link number, the starts of background frames until the run's end. The streams'
+/// frames on the tapes stay. The starts are those of each legal network of a run in which streams' frames start as on the tapes.
+///
+/// The time grows with n log n for n background frames, since these are sorted, and with the starts of all links that have background
+/// frames.
 ///
 /// # Errors
-/// Where a growth is refused. Some tapes may have theirs then.
+/// Returns `Memory` if an allocation fails. Some tapes may have their background frames then.
 pub fn keep_background(
     alloc: Global,
     domain: &Domain,
@@ -118,7 +120,7 @@ pub fn keep_background(
     let links = domain.links();
     let frames = frames_before(alloc, background, end)?;
     let lists = feed_frames(alloc, links, frames.as_slice())?;
-    // their ports have them now
+    // the ports have these frames now
     drop(frames);
     keep_on_each(alloc, domain, end, lists, tapes)?;
     Ok(())

@@ -1,4 +1,4 @@
-//! What the ports start of background frames.
+//! The background frames that ports start.
 ghost use Rattle.std.specs.Prelude.{◌≡◌, ◌++◌, ◌^◌, ◌<◌, ◌≤◌, All, IfOk, OnOk, filter, length, map, slice_index_or, ℕ, []};
 ghost use Rattle.cqf_units.specs.Timing.{cycle_at};
 ghost use Rattle.cqf_model.specs.Network.{compiled_lists};
@@ -16,14 +16,14 @@ use std::alloc::Global;
 /// The least class of streams' frames.
 const STREAMS: u8 = 6;
 
-/// Whether a start is of a background frame.
+/// Returns whether a start is of a background frame.
 pub(crate) fn is_low(start: &Start) -> bool
     ensures { result ≡ is_low start.now }
 {
     start.class < STREAMS
 }
 
-/// The start of a background frame as a book has it.
+/// Returns the book's entry for the start of a background frame.
 fn told(start: &Start, link: u16, cycle_time: Nanos) -> Started
     requires lasting { 0 < cycle_time.0 }
     requires fits { cycle_at cycle_time.0 start.now.start.0 < 2 ^ 32 }
@@ -38,7 +38,7 @@ fn told(start: &Start, link: u16, cycle_time: Nanos) -> Started
     }
 }
 
-/// Puts the starts of background frames behind others, each as a book has it.
+/// Appends the book's entries for the starts of background frames.
 fn tell_starts(
     made: &[Start],
     link: u16,
@@ -57,7 +57,7 @@ fn tell_starts(
     Ok(())
 }
 
-/// The gate list of the port of a link, by its guard time.
+/// Returns the gate list of a link's port, by the link's guard band.
 fn port_list_of(domain: &Domain, link: u16) -> TxList
     requires { link < length domain.now.links }
     ensures { result ≡ compiled_lists domain.now link }
@@ -67,7 +67,7 @@ fn port_list_of(domain: &Domain, link: u16) -> TxList
     compiled_list(cycle_time, Nanos(u64::from(own)))
 }
 
-/// What the port of a link starts up to an end of what it is given.
+/// Returns the starts of a link's port up to `end`, if it is given these arrivals.
 pub(crate) fn starts_of_port(
     alloc: Global,
     domain: &Domain,
@@ -87,7 +87,7 @@ pub(crate) fn starts_of_port(
     Ok(made)
 }
 
-/// Tells what the port of a link starts of background frames, behind what was told.
+/// Appends the entries of the background frames that a link's port starts.
 fn tell_link(
     alloc: Global,
     domain: &Domain,
@@ -107,8 +107,8 @@ fn tell_link(
     Ok(())
 }
 
-/// What the ports of the links start of background frames up to an end, of what each is given, by link. Each list is let go once
-/// its port has run.
+/// Returns the starts of background frames by the ports of all links up to `end`, by link, from the arrivals of each port. Each list is
+/// freed after its port has run.
 pub(crate) fn tell_links(
     alloc: Global,
     domain: &Domain,

@@ -1,4 +1,4 @@
--- What a port sends stands in order of instant.
+-- What a port sends is in order of instant.
 use Rattle.std.proofs.Common.{ℕ, ◌<◌, ◌≤◌, List, sym, arith, subst, AllPairs}
 use Rattle.std.specs.Prelude.{Option, Some, None, slice_index_or}
 use Rattle.cqf_lists.proofs.Made.{pairs_of_flat}
@@ -12,7 +12,7 @@ use Rattle.cqf_model.specs.Network.{QueuedFrame, Sends, backed_by, backed_of, no
 use Rattle.cqf_model.specs.Port.{Transmission}
 use Rattle.cqf_model.proofs.Sending.{backed_of_when, sent_of_once, sent_of_when}
 
--- a transmission starts one background frame at most
+-- a transmission starts at most one background frame
 backed_once : (R : Start → Start → Type 0) (t : ℕ) (x : Arrival) (stream : Option ℕ) → AllPairs R (backed_by t x stream)
 backed_once R t x None = pairs_one R (record { start = record { 0 = t }; class = x.class; octets = x.octets; frame = x.frame })
 backed_once R t x (Some stream) = pairs_none R

@@ -1,4 +1,4 @@
--- The tables that a seat closes which alone seals.
+-- The tables that a seat closes if it alone seals.
 use Rattle.std.proofs.Common.{◌≡◌, ℕ, zero, suc, ◌+◌, ◌-◌, ◌<◌, ◌≤◌, ◌++◌, [], ◌∷◌, List, Some, length, refl, sym, ap}
 use Rattle.std.proofs.Common.{◌∙◌, arith, subst, inl, inr, eq-eqb, Contains}
 use Rattle.std.proofs.lemmas.List.{append-nil, take_all}
@@ -16,23 +16,23 @@ use Rattle.cqf_admission.specs.Tables.{CycleTable}
 use Rattle.cqf_desk.specs.Closing.{closed_by, is_seal_by, table_closed, tables_by}
 use Rattle.cqf_laws_account.specs.Sealing.{SealsAlone, cycle_tables}
 
--- an element behind a front stands so far behind it
+-- an element after a front, by its distance from the front
 behind_front : {X : Type 0} (xs : List X) (n i place : ℕ) (x : X) → place ≡ n + i → slice_get xs place ≡ Some x → slice_get (drop n xs) i ≡ Some x
 behind_front xs zero i place x e there = let same : place ≡ i = omega (arith, e) in subst (λ (k : ℕ). slice_get xs k ≡ Some x) same there
 behind_front [] (suc n) i place x e there = absurd cc
 behind_front (y ∷ xs) (suc n) i zero x e there = absurd (omega (arith, e))
 behind_front (y ∷ xs) (suc n) i (suc place) x e there = behind_front xs n i place x (omega (arith, e)) there
 
--- whether an entry is a Seal, of whatever seat
+-- whether an entry is a Seal, of any seat
 abbrev pub is_any_seal : Recorded → Bool
 is_any_seal e = is_seal e.act
 
--- the table that is closed at a place where the entry passes a test
+-- the table that is closed at an index if the entry there passes a test
 abbrev pub closed_where : (Recorded → Bool) → Domain → List Recorded → ℕ → List CycleTable
 closed_where test d entries place =
     option_map_or (λ (e : Recorded). if test e then table_closed d entries place ∷ [] else []) (slice_get entries place) []
 
--- where the entry is known
+-- if the entry is known
 closed_where_is : (test : Recorded → Bool) (d : Domain) (entries : List Recorded) (place : ℕ) (e : Recorded) → slice_get entries place ≡ Some e →
     closed_where test d entries place ≡ (if test e then table_closed d entries place ∷ [] else [])
 closed_where_is test d entries place e there =
@@ -68,14 +68,14 @@ all_closed d entries (suc n) upto =
       | inr past ↦ absurd (omega (arith, past.0, upto))
     ]
   where
-    -- numbers with one more, and with none
+    -- adding one
     add_one : (k : ℕ) → k + 1 ≡ suc k
     add_one k = omega arith
 
     add_none : (k : ℕ) → k + 0 ≡ k
     add_none k = omega arith
 
--- a Seal of one seat, where no other seals, is any Seal
+-- if no other seat seals, any Seal is one of this seat
 seal_of_seat : (entries : List Recorded) (first number : ℕ) (e : Recorded) → SealsAlone entries first number → Contains (drop first entries) e →
     is_seal_by number e ≡ is_any_seal e
 seal_of_seat entries first number e alone there =
@@ -84,7 +84,7 @@ seal_of_seat entries first number e alone there =
       | inr other ↦ and_right (e.seat == number) (is_seal e.act) other ∙ sym other
     ]
 
--- so at each place behind the opening part it closes what any would
+-- so at each index after the opening part it closes what any Seal would
 same_there : (d : Domain) (entries : List Recorded) (first number i : ℕ) → SealsAlone entries first number → i < length entries - first →
     closed_by d entries number (first + i) ≡ closed_where is_any_seal d entries (first + i)
 same_there d entries first number i alone below =

@@ -1,4 +1,4 @@
--- The history that seats bear out.
+-- The history that seats confirm.
 use Rattle.std.proofs.Common.{◌≡◌, ℕ, ◌+◌, ◌<◌, ◌==◌, List, Some, length, refl, sym, ap, ◌∙◌, arith, subst, inl, inr, eq-eqb, Contains}
 use Rattle.std.specs.Prelude.{All, drop, true, slice_get}
 use Rattle.std.proofs.lemmas.Bool.{cases_lt, false≢true}
@@ -15,13 +15,13 @@ use Rattle.cqf_desk.specs.Desk.{Sitting}
 use Rattle.cqf_laws_account.specs.Sealing.{OneSeatClosesAllTables, SealsAlone, cycle_tables}
 use Rattle.cqf_laws_account.specs.Seated.{AreSeated, AsksForNoSeal, ClosesItsCycles}
 
--- what holds of all holds of a member
+-- a property of all elements holds of each one
 of_member : {X : Type 0} (P : X → Type 0) (xs : List X) (x : X) → All P xs → Contains xs x → P x
 of_member P xs x all h = subst P h.2 (all h.0 x h.1)
 
 module _ (d : Domain) (opening : List Recorded) (asked : List (List Act)) (cycles : ℕ) (seats : List Sitting) (entries : List Recorded)
     (is : IsOfSeats opening d (length asked + 1) seats entries) (seated : AreSeated asked cycles seats) where
-  -- the entries behind the opening part
+  -- the entries after the opening part
   abbrev rest : List Recorded
   rest = drop (length opening) entries
 
@@ -31,13 +31,13 @@ module _ (d : Domain) (opening : List Recorded) (asked : List (List Act)) (cycle
       let borne : IsBorneOut d entries (length opening) s = of_member (IsBorneOut d entries (length opening)) seats s is.own among in
       sym (borne.calls ∙ ap (λ (n : ℕ). calls_by n rest) its)
 
-  -- an administrator's are what was asked
+  -- an administrator's calls are the requested ones
   asked_of : (admin : ℕ) (acts : List Act) → slice_get asked admin ≡ Some acts → acts_of (calls_by admin rest) ≡ acts
   asked_of admin acts there =
       let w = seated.calls admin acts there in
       ap acts_of (own_calls w.0 admin w.1 w.2) ∙ w.3
 
-  -- so it is a history of what was asked
+  -- so it is a history of the requested calls
   pub history_of : IsHistoryOf d opening asked cycles entries
   history_of = record {
     legal = is.legal;
@@ -47,7 +47,7 @@ module _ (d : Domain) (opening : List Recorded) (asked : List (List Act)) (cycle
     known = is.known;
   }
 
-  -- a Seal behind the opening part is the conductor's
+  -- a Seal after the opening part is the conductor's
   sealed_by : AsksForNoSeal asked → (e : Recorded) → Contains rest e → is_seal e.act ≡ true → e.seat ≡ length asked
   sealed_by no_seal e among seal =
       elim (cases_lt e.seat (length asked)) [

@@ -1,4 +1,4 @@
--- A book is told from its tapes.
+-- A book is determined by its tapes.
 use Rattle.std.proofs.Common.{◌≡◌, ℕ, ◌*◌, ◌/◌, ◌<◌, ◌≤◌, ◌==◌, List, [], ◌∷◌, length, map, sym, ap, ap₂, ◌∙◌, arith, inl, inr, refl, filter, subst}
 use Rattle.std.proofs.Common.{AllPairs, Contains, eqb-true}
 use Rattle.std.proofs.lemmas.Bool.{cases_lt}
@@ -51,7 +51,7 @@ earlier n s t some less = elim (cases_lt s t) [
   | inr g ↦ absurd (omega (arith, less, cycles_ordered n t s some g))
 ]
 
--- a transmission is told from its mark
+-- a transmission is recovered from its mark
 told_again : (d : Domain) (link : ℕ) (x : Started) → x.link ≡ link → x.cycle.0 ≡ cycle_of d x.start.0 → started_by d link (mark_of x) ≡ x
 told_again d link x of_link of_cycle i = record {
   cycle = record { 0 = sym of_cycle i };
@@ -73,11 +73,11 @@ told_again_each d link (x ∷ xs) same =
 abbrev cycle_then : Domain → Started → ℕ
 cycle_then d x = cycle_of d x.start.0
 
--- one of a kind's transmissions comes before the other, or with it
+-- one transmission of a kind starts before the other, or at the same instant
 abbrev IsNoLater : Started → Started → Type 0
 IsNoLater x y = x.start.0 ≤ y.start.0
 
--- the transmissions of a kind by cycle and link, each of which they bear, and each in its cycle, in order of instant
+-- the transmissions of a kind by cycle and link, which each of them bears; each is in its cycle, and they are in order of instant
 record AreOfAKind (d : Domain) (cycles : ℕ) (lists : ℕ → ℕ → List Started) : Type 0 where
   has_cycle : (cycle link : ℕ) (x : Started) → Contains (lists cycle link) x → x.cycle.0 ≡ cycle
   has_link : (cycle link : ℕ) (x : Started) → Contains (lists cycle link) x → x.link ≡ link
@@ -89,7 +89,7 @@ abbrev all_starts : Domain → ℕ → (ℕ → ℕ → List Started) → List S
 all_starts d cycles lists = each_below (λ cycle. each_below (lists cycle) (length d.links)) cycles
 
 module _ (d : Domain) (cycles : ℕ) (lists : ℕ → ℕ → List Started) (are : AreOfAKind d cycles lists) where
-  -- what a link's marks tell of a cycle is what the link sends in it
+  -- a link's marks give for a cycle what the link sends in it
   told_on_link : (cycle link : ℕ) → cycle < cycles → link < length d.links → told_on d cycle link (marks_on link (all_starts d cycles lists)) ≡ lists cycle link
   told_on_link cycle link in_cycles in_links =
       let on_link = filter (λ (x : Started). link_of x == link) (all_starts d cycles lists) in
@@ -99,7 +99,7 @@ module _ (d : Domain) (cycles : ℕ) (lists : ℕ → ℕ → List Started) (are
       ∙ told_again_each d link (lists cycle link) (λ x h.
       told_again d link x (are.has_link cycle link x h) (are.has_cycle cycle link x h ∙ sym (are.in_cycle cycle link x h)))
 
-  -- so all are told from the links' marks
+  -- so all are recovered from the links' marks
   told_by_marks : (marks : ℕ → List Mark) → ((link : ℕ) → link < length d.links → marks link ≡ marks_on link (all_starts d cycles lists)) →
       all_starts d cycles lists ≡ each_below (λ cycle. each_below (λ link. told_on d cycle link (marks link)) (length d.links)) cycles
   told_by_marks marks same =
@@ -128,7 +128,7 @@ module _ (d : Domain) (cycles places : ℕ) (policed : ℕ → List Policed) whe
   has_bridge : (cycle bridge : ℕ) (x : Dropped) → Contains (drops_in d places policed cycle bridge) x → bridge_of_drop x ≡ bridge
   has_bridge cycle bridge x h = sym (ap bridge_of_drop (dropped_at d places policed cycle bridge x h).is)
 
-  -- drops by cycle and bridge are told from what there is of each bridge
+  -- drops by cycle and bridge are recovered from those of each bridge
   told_by_bridges : (drops : ℕ → List Dropped) →
       ((bridge : ℕ) → bridge < length d.bridges → drops bridge ≡ filter (is_at_bridge bridge) (drops_of d cycles places policed)) →
       drops_of d cycles places policed ≡ each_below (λ cycle. each_below (λ bridge. filter (is_drop_in cycle) (drops bridge)) (length d.bridges)) cycles
@@ -140,7 +140,7 @@ module _ (d : Domain) (cycles places : ℕ) (policed : ℕ → List Policed) whe
       sym (ap (filter (is_drop_in cycle)) (same bridge in_bridges)
       ∙ of_both bridge_of_drop cycles bridges (drops_in d places policed) has_bridge cycle_of_drop has_cycle cycle bridge in_cycles in_bridges)))
 
-  -- and of each bridge they are by cycle
+  -- and those of each bridge are by cycle
   drops_by_cycle : (bridge : ℕ) (drops : List Dropped) → bridge < length d.bridges →
       drops ≡ filter (is_at_bridge bridge) (drops_of d cycles places policed) → AreDropsByCycle drops
   drops_by_cycle bridge drops in_bridges same =
@@ -195,11 +195,11 @@ module _ (d : Domain) (cycles : ℕ) (tapes : Tapes) (book : Contents) (accepted
   abbrev run : Run
   run = record { domain = d; tables = some.tables; offers = some.offers; background = some.background }
 
-  -- what its bridges have done with what they were offered
+  -- the verdicts of its bridges on their frames
   abbrev policed : ℕ → List Policed
   policed bridge = policed_before run some.is_book.net.carried bridge (cycles * d.cycle_time)
 
-  -- the starts of either kind
+  -- the starts of both kinds
   abbrev lists_of : TransmissionKind → ℕ → ℕ → List Started
   lists_of Stream = starts_in d some.is_book.net.carried
   lists_of Background = background_in d some.is_book.net.backed
@@ -208,7 +208,7 @@ module _ (d : Domain) (cycles : ℕ) (tapes : Tapes) (book : Contents) (accepted
   kinds Stream = starts_of_a_kind run some.lists cycles some.is_book.net some.is_book.legal
   kinds Background = background_of_a_kind run some.lists cycles some.is_book.net some.is_book.legal
 
-  -- stand on the tapes
+  -- are on the tapes
   marks_are : (kind : TransmissionKind) (link : ℕ) → link < length d.links →
       marks_at kind tapes link ≡ marks_on link (all_starts d cycles (lists_of kind))
   marks_are Stream link inside = are.starts link inside ∙ ap (marks_on link) some.is_book.are_starts
@@ -219,11 +219,11 @@ module _ (d : Domain) (cycles : ℕ) (tapes : Tapes) (book : Contents) (accepted
       (drops_of d cycles (length some.offers) policed)
   drops_are bridge inside = are.drops bridge inside ∙ ap (filter (is_at_bridge bridge)) some.is_book.are_drops
 
-  -- the tapes tell the starts of either kind
+  -- the tapes give the starts of both kinds
   told_of_kind : (kind : TransmissionKind) → all_starts d cycles (lists_of kind) ≡ told_in_cycles d kind tapes cycles
   told_of_kind kind = told_by_marks d cycles (lists_of kind) (kinds kind) (marks_at kind tapes) (marks_are kind)
 
-  -- the tapes tell the book
+  -- the tapes give the book
   tells : book ≡ told_from d cycles tapes
   tells =
       let b = some.is_book in

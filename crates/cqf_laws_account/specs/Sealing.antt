@@ -1,4 +1,4 @@
--- A history of which one seat makes all Seals.
+-- A history in which one seat makes all Seals.
 use Rattle.std.specs.Prelude.{ℕ, ◌≡◌, ◌≤◌, List, ◌∷◌, [], Contains, drop, length, take, true}
 use Rattle.cqf_lists.specs.Lists.{each_below}
 use Rattle.cqf_model.specs.Domain.{Domain}
@@ -6,7 +6,7 @@ use Rattle.cqf_model.specs.History.{Recorded, is_seal, seals, table_at}
 use Rattle.cqf_admission.specs.Tables.{CycleTable}
 use Rattle.cqf_desk.specs.Closing.{tables_by}
 
--- no Seal stands in the opening part, and behind it each is the seat's
+-- the opening part has no Seal, and after it each Seal is the seat's
 pub record SealsAlone (entries : List Recorded) (first number : ℕ) : Type 0 where
   pub begins : first ≤ length entries
   pub none_before : seals (take first entries) ≡ 0

@@ -1,4 +1,4 @@
--- A book that is told from its tapes.
+-- A book and its tapes.
 use Rattle.std.specs.Prelude.{ℕ, ◌≡◌, List}
 use Rattle.cqf_model.specs.declared.frames.Background.{Background}
 use Rattle.cqf_model.specs.declared.frames.Offer.{Offer}
@@ -10,14 +10,14 @@ use Rattle.cqf_laws_cycle.specs.PageLaws.{IsSomeBook}
 use Rattle.cqf_tape.specs.declared.tapes.Tapes.{Tapes}
 use Rattle.cqf_tape.specs.Tapes.{AreTapesOf, MayBeTold, told_from}
 
--- the one-thread book of a history over so many cycles, of which these are the tapes
+-- the one-thread book of a history over the first `cycles` cycles, and its tapes
 pub record HasTheTapes (d : Domain) (entries : List Recorded) (offers : List Offer) (background : List Background) (cycles : ℕ)
     (tapes : Tapes) (book : Contents) : Type 0 where
   pub of_history : IsBookOfHistory d entries offers background cycles book
   pub some : IsSomeBook d cycles book
   pub tapes_of : AreTapesOf d tapes book
 
--- the tapes of a book tell it, with nothing to be sorted
+-- the tapes of a book determine it, without sorting
 pub record TapesTell (d : Domain) (cycles : ℕ) (tapes : Tapes) (book : Contents) : Type 0 where
   pub told : book ≡ told_from d cycles tapes
   pub may : MayBeTold d tapes

@@ -1,15 +1,15 @@
 //! Laws about what is left when a run on threads has ended and its lists are compared: from the seats of a desk to the history, and from
 //! the tapes to the book.
 //!
-//! Each law is a function that does nothing: its contract is a statement of `specs/`, and its proof shows that the statement
-//! holds for each domain and history. A proof elsewhere uses the law by a call of the function.
+//! Each law is a function that does nothing. Its contract is a statement of `specs/`, and its proof shows that the statement holds for each
+//! domain and history. A proof elsewhere uses the law by calling the function.
 //!
-//! - Where one seat of a desk makes all Seals, the tables that it closes are those of the history ([`one_seat_closes_all_tables`]);
-//!   and the history of a desk has just what was asked of its seats ([`seats_give_the_history`]).
-//! - The tapes of a book tell it, cycle by cycle and link by link, with nothing to be sorted ([`tapes_tell_the_book`]).
+//! - If one seat of a desk makes all Seals, the tables that it closes are those of the history ([`one_seat_closes_all_tables`]). The history of
+//!   a desk has exactly what was requested from its seats ([`seats_give_the_history`]).
+//! - The tapes of a book determine it, cycle by cycle and link by link, without sorting ([`tapes_tell_the_book`]).
 //!
 //! ```
-//! // here on, a proof knows that tapes which are a book's tell that book
+//! // from here on, a proof knows that the tapes of a book determine it
 //! cqf_laws_account::tapes_tell_the_book();
 //! ```
 #![tactic(auto)]
@@ -18,14 +18,14 @@ ghost use Rattle.cqf_laws_account.specs.Sealing.{OneSeatClosesAllTables};
 ghost use Rattle.cqf_laws_account.specs.Seated.{ConductorHasTheTables, SeatsGiveTheHistory};
 ghost use Rattle.cqf_laws_account.specs.Taped.{TapesTellTheBook};
 
-/// The tables that a desk's seat closes which alone seals are the tables of the history's cycles, in order.
+/// States that if one seat of a desk makes all Seals, the tables that it closes are the tables of the history's cycles, in order.
 pub fn one_seat_closes_all_tables()
     ensures { OneSeatClosesAllTables }
 {}
 
-/// At a desk where each administrator makes what is asked of it and the next seat seals one cycle after the other, the closed
-/// history is of just that; and where the opening part has no Seal, the sealing seat's tables are those of the history's cycles
-/// 
+/// States laws about a desk at which each administrator makes the requested calls and the next seat seals one cycle after the other. The
+/// closed history has exactly these calls. If the opening part has no Seal, and no Seal is requested from an administrator, the sealing
+/// seat's tables are those of the history's cycles.
 pub fn seats_give_the_history()
     ensures history { SeatsGiveTheHistory }
     ensures tables { ConductorHasTheTables }
@@ -33,8 +33,8 @@ pub fn seats_give_the_history()
     one_seat_closes_all_tables();
 }
 
-/// The tapes of a book tell it: cycle by cycle the starts link by link, each from the link's tape, whose instants don't go back, and the drops
-/// bridge by bridge.
+/// States that the tapes of a book determine it: cycle by cycle the starts link by link, each from the link's tape, whose instants don't
+/// decrease, and the drops bridge by bridge.
 pub fn tapes_tell_the_book()
     ensures { TapesTellTheBook }
 {}

@@ -1,10 +1,10 @@
--- What a test keeps of a list, told in two ways.
+-- Filtering a list, mapped in two ways.
 use Rattle.std.proofs.Common.{◌≡◌, Bool, true, false, cond, List, map, filter, refl, sym, ap, ap₂, Contains}
 use Rattle.std.specs.Prelude.{[], ◌∷◌, ◌++◌}
 use Rattle.std.proofs.lemmas.Bool.{true≢false}
 use Rattle.cqf_lists.proofs.Members.{contains_here, contains_later}
 
--- what is kept of a list and told in two ways
+-- what is kept of a list, mapped in two ways
 pub kept_alike : {X A B Q : Type 0} (f : X → A) (g : X → B) (p : A → Bool) (q : B → Bool) (u : A → Q) (v : B → Q) (xs : List X) →
     ((x : X) → Contains xs x → p (f x) ≡ q (g x)) → ((x : X) → Contains xs x → q (g x) ≡ true → u (f x) ≡ v (g x)) →
     map u (filter p (map f xs)) ≡ map v (map g (filter (λ (x : X). q (g x)) xs))
@@ -26,14 +26,14 @@ kept_alike {X} {A} {B} {Q} f g p q u v (x ∷ xs) tests told =
     by_tests true false is head same = absurd (true≢false is)
     by_tests false true is head same = absurd (true≢false (sym is))
 
--- one element that is kept or not, told in two ways
+-- one element that is kept or not, mapped in two ways
 pub one_alike : {A Q : Type 0} (u : A → Q) (x : A) (y : Q) (a b : Bool) → a ≡ b → u x ≡ y → map u (cond a (x ∷ []) []) ≡ cond b (y ∷ []) []
 one_alike {A} {Q} u x y true true is same = ap (λ (z : Q). z ∷ []) same
 one_alike u x y false false is same = refl
 one_alike u x y true false is same = absurd (true≢false is)
 one_alike u x y false true is same = absurd (true≢false (sym is))
 
--- and in front of others
+-- and before others
 pub kept_in_front : {X A Q : Type 0} (g : X → A) (v : A → Q) (x : X) (xs : List X) (b : Bool) →
     cond b (v (g x) ∷ []) [] ++ map v (map g xs) ≡ map v (map g (cond b (x ∷ xs) xs))
 kept_in_front g v x xs true = refl

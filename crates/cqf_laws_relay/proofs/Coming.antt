@@ -1,4 +1,4 @@
--- The tables of a legal history may come to bridges whose links go on by themselves.
+-- The tables of a legal history may be given to bridges whose links go on separately.
 use Rattle.std.proofs.Common.{◌≡◌, ℕ, ◌+◌, ◌<◌, ◌≤◌, ◌==◌, List, [], true, false, Option, Some, None, inl, inr, refl, sym, ap, ◌∙◌, subst, arith}
 use Rattle.std.proofs.Common.{AllPairs, Contains, eq-eqb, get_or, length, map, nat_le, nat_lt}
 use Rattle.std.specs.List.{list_any}
@@ -45,7 +45,7 @@ module _ (says : RowsSayTheTables) (begin : RowsStandAsTheyBegin) (d : Domain) (
   abbrev streams : List Row
   streams = streams_of d entries
 
-  -- the table of a cycle that is run is the streams that are held in it, as of then
+  -- the table of a run's cycle is the streams that are held in it, as of then
   table_is_held : (cycle : ℕ) → cycle < cycles → table_of tables cycle ≡ map (as_of cycle) (held_in d entries cycle)
   table_is_held cycle within = get_or-singles (table_at d entries) cycles cycle [] within ∙ says d entries cycle (omega (arith, within, few))
 
@@ -75,7 +75,7 @@ module _ (says : RowsSayTheTables) (begin : RowsStandAsTheyBegin) (d : Domain) (
       let kept = contains_from_filter (λ (r : Row). is_held r cycle) streams made.0 made.1 in
       record { within = within; stream = made.0; among = kept.0; held = kept.1; number = ap (λ (r : Row). r.no) (sym made.2) }
 
-  -- a stream that is held in a cycle that is run stands in the cycle's table by its number
+  -- a stream that is held in a cycle of the run is in the cycle's table by its number
   stream_stands : (cycle : ℕ) (stream : Row) (number : ℕ) → cycle < cycles → Contains streams stream → is_held stream cycle ≡ true → stream.no ≡ number →
       list_any (λ (it : Row). it.no == number) (table_of tables cycle) ≡ true
   stream_stands cycle stream number within among held is =
@@ -84,7 +84,7 @@ module _ (says : RowsSayTheTables) (begin : RowsStandAsTheyBegin) (d : Domain) (
       member_any (λ (it : Row). it.no == number) (table_of tables cycle) (as_of cycle stream)
       (subst (λ (rows : List Row). Contains rows (as_of cycle stream)) (sym (table_is_held cycle within)) there) (eq-eqb stream.no number is)
 
-  -- streams stand by number, and as they were admitted
+  -- streams are in order of number, and in order of admission
   abbrev stands_before : Row → Row → Type 0
   stands_before a b = (a.no < b.no) × (a.admitted.0 ≤ b.admitted.0)
 
@@ -116,7 +116,7 @@ module _ (says : RowsSayTheTables) (begin : RowsStandAsTheyBegin) (d : Domain) (
             (stream_stands begins of.stream other.no (omega (arith, before, of.within)) of.among since.1 (sym of.number)))
       ]
 
-  -- and stands behind those of all earlier tables
+  -- and follows those of all earlier tables
   new_is_behind : (cycle later : ℕ) (row other : Row) → cycle < later → Contains (table_of tables cycle) row → Contains (table_of tables later) other →
       ((before : ℕ) → before < later → list_any (λ (it : Row). it.no == other.no) (table_of tables before) ≡ false) → row.no < other.no
   new_is_behind cycle later row other earlier in_row in_other none =

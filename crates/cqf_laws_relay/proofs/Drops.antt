@@ -1,4 +1,4 @@
--- What a bridge drops of a cycle's offers, judging one behind the other, is what the run drops there.
+-- The drops of a bridge among a cycle's offers, judged one after the other, are the run's drops there.
 use Rattle.std.proofs.Common.{◌≡◌, ℕ, ◌+◌, ◌-◌, ◌*◌, ◌<◌, [], ◌∷◌, ◌==◌, ◌⊎◌, List, None, inl, inr, refl, sym, ap, ◌∙◌, subst, arith}
 use Rattle.std.proofs.Common.{AllPairs, Contains, filter, length, eqb-true, eq-eqb}
 use Rattle.std.specs.List.{flat_map}
@@ -38,7 +38,7 @@ decided_judged run x (DroppedFor reason) uncovered = uncovered_judged run x reas
 decided_judged run x LacksRow never = absurd never
 decided_judged run x ExceedsGate never = absurd never
 
--- a verdict has one drop at most
+-- a verdict has at most one drop
 one_of_verdict : (R : Dropped → Dropped → Type 0) (cycle bridge : ℕ) (x : Received) (v : Verdict) → AllPairs R (drop_by cycle bridge x v)
 one_of_verdict R cycle bridge x (DroppedFor reason) = pairs_one R (drop_for cycle bridge x reason)
 one_of_verdict R cycle bridge x (Queued row) = pairs_none R
@@ -51,7 +51,7 @@ Ascend a b = a.frame < b.frame
 
 module _ (relayed : RelayedFramesAreQueuedOrLost) (run : Run) (net : Network) (means : MeansTheShift run net.carried) (bridge cycle : ℕ)
     (some : 0 < run.domain.cycle_time) (within : cycle < length run.tables) where
-  -- what becomes of what comes to a bridge
+  -- the verdicts on what arrives at a bridge
   abbrev given : ℕ → List Policed
   given b = policed_before run net.carried b (length run.tables * run.domain.cycle_time)
 
@@ -84,7 +84,7 @@ module _ (relayed : RelayedFramesAreQueuedOrLost) (run : Run) (net : Network) (m
       (eq-eqb x.frame (place + 1) (omega (arith, number.1)))))
       drop)
 
-  -- what is dropped came by no link
+  -- what is dropped arrived by no link
   at_edge : (p : Policed) (reason : Reason) → Contains (given bridge) p → p.verdict ≡ DroppedFor reason → came_by p.received.way ≡ None
   at_edge p reason c verdict = by_way p.received.way refl
     where
@@ -132,7 +132,7 @@ module _ (relayed : RelayedFramesAreQueuedOrLost) (run : Run) (net : Network) (m
       either : (a b : ℕ) → (a ≡ b → ⊥) → (a < b) ⊎ (b < a)
       either a b differ = elim (cases_order a b) [ inl e ↦ absurd (differ e) | inr o ↦ o ]
 
-  -- the run's stand in order of frame
+  -- the run's are in order of frame
   runs_ascend : AllPairs Ascend runs
   runs_ascend =
       let d = run.domain in

@@ -1,4 +1,4 @@
--- Links that go on by themselves by what came to their bridges send what the network sends.
+-- Links that go on separately by what arrived at their bridges send what the network sends.
 use Rattle.std.proofs.Common.{◌≡◌, ℕ, zero, suc, ◌+◌, ◌-◌, ◌*◌, ◌<◌, ◌≤◌, Bool, true, false, cond, List, length, map, filter, add-one, inl, inr, refl, sym, ap, ap₂, ◌∙◌}
 use Rattle.std.proofs.Common.{arith, subst, Contains, eqb-true, sum_by}
 use Rattle.std.specs.Prelude.{[], ◌∷◌, ◌++◌, ◌==◌, ◌&&◌, Option, Some, None}
@@ -62,7 +62,7 @@ was_found test (Some other) row is = by_test (test other) is
     by_test true is = is
     by_test false is = absurd cc
 
--- the number of a row, where there is one
+-- the number of a row, if there is one
 abbrev number_of : Option Row → ℕ
 number_of None = 0
 number_of (Some row) = row.no
@@ -72,11 +72,11 @@ module _ (run : Run) (l cycle : ℕ) where
   abbrev here : ℕ
   here = bridge_of run.domain l
 
-  -- with which row a frame goes on there
+  -- the row by which a frame goes on there
   abbrev row_at : Received → Option Row
   row_at x = row_with_name run here x x.way
 
-  -- a frame that comes there in the cycle, with the number of its row
+  -- a frame that arrives there in the cycle, with the number of its row
   abbrev came_at : Received → ArrivedFrame
   came_at x = record {
     cycle = cycle;
@@ -119,11 +119,11 @@ module _ (run : Run) (l cycle : ℕ) where
           let table = table_of run.tables (cycle_of run.domain (whole_at run.domain m sent)) in
           sym (eqb-true row.no sent.stream (find_member (λ (other : Row). other.no == sent.stream) table row is).1)
 
-  -- an offer goes on with its covering row
+  -- an offer goes on by its covering row
   edge_row : (x : Offered) → x.offer.bridge ≡ here → row_at (offer_received x) ≡ covering run x
   edge_row x at = ap (λ (b : ℕ). covering run (offered_as b (offer_received x) x.offer.stream)) (sym at)
 
-  -- which stands in the cycle's table
+  -- which is in the cycle's table
   covering_of_cycle : (x : Offered) (row : Row) → cycle_of run.domain x.offer.at.0 ≡ cycle → covering run x ≡ Some row →
       Contains (table_of run.tables cycle) row
   covering_of_cycle x row at is =
@@ -131,7 +131,7 @@ module _ (run : Run) (l cycle : ℕ) where
       (find_member _ (table_of run.tables (cycle_of run.domain x.offer.at.0)) row
       (was_found (covers run x) (row_for run.domain run.tables x) row is)).0
 
--- ---- what comes to a link
+-- ---- what arrives at a link
 
 module _ (whole : BatchIsWholeInItsCycle) (relayed : RelayedGoByTheirTree) (means : GatesMeanTheShift) (run : Run) (net : Network)
     (legal : IsLegalRun run net) (l cycle : ℕ) (in_run : cycle < length run.tables) where
@@ -147,7 +147,7 @@ module _ (whole : BatchIsWholeInItsCycle) (relayed : RelayedGoByTheirTree) (mean
   abbrev batches : Carried
   batches m = batch d net.carried m cycle
 
-  -- the offers at the bridge, by place
+  -- the offers at the bridge, by index
   abbrev placed : List Offered
   placed = filter (is_offered_in d bridge cycle) (numbered run.offers)
 
@@ -162,7 +162,7 @@ module _ (whole : BatchIsWholeInItsCycle) (relayed : RelayedGoByTheirTree) (mean
       let both = and_parts (x.offer.bridge == bridge) (cycle_of d x.offer.at.0 == cycle) f.1 in
       (f.0, (eqb-true x.offer.bridge bridge both.0, eqb-true (cycle_of d x.offer.at.0) cycle both.1))
 
-  -- a frame of the lane goes on by the link, and is no longer than frames are
+  -- a frame of the lane goes on by the link, and has at most 1,522 octets
   record IsOfLane (x : Received) : Type 0 where
     goes : goes_by run l x ≡ true
     small : x.octets ≤ 1522
@@ -198,11 +198,11 @@ module _ (whole : BatchIsWholeInItsCycle) (relayed : RelayedGoByTheirTree) (mean
   ]
 
   module _ (count : ℕ) (come_by : cycle < count) (counted : count ≤ length run.tables) where
-    -- the rows of the tables that had come
+    -- the rows of the tables that had arrived
     abbrev rows : List Row
     rows = rows_of run.tables count
 
-    -- what a link brought goes on with the known row of its number
+    -- what a link brought goes on by the known row of its number
     goes_with_known : (m : ℕ) (sent : Sent) → enters d m bridge ≡ true → Contains (batches m) sent →
         goes_by run l (sent_received d m sent) ≡ goes_with l (Relayed m sent.stream) (row_of rows sent.stream)
     goes_with_known m sent enter inside = by_known (row_of rows sent.stream) refl
@@ -230,7 +230,7 @@ module _ (whole : BatchIsWholeInItsCycle) (relayed : RelayedGoByTheirTree) (mean
             let there = in_some_table run.tables count counted row member.0 in
             (relayed run net l m cycle there.0 sent row legal in_run enter inside there.1 (eqb-true row.no sent.stream member.1)).goes
 
-    -- so by the known rows it is asked as the network asks
+    -- so the test by the known rows is that of the network
     asked_alike : (m : ℕ) (sent : Sent) → enters d m bridge ≡ true → Contains (batches m) sent →
         same_by (by_row l (row_of rows sent.stream)) (way.Link m) ≡ goes_by run l (sent_received d m sent)
     asked_alike m sent enter inside =
@@ -238,7 +238,7 @@ module _ (whole : BatchIsWholeInItsCycle) (relayed : RelayedGoByTheirTree) (mean
 
     module _ (come : Come) (brought : (m : ℕ) → enters d m bridge ≡ true →
         filter (is_in cycle) (come.brought m) ≡ map (came_in d m cycle) (batches m)) where
-      -- what comes by a link
+      -- what arrives by a link
       comes_from : (m : ℕ) → comes_by d bridge come rows l cycle m ≡ map (queued_at run l cycle) (lane_from run batches l m)
       comes_from m = by_tests (enters d m bridge) (leads rows m l) refl refl
         where
@@ -288,7 +288,7 @@ module _ (whole : BatchIsWholeInItsCycle) (relayed : RelayedGoByTheirTree) (mean
         ∙ ap (map (queued 4096)) (filter-append at_edge (map put xs) (map put ys))
         ∙ map-append (queued 4096) (filter at_edge (map put xs)) (filter at_edge (map put ys))
 
-    -- what of one offer goes on
+    -- what goes on of one offer
     one_offer : (x : Offered) → IsHere x →
         edge_of (going_with (offer_received x) (covering run x)) ≡ cond (goes_by run l (offer_received x)) (queued_at run l cycle (offer_received x) ∷ []) []
     one_offer x at = by_row (covering run x) refl
@@ -313,7 +313,7 @@ module _ (whole : BatchIsWholeInItsCycle) (relayed : RelayedGoByTheirTree) (mean
             one_alike (queued 4096) put (queued_at run l cycle (offer_received x)) (at_edge put) (goes_by run l (offer_received x)) asked
             (ap (λ (n : ℕ). queued 4096 (record { cycle = put.cycle; at = put.at; frame = put.frame; row = n; octets = put.octets })) number)
 
-    -- and of some
+    -- and of some offers
     some_offers : (xs : List Offered) → ((x : Offered) → Contains xs x → IsHere x) →
         edge_of (flat_map (λ (x : Offered). going_with (offer_received x) (covering run x)) xs)
         ≡ map (queued_at run l cycle) (map offer_received (filter (λ (x : Offered). goes_by run l (offer_received x)) xs))
@@ -325,11 +325,11 @@ module _ (whole : BatchIsWholeInItsCycle) (relayed : RelayedGoByTheirTree) (mean
         ∙ ap₂ (λ (ys zs : List Queued). ys ++ zs) (one_offer x (at x (contains_here x xs))) (some_offers xs (λ y c. at y (contains_later x xs y c)))
         ∙ kept_in_front offer_received (queued_at run l cycle) x (filter goes xs) (goes x)
 
-    -- so of those that the run's rows cover
+    -- so for those that the run's rows cover
     edge_is : edge_of (covered_of run bridge cycle) ≡ map (queued_at run l cycle) (lane_offers run l cycle)
     edge_is = some_offers placed (λ x c. (placed_here x c).1)
 
-    -- in whatever order they stand
+    -- in any order
     edge_moves : (goings : List Going) → IsPermutation goings (covered_of run bridge cycle) →
         IsPermutation (map (queued_at run l cycle) (lane_offers run l cycle)) (edge_of goings)
     edge_moves goings moved =
@@ -340,7 +340,7 @@ module _ (whole : BatchIsWholeInItsCycle) (relayed : RelayedGoByTheirTree) (mean
         (IsPermutation-map (queued 4096) (filter at_edge (map put goings)) (filter at_edge (map put all))
         (kept_in_order at_edge (map put goings) (map put all) (IsPermutation-map put goings all moved))))
 
-    -- all that comes is the lane, in some order
+    -- all that arrives is the lane, in some order
     all_comes : (come : Come) → ((m : ℕ) → enters d m bridge ≡ true →
         filter (is_in cycle) (come.brought m) ≡ map (came_in d m cycle) (batches m)) →
         IsPermutation (covered_in d bridge come cycle) (covered_of run bridge cycle) →
@@ -360,7 +360,7 @@ module _ (whole : BatchIsWholeInItsCycle) (relayed : RelayedGoByTheirTree) (mean
 module _ (whole : BatchIsWholeInItsCycle) (relayed : RelayedGoByTheirTree) (lane : LaneIsQueued) (first : FirstBatchIsEmpty) (due : BatchIsDue)
     (room : QueueHasRoom) (means : GatesMeanTheShift) (kept : KeptAreCovered) (run : Run) (net : Network) (sends : Sendings) (come : ℕ → Come)
     (legal : IsLegalRun run net) (few : length run.offers < 16777216) (gone : HaveGone run sends come) where
-  -- what a link sends by what came is what the network sends, where the cycle before was the network's
+  -- what a link sends by what arrived is what the network sends, if the cycle before was the network's
   sends_next : (l cycle : ℕ) (sent : List Sent) → l < length run.domain.links → cycle + 1 < length run.tables →
       ((m : ℕ) → m < length run.domain.links → batch_at (sends m) cycle ≡ batch run.domain net.carried m cycle) →
       GoesOnBy run.domain (bridge_of run.domain l) (come (bridge_of run.domain l)) l cycle sent → sent ≡ batch run.domain net.carried l (cycle + 1)

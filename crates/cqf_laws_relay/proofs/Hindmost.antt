@@ -1,11 +1,11 @@
--- Of links that haven't come to the end, one that has come least far waits for none.
+-- Among links that haven't reached the end, a link that is least far waits for none.
 use Rattle.std.proofs.Common.{◌≡◌, ℕ, zero, suc, ◌-◌, ◌≤◌, length, inl, inr, arith, subst}
 use Rattle.std.proofs.lemmas.Bool.{cases_lt}
 use Rattle.cqf_model.specs.Domain.{bridge_of}
 use Rattle.cqf_model.proofs.LinkEnds.{enters_inside}
 use Rattle.cqf_laws_relay.specs.Hindmost.{SomeLinkCanGoOn}
 
--- a number of those up to a bound for which a size is least
+-- a number up to a bound with the least size
 record IsLeast (size : ℕ → ℕ) (most least : ℕ) : Type 0 where
   inside : least ≤ most
   none_less : (k : ℕ) → k ≤ most → size least ≤ size k

@@ -1,4 +1,4 @@
--- The offers of a cycle at a bridge, judged one behind the other by what is used of their rows, are judged as the run judges them.
+-- The offers of a cycle at a bridge, judged one after the other by what is used of their rows, are judged as the run judges them.
 use Rattle.std.proofs.Common.{◌≡◌, ℕ, suc, zero, ◌+◌, ◌-◌, ◌*◌, ◌<◌, ◌≤◌, [], ◌∷◌, ◌++◌, ◌==◌, ◌&&◌, List, Bool, true, false, not, Option, Some, None}
 use Rattle.std.proofs.Common.{inl, inr, refl, sym, ap, ap₂, ◌∙◌, subst, arith, AllPairs, Contains, filter, sum_by}
 use Rattle.std.proofs.Common.{eqb-true, eq-eqb, ne_eqb, nat_le, if◌then◌else◌, append_assoc}
@@ -42,17 +42,17 @@ use Rattle.cqf_laws_instants.specs.QueueLaws.{CoveringCovers, covering}
 use Rattle.cqf_relay.specs.Offering.{Going, covered_behind, dropped_behind, going_by, octets_of, verdict_with}
 use Rattle.cqf_laws_relay.specs.Following.{KeptAreCovered, covered_of, going_with}
 
--- what equals one of two lists is a permutation of what equals the other, where these are
+-- lists that equal two permuted lists are permuted
 pub permuted_as : {Y : Type 0} (xs ys us vs : List Y) → us ≡ xs → vs ≡ ys → IsPermutation xs ys → IsPermutation us vs
 permuted_as xs ys us vs left right moved = subst (λ z. IsPermutation z vs) (sym left) (subst (λ z. IsPermutation xs z) (sym right) moved)
 
--- the second of three lists may stand first
+-- the second of three lists may be moved to the front
 second_first : {Y : Type 0} (a b c : List Y) → IsPermutation (a ++ (b ++ c)) (b ++ (a ++ c))
 second_first a b c =
     permuted_as ((a ++ b) ++ c) ((b ++ a) ++ c) (a ++ (b ++ c)) (b ++ (a ++ c)) (sym (append_assoc a b c)) (sym (append_assoc b a c))
     (IsPermutation-append_left c (a ++ b) (b ++ a) (IsPermutation-append_comm a b))
 
--- where one of the lists below a number has one element more in front, what is made of this stands before what is made of the others
+-- if one of the lists below a number has one more element at its front, its image may come before all others
 made_with_one : {X Y : Type 0} (f : X → List Y) (x : X) (few more : ℕ → List X) (n k : ℕ) → k < n → more k ≡ x ∷ few k →
     ((j : ℕ) → j < n → (j ≡ k → ⊥) → more j ≡ few j) →
     IsPermutation (flat_map f (each_below more n)) (f x ++ flat_map f (each_below few n))
@@ -79,14 +79,14 @@ made_with_one {X} {Y} f x few more (suc n) k inside here others = elim (cases_lt
       (second_first (flat_map f (each_below few n)) (f x) (flat_map f (few n)))
 ]
 
--- an element passes just one of so many tests
+-- an element passes exactly one of `n` tests
 pub record PassesOne {X : Type 0} (test : ℕ → X → Bool) (n : ℕ) (x : X) : Type 0 where
   pub k : ℕ
   pub below : k < n
   pub passes : test k x ≡ true
   pub others : (j : ℕ) → (j ≡ k → ⊥) → test j x ≡ false
 
--- what is made of elements test by test is what is made of them, where each passes just one
+-- mapping elements test by test is mapping them, if each passes exactly one test
 pub made_by_tests : {X Y : Type 0} (f : X → List Y) (test : ℕ → X → Bool) (n : ℕ) (xs : List X) → ((x : X) → Contains xs x → PassesOne test n x) →
     IsPermutation (flat_map f (each_below (λ k. filter (test k) xs) n)) (flat_map f xs)
 made_by_tests {X} {Y} f test n [] each =
@@ -114,7 +114,7 @@ pub record IsOfferOf (d : Domain) (offers : List Offer) (bridge cycle : ℕ) (x 
 abbrev pub NumbersDiffer : Offered → Offered → Type 0
 NumbersDiffer a b = a.frame ≡ b.frame → ⊥
 
--- in order of instant, then place, an offer stands behind the offers before it
+-- in order of instant, then index, an offer follows the offers before it
 stands_behind : (offers : List Offer) (x : Offered) (n : ℕ) → Contains (numbered offers) x → x.offer.at.0 < n → (after : List Offered) ×
     (each_below (offers_at offers) n ≡ offers_before offers x ++ (x ∷ after))
 stands_behind offers x n inside early =
@@ -131,11 +131,11 @@ stands_behind offers x n inside early =
           ∙ ap (λ w. (each_below (offers_at offers) t ++ w) ++ (x ∷ (filter here split.1 ++ rest.0))) (sym (smaller_before offers x split.0 split.1 split.2)),
     )
   where
-    -- in lists that follow one another, an element has the same before it and the same behind it, however they are joined
+    -- joining lists in any way keeps what is before an element and after it
     joined : (a b : List Offered) (y : Offered) (c r : List Offered) → a ++ ((b ++ (y ∷ c)) ++ r) ≡ (a ++ b) ++ (y ∷ (c ++ r))
     joined a b y c r = simp append_assoc
 
--- a test that follows from a third needn't be made beside it
+-- a test that a third one implies is needless beside it
 needless : (a b c : Bool) → (c ≡ true → b ≡ true) → ((a && b) && c) ≡ (a && c)
 needless false b c follows = refl
 needless true true c follows = refl
@@ -158,7 +158,7 @@ module _ (d : Domain) (offers : List Offer) (bridge cycle : ℕ) where
           and_right (x.offer.bridge == bridge) (cycle_of d x.offer.at.0 == cycle) (ne_eqb (cycle_of d x.offer.at.0) cycle
           (λ e. omega (arith, less, at, cycle_from d.cycle_time x.offer.at.0, ap (λ (n : ℕ). n * d.cycle_time) e)))
 
-  -- at an instant of the cycle they are those that are offered there then
+  -- at an instant of the cycle they are the offers there at that instant
   mine_then : (offset : ℕ) → offset < d.cycle_time →
       mine (cycle * d.cycle_time + offset) ≡ filter (is_offered_at bridge (cycle * d.cycle_time + offset)) (numbered offers)
   mine_then offset less =
@@ -214,7 +214,7 @@ module _ (d : Domain) (offers : List Offer) (bridge cycle : ℕ) where
       (contains_below (offers_at offers) n t x early (contains_filter (λ (y : Offered). y.offer.at.0 == t) (numbered offers) x inside (eq-eqb t t refl)))
       (passes x here when))
 
-  -- none stands there twice
+  -- none is there twice
   pub offers_differ : AllPairs NumbersDiffer (offered_for d offers bridge cycle)
   offers_differ =
       pairs_below NumbersDiffer (λ offset. filter (is_offered_at bridge (cycle * d.cycle_time + offset)) (numbered offers)) d.cycle_time
@@ -227,13 +227,13 @@ module _ (d : Domain) (offers : List Offer) (bridge cycle : ℕ) where
           (λ a b ca cb less same. omega (arith, less, same))
           (AllPairs-filter (λ (a b : Offered). a.frame < b.frame) (is_offered_at bridge t) (numbered offers) (numbers_ascend offers))
 
-      -- what stands at an instant is offered then
+      -- what is at an instant is offered then
       at_instant : (t : ℕ) (x : Offered) → Contains (filter (is_offered_at bridge t) (numbered offers)) x → Contains (numbered offers) x × (x.offer.at.0 ≡ t)
       at_instant t x c =
           let f = contains_from_filter (is_offered_at bridge t) (numbered offers) x c in
           (f.0, eqb-true x.offer.at.0 t (and_parts (x.offer.bridge == bridge) (x.offer.at.0 == t) f.1).1)
 
-      -- so an offer stands at one instant
+      -- so an offer is at one instant only
       across : (i j : ℕ) (a b : Offered) → i < j → j < d.cycle_time →
           Contains (filter (is_offered_at bridge (cycle * d.cycle_time + i)) (numbered offers)) a →
           Contains (filter (is_offered_at bridge (cycle * d.cycle_time + j)) (numbered offers)) b → NumbersDiffer a b
@@ -243,7 +243,7 @@ module _ (d : Domain) (offers : List Offer) (bridge cycle : ℕ) where
           let one = one_number offers a b first.0 second.0 same in
           omega (arith, less, first.1, second.1, ap (λ (x : Offered). x.offer.at.0) one)
 
-  -- those that stand before one of them are those of the offers before it
+  -- those before one of them are those of the offers before it
   before_is : (before : List Offered) (x : Offered) (after : List Offered) → offered_for d offers bridge cycle ≡ before ++ (x ∷ after) →
       before ≡ filter (is_offered_in d bridge cycle) (offers_before offers x)
   before_is before x after parts =
@@ -258,14 +258,14 @@ module _ (d : Domain) (offers : List Offer) (bridge cycle : ℕ) where
       (subst (λ (xs : List Offered). AllPairs NumbersDiffer xs) parts offers_differ) (λ differ. differ refl)
       (sym parts ∙ offered_of_all ∙ ap (filter test) behind.1 ∙ kept)
 
--- what an offer of so many octets takes of a row by its verdict
+-- the octets that an offer uses of a row by its verdict
 abbrev takes : ℕ → ℕ → Verdict → ℕ
 takes number octets (Queued row) = if row.no == number then octets else 0
 takes number octets (DroppedFor reason) = 0
 takes number octets LacksRow = 0
 takes number octets ExceedsGate = 0
 
--- what goes on takes that
+-- an offer that goes on uses them
 takes_going : (number : ℕ) (x : Offered) (v : Verdict) →
     sum_by (λ (g : Going). if g.row.no == number then g.received.octets else 0) (going_by x v) ≡ takes number x.offer.octets v
 takes_going number x (Queued row) = omega arith
@@ -273,19 +273,19 @@ takes_going number x (DroppedFor reason) = refl
 takes_going number x LacksRow = refl
 takes_going number x ExceedsGate = refl
 
--- the verdict by a row, by whether it is live, begins here and has the octets left
+-- the verdict by a row, from whether it is live, begins here and has the octets left
 abbrev edge_by : Row → Bool → Bool → Bool → Verdict
 edge_by row live here fits =
     if not live then DroppedFor Withdrawn else (if not here then DroppedFor OtherBridge else (if not fits then DroppedFor Octets else Queued row))
 
--- two tests that agree on a row that is live and begins here give one verdict
+-- two tests that agree on a row that is live and begins here give the same verdict
 same_verdict : (d : Domain) (bridge cycle : ℕ) (one two : Row → Bool) (found : Option Row) →
     ((row : Row) → found ≡ Some row → is_live row cycle ≡ true → begins_at d row bridge ≡ true → one row ≡ two row) →
     edge_verdict d bridge cycle one found ≡ edge_verdict d bridge cycle two found
 same_verdict d bridge cycle one two None same = refl
 same_verdict d bridge cycle one two (Some row) same = by_tests (is_live row cycle) (begins_at d row bridge) (one row) (two row) (same row refl)
   where
-    -- so they do whatever the row is
+    -- so they do for any row
     by_tests : (live here a b : Bool) → (live ≡ true → here ≡ true → a ≡ b) → edge_by row live here a ≡ edge_by row live here b
     by_tests true true a b e = ap (edge_by row true true) (e refl refl)
     by_tests true false a b e = refl
@@ -300,7 +300,7 @@ module _ (counted : TakenIsCovered) (run : Run) (orderly : AreOrderly run.domain
   abbrev pub offered : List Offered
   offered = offered_for run.domain run.offers bridge cycle
 
-  -- an offer with the row with which it goes on by the run's verdict
+  -- an offer with the row by which it goes on by the run's verdict
   abbrev pub goes : Offered → List Going
   goes x = going_by x (judged run x)
 
@@ -309,15 +309,15 @@ module _ (counted : TakenIsCovered) (run : Run) (orderly : AreOrderly run.domain
   drops x = drop_by cycle bridge (offer_received x) (judged run x)
 
   module _ (row : Row) (inside : Contains table row) (live : is_live row cycle ≡ true) (begins : begins_at run.domain row bridge ≡ true) where
-    -- what an offer takes of the row
+    -- the octets that an offer uses of the row
     abbrev each_takes : Offered → ℕ
     each_takes y = takes row.no y.offer.octets (judged run y)
 
-    -- where it is one of the cycle here
+    -- if it is one of the cycle here
     abbrev counts : Offered → ℕ
     counts y = if is_offered_in run.domain bridge cycle y then each_takes y else 0
 
-    -- one that the row covers in the cycle takes its octets
+    -- an offer that the row covers in the cycle uses its octets
     covered_counts : (y : Offered) → IsCoveredIn run row cycle y → counts y ≡ y.offer.octets
     covered_counts y c =
         cond-true (is_offered_in run.domain bridge cycle y) (each_takes y) 0
@@ -326,7 +326,7 @@ module _ (counted : TakenIsCovered) (run : Run) (orderly : AreOrderly run.domain
         ∙ ap (takes row.no y.offer.octets) (covered_judged run y row c.covered)
         ∙ cond-true (row.no == row.no) y.offer.octets 0 (eq-eqb row.no row.no refl)
 
-    -- each other takes nothing
+    -- each other offer uses nothing
     other_counts : (y : Offered) → Contains (numbered run.offers) y → ¬ IsCoveredIn run row cycle y → counts y ≡ 0
     other_counts y member never = elim (cases_Bool (is_offered_in run.domain bridge cycle y)) [
       | inr f ↦ cond-false (is_offered_in run.domain bridge cycle y) (each_takes y) 0 f
@@ -350,14 +350,14 @@ module _ (counted : TakenIsCovered) (run : Run) (orderly : AreOrderly run.domain
             (λ apart. apart (sym number)) in
             absurd (never (record { covered = subst (IsCovered run y) same covered; in_cycle = when }))
 
-        -- so no verdict takes of it
+        -- so no verdict uses any of it
         by_verdict : (v : Verdict) → judged run y ≡ v → offer_cycle run.domain y ≡ cycle → takes row.no y.offer.octets v ≡ 0
         by_verdict (Queued q) e when = by_number q e when (q.no == row.no) refl
         by_verdict (DroppedFor reason) e when = refl
         by_verdict LacksRow e when = refl
         by_verdict ExceedsGate e when = refl
 
-    -- so the octets of the row that went on before an offer are what is taken of it
+    -- so the octets of the row that went on before an offer are what is used of it
     octets_taken : (before : List Offered) (x : Offered) (after : List Offered) → offered ≡ before ++ (x ∷ after) → Contains (numbered run.offers) x →
         octets_of (flat_map goes before) row.no ≡ taken_by run.domain row cycle (offers_before run.offers x)
     octets_taken before x after parts member =
@@ -370,7 +370,7 @@ module _ (counted : TakenIsCovered) (run : Run) (orderly : AreOrderly run.domain
         ∙ sum_filter each_takes (is_offered_in run.domain bridge cycle) (offers_before run.offers x)
         ∙ sym (counted run row cycle x counts orderly inside live member (record { covered = covered_counts; others = other_counts }))
 
-  -- so behind the covered ones before it an offer gets the run's verdict
+  -- so after the covered ones before it an offer gets the run's verdict
   verdict_is : (before : List Offered) (x : Offered) (after : List Offered) → offered ≡ before ++ (x ∷ after) →
       verdict_with run.domain bridge cycle table (octets_of (flat_map goes before)) x ≡ judged run x
   verdict_is before x after parts =
@@ -406,7 +406,7 @@ module _ (counted : TakenIsCovered) (run : Run) (orderly : AreOrderly run.domain
       ∙ ap (λ (gs : List Going). drops x ++ dropped_behind run.domain bridge cycle table gs after) (flat_map_more goes [] before x)
       ∙ ap (λ (xs : List Dropped). drops x ++ xs) (dropped_by_verdicts (before ++ x ∷ []) after (parts ∙ sym (append_assoc before (x ∷ []) after)))
 
--- what goes on by a verdict that is decided goes on with the row that covers it
+-- what goes on by a decided verdict goes on by the row that covers it
 going_covered : CoveringCovers → (run : Run) (x : Offered) (v : Verdict) → IsDecided run x v → going_by x v ≡ going_with (offer_received x) (covering run x)
 going_covered covers run x (Queued row) covered = sym (ap (going_with (offer_received x)) ((covers run x row covered.offered).1 covered))
 going_covered covers run x (DroppedFor reason) uncovered = by_row (covering run x) refl
@@ -439,7 +439,7 @@ kept_are_covered counted covers run net bridge cycle legal within =
     list : List Offered
     list = offered_for run.domain run.offers bridge cycle
 
-    -- and by place
+    -- and by index
     mine : List Offered
     mine = filter (is_offered_in run.domain bridge cycle) (numbered run.offers)
 
@@ -451,7 +451,7 @@ kept_are_covered counted covers run net bridge cycle legal within =
     at : ℕ → Offered → Bool
     at offset x = x.offer.at.0 == cycle * run.domain.cycle_time + offset
 
-    -- those by instant are, instant by instant, those by place
+    -- those by instant are, instant by instant, those by index
     by_instants : offered_for run.domain run.offers bridge cycle ≡ each_below (λ offset. filter (at offset) mine) run.domain.cycle_time
     by_instants =
         same_below (λ offset. filter (is_offered_at bridge (cycle * run.domain.cycle_time + offset)) (numbered run.offers))

@@ -18,11 +18,11 @@ use Rattle.cqf_relay.specs.Standing.{rows_of}
 use Rattle.cqf_laws_relay.proofs.Ways.{by_tree}
 
 module _ (tables : List (List Row)) (count : ℕ) (within : count ≤ length tables) where
-  -- the rows that have come
+  -- the rows that have arrived
   abbrev pub known : List Row
   known = rows_of tables count
 
-  -- one that a link knows stands in some table
+  -- a row that a link knows is in some table
   pub in_some_table : (row : Row) → Contains known row → (cycle : ℕ) × Contains (table_of tables cycle) row
   in_some_table row c =
       let w = contains_from_flat (λ (table : List Row). table) (take count tables) row c in
@@ -31,7 +31,7 @@ module _ (tables : List (List Row)) (count : ℕ) (within : count ≤ length tab
         subst (λ (table : List Row). Contains table row) (sym (get_or_from_slice_get tables place.0 w.0 [] place.1)) w.2,
       )
 
-  -- and each of a table that has come is known
+  -- and each row of a table that has arrived is known
   pub is_known : (cycle : ℕ) (row : Row) → cycle < count → Contains (table_of tables cycle) row → Contains known row
   is_known cycle row come c =
       contains_flat (λ (table : List Row). table) (take count tables) (table_of tables cycle) row
@@ -44,7 +44,7 @@ module _ (tables : List (List Row)) (count : ℕ) (within : count ≤ length tab
   number_known cycle row come c =
       find_some (λ (other : Row). other.no == row.no) known row (is_known cycle row come c) (eq-eqb row.no row.no refl)
 
-  -- where none leads on from a link to another, none of a number does
+  -- if no row leads on from a link to another, none of a number does
   pub none_leads : (m l number : ℕ) → leads known m l ≡ false → goes_with l (Relayed m number) (row_of known number) ≡ false
   none_leads m l number none = by_row (row_of known number) refl
     where
@@ -55,7 +55,7 @@ module _ (tables : List (List Row)) (count : ℕ) (within : count ≤ length tab
           (find_member (λ (other : Row). other.no == number) known row is).0
 
   module _ (d : Domain) (orderly : AreOrderly d tables) where
-    -- how a link knows that frames come is how one of their tables has it
+    -- how a link knows that frames arrive is how one of their tables has it
     pub known_tree : (l cycle : ℕ) (row : Row) → cycle < count → Contains (table_of tables cycle) row →
         by_row l (row_of known row.no) ≡ by_hops l row.tree.items
     known_tree l cycle row come c =
@@ -65,7 +65,7 @@ module _ (tables : List (List Row)) (count : ℕ) (within : count ≤ length tab
         let same = orderly.one_stream cycle there.0 row w.0 c there.1 (sym (eqb-true w.0.no row.no member.1)) in
         ap (by_row l) w.1 ∙ ap (by_hops l) (sym same.tree)
 
-    -- and by that a frame of a link goes on where the tree of the known row has it so
+    -- and so a frame of a link goes on if the tree of the known row says so
     pub goes_as_known : (l m number : ℕ) → same_by (by_row l (row_of known number)) (way.Link m) ≡ goes_with l (Relayed m number) (row_of known number)
     goes_as_known l m number = by_found (row_of known number) refl
       where

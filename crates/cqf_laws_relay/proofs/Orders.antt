@@ -1,4 +1,4 @@
--- A map and a filter of a list that changes its order.
+-- Mapping and filtering a list in another order.
 use Rattle.std.proofs.Common.{◌≡◌, ℕ, zero, suc, ◌<◌, Bool, true, false, cond, List, length, get_or, set, swap, map, filter, refl, sym, ap, ap₂, ◌∙◌, arith}
 use Rattle.std.specs.Prelude.{[], ◌∷◌}
 use Rattle.std.specs.List.Sorted.{IsNonDecreasingBy, IsPermutation}
@@ -6,7 +6,7 @@ use Rattle.std.proofs.lemmas.List.{length-map, map-set}
 use Rattle.std.proofs.lemmas.List.Sorted.{IsPermutation-cons, IsPermutation-keeps, IsPermutation-refl, IsPermutation-swap, IsPermutation-trans}
 use Rattle.std.proofs.Math.ListN.{get_or-map}
 
--- a map of a list with two elements in each other's place
+-- a map of a list with two elements swapped
 map_swapped : {X Y : Type 0} (f : X → Y) (xs : List X) (i j : ℕ) → map f (swap xs i j) ≡ swap (map f xs) i j
 map_swapped f [] i j = refl
 map_swapped {X} {Y} f (x ∷ xs) i j =
@@ -28,18 +28,18 @@ lifted {X} {Y} f xs =
       map_swapped f w.0 i j ∙ ap (λ (l : List Y). swap l i j) w.2,
     ))
 
--- what a map has in order of a key stood in order of the key of its image
+-- a map in order of a key is of a list in order of the key of the image
 pub rises_before : {X Y : Type 0} (key : Y → ℕ) (f : X → Y) (xs : List X) → IsNonDecreasingBy key (map f xs) → IsNonDecreasingBy (λ (x : X). key (f x)) xs
 rises_before key f xs rise i j d le inside =
     let there : j < length (map f xs) = omega (arith, inside, length-map xs f) in
     omega (arith, rise i j (f d) le there, ap key (get_or-map f xs i d), ap key (get_or-map f xs j d))
 
 module _ {X : Type 0} (p : X → Bool) where
-  -- a test keeps of two lists the same, in whatever order
+  -- a test keeps the same of two lists, in any order
   abbrev KeepsSame : List X → List X → Type 0
   KeepsSame xs ys = IsPermutation (filter p xs) (filter p ys)
 
-  -- behind the same element
+  -- after the same element
   behind_one : (x : X) (xs ys : List X) → KeepsSame xs ys → KeepsSame (x ∷ xs) (x ∷ ys)
   behind_one x xs ys same = by_test (p x)
     where
@@ -47,7 +47,7 @@ module _ {X : Type 0} (p : X → Bool) where
       by_test true = IsPermutation-cons x (filter p xs) (filter p ys) same
       by_test false = same
 
-  -- where two elements change places at the head
+  -- if the first two elements are swapped
   turned : (x y : X) (xs : List X) → KeepsSame (x ∷ y ∷ xs) (y ∷ x ∷ xs)
   turned x y xs = by_tests (p x) (p y)
     where
@@ -65,7 +65,7 @@ module _ {X : Type 0} (p : X → Bool) where
   after : (xs ys zs : List X) → KeepsSame xs ys → KeepsSame ys zs → KeepsSame xs zs
   after xs ys zs = IsPermutation-trans (filter p xs) (filter p ys) (filter p zs)
 
-  -- where the head and a later element change places
+  -- if the first and a later element are swapped
   head_swapped : (xs : List X) (j : ℕ) (x d : X) → j < length xs → KeepsSame (x ∷ xs) (get_or xs j d ∷ set xs j x)
   head_swapped [] j x d inside = absurd (omega (arith, inside))
   head_swapped (y ∷ xs) zero x d inside = turned x y xs
@@ -77,7 +77,7 @@ module _ {X : Type 0} (p : X → Bool) where
       (behind_one y (x ∷ xs) (z ∷ others) (head_swapped xs j x d (omega (arith, inside))))
       (turned y z others))
 
-  -- where any two do
+  -- if any two are
   both_set : (xs : List X) (i j : ℕ) (d : X) → i < length xs → j < length xs → KeepsSame xs (set (set xs i (get_or xs j d)) j (get_or xs i d))
   both_set [] i j d a b = absurd (omega (arith, a))
   both_set (x ∷ xs) zero zero d a b = IsPermutation-refl (filter p (x ∷ xs))
@@ -90,7 +90,7 @@ module _ {X : Type 0} (p : X → Bool) where
   swapped [] i j a b = absurd (omega (arith, a))
   swapped (x ∷ xs) i j a b = both_set (x ∷ xs) i j x a b
 
-  -- and so of a list in another order
+  -- and so for a list in another order
   pub kept_in_order : (xs ys : List X) → IsPermutation xs ys → IsPermutation (filter p xs) (filter p ys)
   kept_in_order xs =
       IsPermutation-keeps xs (KeepsSame xs) (IsPermutation-refl (filter p xs)) (λ ys i j a b same. after xs ys (swap ys i j) same (swapped ys i j a b))

@@ -1,5 +1,5 @@
--- The tapes of bridges whose links went on by themselves in a run have what the network sends of streams' frames, and with the background
--- frames that it starts they are those of the run's book.
+-- The tapes of bridges whose links went on separately in a run have the streams' frames that the network sends; with the background frames
+-- that it starts they are those of the run's book.
 use Rattle.std.proofs.Common.{◌≡◌, ℕ, ◌+◌, ◌*◌, ◌<◌, ◌≤◌, ◌∷◌, ◌++◌, [], List, length, map, filter, add-one, inl, inr, refl, sym, ap, ◌∙◌, arith, subst}
 use Rattle.std.proofs.Common.{All, AllPairs, Contains}
 use Rattle.std.specs.Global.{Global}
@@ -47,11 +47,11 @@ use Rattle.cqf_relay.specs.Standing.{Come}
 use Rattle.cqf_laws_relay.specs.Following.{DroppedAreTheRuns, HaveGone, RelaysFollowTheNetwork}
 use Rattle.cqf_laws_relay.specs.Taped.{BackedTapesAreTheBooks, HaveTaped, HaveTheStreams, RelaysKeepTheTapes, book_of_run}
 
--- ---- what a book has of a kind by cycle and link
+-- ---- a book's entries of a kind by cycle and link
 
 module _ {A : Type 0} (by : ℕ → ℕ → A → Started) (mark : A → Mark) (bears_link : (cycle link : ℕ) (x : A) → (by cycle link x).link ≡ link)
     (has_mark : (cycle link : ℕ) (x : A) → mark_of (by cycle link x) ≡ mark x) (cycles links : ℕ) (sent : ℕ → ℕ → List A) where
-  -- what is sent on a link in a cycle, as the book has it
+  -- what is sent on a link in a cycle, in the book
   abbrev on_link : ℕ → ℕ → List Started
   on_link cycle link = map (by cycle link) (sent cycle link)
 
@@ -74,7 +74,7 @@ module _ {A : Type 0} (by : ℕ → ℕ → A → Started) (mark : A → Mark) (
 
 -- ---- what a link has sent, batch by batch
 
--- lists end to end are those at each place, end to end
+-- lists end to end are those at each index, end to end
 lists_by_place : {X : Type 0} (lists : List (List X)) →
     flat_map (λ (xs : List X). xs) lists ≡ each_below (λ k. slice_index_or lists k []) (length lists)
 lists_by_place [] = refl
@@ -87,12 +87,12 @@ lists_by_place {X} (xs ∷ lists) =
 
 -- ---- the background frames of a link
 
--- a transmission starts one background frame at most
+-- a transmission starts at most one background frame
 backed_once : (R : Start → Start → Type 0) (t : ℕ) (x : Arrival) (stream : Option ℕ) → AllPairs R (backed_by t x stream)
 backed_once R t x None = pairs_one R (record { start = record { 0 = t }; class = x.class; octets = x.octets; frame = x.frame })
 backed_once R t x (Some stream) = pairs_none R
 
--- the background frames that a run's network starts on a link are those of its cycles, one cycle behind the other
+-- the background frames that a run's network starts on a link are those of its cycles, one cycle after the other
 backed_by_cycle : (run : Run) (net : Network) (link : ℕ) → IsLegalRun run net → link < length run.domain.links →
     net.backed link ≡ each_below (λ cycle. backed_batch run.domain net.backed link cycle) (length run.tables)
 backed_by_cycle run net link legal inside =
@@ -115,11 +115,11 @@ backed_by_cycle run net link legal inside =
 
 -- ---- tapes with no background frames
 
--- no background frame stands on a tape
+-- no background frame is on a tape
 abbrev HasNone : Tape → Type 0
 HasNone tape = tape.background.items ≡ []
 
--- where none stands on any of the tapes, none stands on that of a link
+-- if none is on any of the tapes, none is on that of a link
 none_at : (tapes : List Tape) (link : ℕ) → All HasNone tapes → background_at tapes link ≡ []
 none_at [] link none = refl
 none_at (tape ∷ tapes) link none =
@@ -128,7 +128,7 @@ none_at (tape ∷ tapes) link none =
 
 -- ---- a run's book
 
--- what a link carries in a run of streams' frames is its cycles' batches, one behind the other
+-- the streams' frames that a link carries in a run are its cycles' batches, one after the other
 carried_by_cycle : (run : Run) (net : Network) (link : ℕ) → IsLegalRun run net → link < length run.domain.links →
     net.carried link ≡ each_below (λ cycle. batch run.domain net.carried link cycle) (length run.tables)
 carried_by_cycle run net link legal inside =
@@ -159,7 +159,7 @@ module _ (dropped : DroppedAreTheRuns) (follow : RelaysFollowTheNetwork) (run : 
   abbrev cycles : ℕ
   cycles = length run.tables
 
-  -- what becomes of what comes to each bridge
+  -- the verdicts on what arrives at each bridge
   abbrev policed : ℕ → List Policed
   policed b = policed_before run net.carried b (cycles * run.domain.cycle_time)
 
@@ -183,7 +183,7 @@ module _ (dropped : DroppedAreTheRuns) (follow : RelaysFollowTheNetwork) (run : 
       ∙ same_below (batch_at (sends link)) (λ cycle. batch run.domain net.carried link cycle) cycles (λ cycle within.
       follow run net sends come link cycle legal few gone inside within)
 
-  -- what stands on a link's tape of streams' frames is what the link carries
+  -- the streams' frames on a link's tape are what the link carries
   starts_are : (link : ℕ) → link < length run.domain.links → starts_at tapes.links.items link ≡ map mark_of_sent (net.carried link)
   starts_are link inside =
       let r = reel_of_link link inside in
@@ -192,7 +192,7 @@ module _ (dropped : DroppedAreTheRuns) (follow : RelaysFollowTheNetwork) (run : 
       ∙ (taped.each (bridge_of run.domain link) r.0 r.1).starts link (leaves_its_bridge run.domain link inside)
       ∙ ap (map mark_of_sent) (sent_by_cycle link inside ∙ sym (carried_by_cycle run net link legal inside))
 
-  -- and no background frame stands there
+  -- and no background frame is there
   none_are : (link : ℕ) → link < length run.domain.links → background_at tapes.links.items link ≡ []
   none_are link inside =
       let r = reel_of_link link inside in
@@ -200,7 +200,7 @@ module _ (dropped : DroppedAreTheRuns) (follow : RelaysFollowTheNetwork) (run : 
       ∙ ap (λ (o : Option Reel). background_at (option_map_or (λ (reel : Reel). reel.tapes.items) o []) link) r.1
       ∙ none_at r.0.tapes.items link (taped.each (bridge_of run.domain link) r.0 r.1).no_background
 
-  -- what is kept of a bridge's drops is what the book has there
+  -- the kept drops of a bridge are those in the book
   drops_are : (bridge : ℕ) → bridge < length run.domain.bridges →
       drops_at tapes bridge ≡ filter (is_at_bridge bridge) (drops_of run.domain cycles (length run.offers) policed)
   drops_are bridge inside =

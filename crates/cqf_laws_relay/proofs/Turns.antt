@@ -1,4 +1,4 @@
--- What a link sends of a queue that has room in its cycle is the queue in turn.
+-- What a link sends of a queue that has room in its cycle is the queue in order.
 use Rattle.std.proofs.Common.{◌≡◌, ℕ, ◌+◌, ◌*◌, ◌<◌, ◌≤◌, Bool, true, false, cond, List, map, refl, sym, ap, ◌∙◌, arith, Contains, sum_by, lt-ltb, le-leb}
 use Rattle.std.specs.Prelude.{[], ◌∷◌, ◌++◌, Some, nat_le, nat_lt}
 use Rattle.std.specs.List.{flat_map}
@@ -14,7 +14,7 @@ use Rattle.cqf_relay.specs.declared.log.ArrivedFrame.{ArrivedFrame}
 use Rattle.cqf_relay.specs.declared.wire.Wire.{Wire}
 use Rattle.cqf_relay.specs.Sending.{has_room_on, sends_of, sent_at, time_on}
 
--- how long a queued frame takes with its gap, in nanoseconds
+-- the time that a queued frame takes with its gap, in nanoseconds
 abbrev pub taken : ℕ → QueuedFrame → ℕ
 taken octet_time x = slot_of x.arrival.octets octet_time
 
@@ -23,19 +23,19 @@ abbrev pub frame_with : ℕ → ℕ → ArrivedFrame → QueuedFrame
 frame_with at class came =
     record { arrival = record { at = record { 0 = at }; class = class; octets = came.octets; frame = came.frame }; stream = Some came.row }
 
--- a frame is queued so
+-- the frame is queued in this way
 pub record IsQueuedAs (came : ArrivedFrame) (queued : List QueuedFrame) : Type 0 where
   pub at : ℕ
   pub class : ℕ
   pub is : queued ≡ frame_with at class came ∷ []
 
--- a frame that has room is sent, and the next one starts behind it
+-- a frame that has room is sent, and the next one starts after it
 sent_first : (sent : Sent) (rest : ℕ → List Sent) (b : Bool) (offset next : ℕ) → b ≡ true →
     cond b (sent ∷ rest (cond b next offset)) (rest (cond b next offset)) ≡ sent ∷ rest next
 sent_first sent rest true offset next is = refl
 sent_first sent rest false offset next is = absurd cc
 
--- a frame has room where what it takes of the wire ends before the guard time, which is longer than the delay
+-- a frame has room if its time on the wire ends before the guard band, which is longer than the delay
 has_room : (wire : Wire) (guard offset octets others : ℕ) → octets ≤ 65535 → wire.delay < guard →
     offset + (slot_of octets wire.octet_time + others) + guard ≤ wire.cycle_time → has_room_on wire offset octets ≡ true
 has_room wire guard offset octets others small short within =
@@ -44,11 +44,11 @@ has_room wire guard offset octets others small short within =
     (lt-ltb (offset + time_on wire octets) wire.cycle_time early)
 
 module _ {X : Type 0} (wire : Wire) (cycle guard : ℕ) (came : X → ArrivedFrame) (queued : X → List QueuedFrame) (short : wire.delay < guard) where
-  -- each frame of a list is queued, and none is longer than a length has room for
+  -- each frame of a list is queued, and none is longer than the bound
   abbrev pub AreQueued : List X → Type 0
   AreQueued xs = (x : X) → Contains xs x → IsQueuedAs (came x) (queued x) × ((came x).octets ≤ 65535)
 
-  -- what the link sends of the list is the queue in turn
+  -- what the link sends of the list is the queue in order
   pub sends_in_turn : (xs : List X) (offset start : ℕ) → AreQueued xs → start ≡ cycle * wire.cycle_time + offset →
       offset + sum_by (taken wire.octet_time) (flat_map queued xs) + guard ≤ wire.cycle_time →
       sends_of wire cycle offset (map came xs) ≡ in_turn_from start wire.octet_time (flat_map queued xs)

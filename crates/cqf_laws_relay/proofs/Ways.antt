@@ -1,4 +1,4 @@
--- How the frames of a row come that go on by a link, by the first hop of its tree that has the link and by all hops.
+-- How the frames of a row that go on by a link arrive, by the first hop of its tree that has the link and by all hops.
 use Rattle.std.proofs.Common.{◌≡◌, ◌≢◌, ℕ, Bool, true, false, cond, List, filter, refl, sym, ap, ◌∙◌, AllPairs, Contains, eqb-true, ne_eqb}
 use Rattle.std.specs.Prelude.{[], ◌∷◌, ◌==◌, ◌&&◌, ◌||◌, Option, Some, None}
 use Rattle.std.specs.List.{list_any}
@@ -13,19 +13,19 @@ use Rattle.cqf_model.specs.Table.{IsTree, links_in, same_way}
 use Rattle.cqf_relay.specs.Leading.{by_hops, by_way, same_by}
 use Rattle.cqf_relay.specs.declared.leads.By.TheVariants.{Nothing}
 
--- ways are the same as the links before
+-- ways are the same if and only if the links before are
 same_ways : (from way : Option ℕ) → same_by (by_way from) (by_way way) ≡ same_way from way
 same_ways None None = refl
 same_ways None (Some m) = refl
 same_ways (Some k) None = refl
 same_ways (Some k) (Some m) = refl
 
--- what goes on by no link comes no way
+-- what goes on by no link arrives in no way
 comes_no_way : (way : Option ℕ) → same_by Nothing (by_way way) ≡ false
 comes_no_way None = refl
 comes_no_way (Some m) = refl
 
--- a test of the first or of others, of which none passes
+-- a test of the first or of others, if none of the others passes
 first_alone : (b others : Bool) → others ≡ false → b ≡ ((b && true) || others)
 first_alone true others none = refl
 first_alone false others none = sym none
@@ -36,11 +36,11 @@ others_alone true others = refl
 others_alone false others = refl
 
 module _ (l : ℕ) (way : Option ℕ) where
-  -- whether a hop is of the link and behind the way
+  -- whether a hop is of the link and follows the way
   abbrev leads_on : Hop → Bool
   leads_on hop = same_way hop.from way && (hop.link == l)
 
-  -- by the first hop of a link is by each where none is of one link with another
+  -- the first hop of a link decides as all hops do if no two are of one link
   by_first : (tree : List Hop) → AllPairs (λ (a b : Hop). a.link ≢ b.link) tree → same_by (by_hops l tree) (by_way way) ≡ list_any leads_on tree
   by_first [] apart = comes_no_way way
   by_first (hop ∷ hops) apart = by_test (hop.link == l) refl (by_first hops (pairs_tail (λ (a b : Hop). a.link ≢ b.link) hop hops apart))
@@ -59,7 +59,7 @@ module _ (l : ℕ) (way : Option ℕ) where
           (list_any_none leads_on hops (all_from_members (λ (other : Hop). leads_on other ≡ false) hops (no_other (eqb-true hop.link l is))))
       by_test false is others = others ∙ others_alone (same_way hop.from way) (list_any leads_on hops)
 
-  -- so it is in a tree, in which no link stands twice
+  -- so it is in a tree, in which no link occurs twice
   pub by_tree : (d : Domain) (tree : List Hop) → IsTree d tree →
       same_by (by_hops l tree) (by_way way) ≡ list_any (λ next. next == l) (links_in (filter (λ (hop : Hop). same_way hop.from way) tree))
   by_tree d tree is =

@@ -1,4 +1,4 @@
--- What the reels of all bridges come to, whose links went on by themselves in a run.
+-- The tapes from the reels of all bridges whose links went on separately in a run.
 use Rattle.std.specs.Prelude.{ℕ, ◌≡◌, ◌*◌, ◌<◌, ◌++◌, List, [], Some, true, All, filter, length, map, slice_get}
 use Rattle.std.specs.List.{flat_map}
 use Rattle.std.specs.List.Sorted.{IsNonDecreasingBy, IsPermutation}
@@ -35,7 +35,7 @@ pub record HasTaped (run : Run) (sends : Sendings) (bridge : ℕ) (reel : Reel) 
       (dropped_behind run.domain bridge cycle (table_of run.tables cycle) [] (offered_for run.domain run.offers bridge cycle)) (fresh cycle)
   pub by_frame : (cycle : ℕ) → cycle < length run.tables → IsNonDecreasingBy (λ (x : Dropped). x.frame) (fresh cycle)
 
--- so have the reels of all bridges
+-- the same for the reels of all bridges
 pub record HaveTaped (run : Run) (sends : Sendings) (reels : List Reel) : Type 0 where
   pub many : length reels ≡ length run.domain.bridges
   pub each : (bridge : ℕ) (reel : Reel) → slice_get reels bridge ≡ Some reel → HasTaped run sends bridge reel
@@ -57,7 +57,7 @@ pub record HaveTheStreams (run : Run) (net : Network) (tapes : Tapes) : Type 0 w
   pub each_bridge : length tapes.drops.items ≡ length run.domain.bridges
   pub drops : (bridge : ℕ) → bridge < length run.domain.bridges → drops_at tapes bridge ≡ filter (is_at_bridge bridge) (book_of_run run net).drops
 
--- then the tapes that are gathered from them are so
+-- then the tapes that are gathered from these reels are such tapes
 abbrev pub RelaysKeepTheTapes : Type 0
 RelaysKeepTheTapes = (run : Run) (net : Network) (sends : Sendings) (come : ℕ → Come) (reels : List Reel) (tapes : Tapes) → IsLegalRun run net →
     length run.offers < 16777216 → HaveGone run sends come → HaveTaped run sends reels → AreGatheredFrom run.domain reels tapes →

@@ -1,19 +1,19 @@
-//! Laws about bridges whose links go on by themselves, as `cqf_relay` has them.
+//! Laws about bridges whose links go on separately, as in `cqf_relay`.
 //!
-//! Each law is a function that ends at once: its contract is a statement of `specs/` about the definitions of `cqf_model`,
-//! and its proof shows that the statement holds. A proof elsewhere uses the law by a call of the function.
+//! Each law is a function that returns at once. Its contract is a statement of `specs/` about the definitions of `cqf_model`, and its proof
+//! shows that the statement holds. A proof elsewhere uses the law by calling the function.
 //!
-//! - The offers that a bridge keeps, judging one behind the other, are those that the run's rows cover ([`kept_are_covered`]).
-//! - Those that it drops are the drops of the run's book ([`dropped_are_the_runs`]).
-//! - Where all has come to each bridge, and each link has gone on over all cycles, all have sent what the network sends
+//! - The offers that a bridge keeps, judging one after the other, are those that the run's rows cover ([`kept_are_covered`]).
+//! - The offers that it drops are the drops of the run's book ([`dropped_are_the_runs`]).
+//! - If everything has arrived at each bridge, and each link has gone on over all cycles, all have sent what the network sends
 //!   ([`relays_follow_the_network`]).
-//! - The tapes of their reels have what the network sends ([`relays_keep_the_tapes`]), and with its background frames they are those of the
-//!   run's book ([`backed_tapes_are_the_books`]).
-//! - The tables of a history may come to such bridges ([`tables_may_come`]).
-//! - As long as some link has not come to the end of a run, one of these can go on ([`some_link_can_go_on`]).
+//! - The tapes of their reels have what the network sends ([`relays_keep_the_tapes`]). With its background frames they are those of the run's
+//!   book ([`backed_tapes_are_the_books`]).
+//! - The tables of a history may be given to such bridges ([`tables_may_come`]).
+//! - As long as some link has not reached the end of a run, one of these links can go on ([`some_link_can_go_on`]).
 //!
 //! ```
-//! // here on, a proof knows that bridges whose links go on by themselves send what the gates ask for
+//! // from here on, a proof knows that bridges whose links go on separately send what the gates require
 //! cqf_laws_relay::relays_follow_the_network();
 //! ```
 #![tactic(auto)]
@@ -22,8 +22,8 @@ ghost use Rattle.cqf_laws_relay.specs.Following.{DroppedAreTheRuns, KeptAreCover
 ghost use Rattle.cqf_laws_relay.specs.Hindmost.{SomeLinkCanGoOn};
 ghost use Rattle.cqf_laws_relay.specs.Taped.{BackedTapesAreTheBooks, RelaysKeepTheTapes};
 
-/// The offers of a cycle that a bridge keeps, judging one behind the other by what is used of their rows, are those that the run's rows
-/// cover, each with its row.
+/// States that the offers of a cycle that a bridge keeps, judging one after the other by what is used of their rows, are those that the
+/// run's rows cover, each with its row.
 pub fn kept_are_covered()
     ensures { KeptAreCovered }
 {
@@ -31,7 +31,7 @@ pub fn kept_are_covered()
     cqf_laws_instants::what_a_cycle_queues();
 }
 
-/// Those that it drops, by frame, are the drops of the run's book at the bridge in the cycle.
+/// States that the offers that it drops, by frame, are the drops of the run's book at the bridge in the cycle.
 pub fn dropped_are_the_runs()
     ensures { DroppedAreTheRuns }
 {
@@ -40,8 +40,8 @@ pub fn dropped_are_the_runs()
     cqf_laws_shift::gates_mean_the_shift();
 }
 
-/// Where all of a run has come to each bridge, and each link has gone on over all cycles by what came to its bridge, whatever turns they
-/// took, each has sent what the network sends (IEEE 802.1Q, Annex T, and the profile).
+/// States that each link has sent what the network sends (IEEE 802.1Q, Annex T), if everything of a run has arrived at each bridge, and
+/// each link has gone on over all cycles by what arrived at its bridge, in any order of turns. The run has fewer than 16,777,216 offers.
 pub fn relays_follow_the_network()
     ensures { RelaysFollowTheNetwork }
 {
@@ -53,8 +53,8 @@ pub fn relays_follow_the_network()
     kept_are_covered();
 }
 
-/// The tapes that are gathered from the reels of bridges whose links have gone on so have the streams' frames that the network sends, and the
-/// drops of its book.
+/// States that the tapes gathered from the reels of bridges whose links have gone on in this way have the streams' frames that the network
+/// sends, and the drops of its book. The run has fewer than 16,777,216 offers.
 pub fn relays_keep_the_tapes()
     ensures { RelaysKeepTheTapes }
 {
@@ -62,12 +62,12 @@ pub fn relays_keep_the_tapes()
     relays_follow_the_network();
 }
 
-/// With the background frames that the network starts such tapes are those of its book.
+/// States that with the background frames that the network starts such tapes are those of its book.
 pub fn backed_tapes_are_the_books()
     ensures { BackedTapesAreTheBooks }
 {}
 
-/// The tables of a legal history bring their new rows by number, behind those of all before.
+/// States that the tables of a legal history have their new rows by number, after those of all earlier tables.
 pub fn tables_may_come()
     ensures { TablesMayCome }
 {
@@ -76,7 +76,7 @@ pub fn tables_may_come()
     cqf_laws_coverage::rows_follow();
 }
 
-/// As long as some link has not come to the end of a run, one of these can go on: it waits for no other.
+/// States that as long as some link has not reached the end of a run, one of these links can go on: it waits for no other.
 pub fn some_link_can_go_on()
     ensures { SomeLinkCanGoOn }
 {}

@@ -1,4 +1,4 @@
--- What is listed bridge by bridge, and brought into order of link.
+-- Elements that are listed bridge by bridge, and then brought into order of link.
 use Rattle.std.proofs.Common.{◌≡◌, ℕ, zero, suc, ◌<◌, ◌==◌, true, false, List, [], ◌++◌, filter, length, sym, ap, refl}
 use Rattle.std.proofs.Common.{◌∙◌, inl, inr, arith, subst, Contains, eq-eqb, eqb-true, ne_eqb, flat_map}
 use Rattle.std.specs.Prelude.{Option, Some, if◌then◌else◌, slice_get}
@@ -20,7 +20,7 @@ use Rattle.cqf_model.specs.Domain.{Domain, IsAccepted, IsNode, bridge_of, enters
 use Rattle.cqf_laws_cycle.specs.Gathered.{IsInOrderOf}
 use Rattle.cqf_bridge.specs.Batch.{LinkBatch}
 
--- lists of each element of lists end to end
+-- flat maps over lists end to end
 pub flat_below : {X Y : Type 0} (g : X → List Y) (f : ℕ → List X) (n : ℕ) → flat_map g (each_below f n) ≡ each_below (λ k. flat_map g (f k)) n
 flat_below g f zero = refl
 flat_below {X} {Y} g f (suc n) =
@@ -47,7 +47,7 @@ leaves_one d l bridge inside here = elim (slice_get_cases d.links l).1 [
 ]
 
 module _ {X : Type 0} (key : X → ℕ) (d : Domain) (accepted : IsAccepted d) (f : ℕ → List X) (keys : (l : ℕ) (x : X) → Contains (f l) x → key x ≡ l) where
-  -- of a bridge, what is listed of the links that leave it
+  -- for a bridge, what is listed for the links that leave it
   abbrev pub on_bridge : ℕ → List X
   on_bridge bridge = each_below (λ l. if leaves d l bridge then f l else []) (length d.links)
 
@@ -55,7 +55,7 @@ module _ {X : Type 0} (key : X → ℕ) (d : Domain) (accepted : IsAccepted d) (
   abbrev pub by_bridge : List X
   by_bridge = each_below on_bridge (length d.bridges)
 
-  -- where it is of one link, the link leaves the bridge
+  -- an element of a link comes from the bridge that the link leaves
   of_link : (bridge : ℕ) (x : X) → Contains (on_bridge bridge) x → (key x < length d.links) × (leaves d (key x) bridge ≡ true)
   of_link bridge x h =
       let w = contains_from_below (λ l. if leaves d l bridge then f l else []) (length d.links) x h in
@@ -63,7 +63,7 @@ module _ {X : Type 0} (key : X → ℕ) (d : Domain) (accepted : IsAccepted d) (
       let is : key x ≡ w.0 = keys w.0 x t.1 in
       (omega (arith, is, w.1), ap (λ (l : ℕ). leaves d l bridge) is ∙ t.0)
 
-  -- so of one link it is what is listed of the link
+  -- so for one link it is what is listed for the link
   filtered : (l : ℕ) → l < length d.links → filter (λ x. key x == l) by_bridge ≡ f l
   filtered l inside =
       let own = leaves_own d l accepted inside in
@@ -76,7 +76,7 @@ module _ {X : Type 0} (key : X → ℕ) (d : Domain) (accepted : IsAccepted d) (
       ∙ ap (filter p) (cond-true (leaves d l b) (f l) [] own.0)
       ∙ filter_each p (f l) (λ x h. eq-eqb (key x) l (keys l x h))
 
-  -- and brought into order of link it stands link by link
+  -- and in order of link it is the lists of the links, one after the other
   pub in_order_by_link : (gathered sorted : List X) → gathered ≡ by_bridge → IsInOrderOf key gathered sorted → sorted ≡ each_below f (length d.links)
   in_order_by_link gathered sorted is order =
       by_key key (length d.links) sorted order.in_order (λ x h.
@@ -89,7 +89,7 @@ module _ {X : Type 0} (key : X → ℕ) (d : Domain) (accepted : IsAccepted d) (
       ∙ same_below (λ l. filter (λ x. key x == l) sorted) f (length d.links)
       (λ l inside. order.stable l ∙ ap (filter (λ x. key x == l)) is ∙ filtered l inside)
 
--- the link of a batch, and one of any link
+-- the link of a batch, and a batch of a given link
 abbrev pub link_of_batch : LinkBatch → ℕ
 link_of_batch x = x.link
 
@@ -100,7 +100,7 @@ pub batches_on : (l : ℕ) → link_of_batch (batch_on l) ≡ l
 unfolding batch_on
 batches_on l = refl
 
--- the link of a start, and one on any link
+-- the link of a start, and a start on a given link
 abbrev pub link_of_start : Started → ℕ
 link_of_start x = x.link
 
@@ -111,7 +111,7 @@ pub starts_on : (l : ℕ) → link_of_start (start_on l) ≡ l
 unfolding start_on
 starts_on l = refl
 
--- a link whose end is a bridge ends in it
+-- a link with a bridge at its end ends in it
 pub ends_in : (d : Domain) (l b : ℕ) (link : Link) → IsAccepted d → slice_get d.links l ≡ Some link → link.to ≡ Bridge b →
     (enters d l b ≡ true) × (b < length d.bridges)
 ends_in d l b link accepted there to = (

@@ -1,4 +1,4 @@
--- A run from its beginning over all its cycles to its end, and what it promises there.
+-- A run from its beginning over all its cycles to its end, and the promises for it.
 use Rattle.std.proofs.Common.{◌≡◌, ℕ, ◌+◌, ◌*◌, ◌<◌, List, [], sym, refl, ap, ◌∙◌, arith, subst, length, map, get_or, inl, inr, Contains}
 use Rattle.std.specs.Prelude.{Some, slice_get}
 use Rattle.std.proofs.lemmas.List.{get_or-map, length-map}
@@ -36,7 +36,7 @@ use Rattle.cqf_plain.specs.Run.{AreTablesNumbered, IsBookOfRun, IsRunFault, run_
 abbrev rows_of : CycleTable → List Row
 rows_of table = table.rows
 
--- a run of which nothing has happened is at its beginning
+-- a run in which nothing has happened is at its beginning
 pub begins_at : NewBridgeFollows → (d : Domain) (tables : List CycleTable) (offers : List Offer) (background : List Background) (net : Network)
     (c : SoFarState) →
     IsNewRun d offers background c → IsAt (run_of d tables offers background) net 0 c
@@ -65,14 +65,14 @@ begins_at follows d tables offers background net c new =
           contains_none p (subst (λ (t : ℕ). Contains (policed_before run net.carried bridge t) p) none lost.came);
     }
 
--- what an index gives stands there
+-- the element read at an index is there
 there_at : {X : Type 0} (xs : List X) (place : ℕ) (x : X) → place < length xs → x ≡ get_or xs place x → slice_get xs place ≡ Some x
 there_at xs place x inside is = elim (slice_get_cases xs place).1 [
   | inl w ↦ w.2 ∙ ap Some (sym (get_or_from_slice_get xs place w.0 x w.2) ∙ sym is)
   | inr w ↦ absurd (omega (arith, w.0, inside))
 ]
 
--- of tables that are numbered, each is of the cycle at whose place it stands
+-- each of numbered tables is of the cycle of its index
 pub numbered_so : (tables : List CycleTable) (place : ℕ) (table : CycleTable) → AreTablesNumbered (length tables) tables → place < length tables →
     table ≡ get_or tables place table → table.cycle ≡ place
 numbered_so tables place table numbered inside is = numbered.numbers place table (there_at tables place table inside is)
@@ -102,13 +102,13 @@ module _ (d : Domain) (tables : List CycleTable) (run : Run) (net : Network) (ov
         at = subst (λ (n : ℕ). IsAt run net n c) (sym own) at;
       }
 
-  -- and is then at the one behind it
+  -- and is then at the one after it
   pub at_next : AreTablesNumbered (length tables) tables → (place : ℕ) (table : CycleTable) (c : SoFarState) → place < length tables →
       table ≡ get_or tables place table → IsAt run net (table.cycle + 1) c → IsAt run net (place + 1) c
   at_next numbered place table c inside is at =
       subst (λ (n : ℕ). IsAt run net (n + 1) c) (numbered_so tables place table numbered inside is) at
 
-  -- behind the last the book is the run's
+  -- after the last cycle the book is the run's
   pub ends_at : BookIsUnique → LegalNetworkIsUnique → DropsAreOfTheCycle → (c : SoFarState) → IsAt run net (length tables) c → IsBookOfRun run c.book
   ends_at one_book unique among c short =
       let cycles = length run.tables in
@@ -138,7 +138,7 @@ module _ (d : Domain) (tables : List CycleTable) (run : Run) (net : Network) (ov
 
 module _ (d : Domain) (tables : List CycleTable) (offers : List Offer) (background : List Background) (accepted : IsAccepted d) (good : AreOffers d offers)
     (behind : AreBackground d background) where
-  -- the run that is asked for goes over the tables
+  -- the requested run is over these tables
   pub over_so : (e : Domain) (net : Network) → e ≡ d → IsLegalNetwork (run_of d tables offers background) (compiled_lists d) (length (map rows_of tables)) net →
       IsRunOver e tables (run_of d tables offers background) net
   over_so e net same legal = record {
@@ -160,7 +160,7 @@ module _ (d : Domain) (tables : List CycleTable) (offers : List Offer) (backgrou
   keeps_promise says are_orderly book is entries of_history =
       says (run_of d tables offers background) book accepted (orderly are_orderly entries of_history) good behind is.is_book
 
-  -- and there is no book for want of memory alone
+  -- and there is no book only if memory is refused
   pub memory_alone : GatesMeanTheShift → TablesAreOrderly → (cycles : ℕ) (fault : RunFault) →
       IsRunFault (run_of d tables offers background) cycles tables fault → WantsMemoryAlone d cycles tables fault
   memory_alone mean are_orderly cycles WrongTables wrong entries of_history are_numbered = absurd (wrong are_numbered)
@@ -171,7 +171,7 @@ module _ (d : Domain) (tables : List CycleTable) (offers : List Offer) (backgrou
       l.bridge l.policed l.lost)
   memory_alone mean are_orderly cycles Memory lost entries of_history are_numbered = refl
 
--- why a run by numbered tables doesn't go on is why it gives no book
+-- if a run by numbered tables stops, the cause is why it returns no book
 pub fault_of_stop : (run : Run) (cycles : ℕ) (tables : List CycleTable) (fault : RunFault) → AreTablesNumbered cycles tables → StopsRun run fault →
     IsRunFault run cycles tables fault
 fault_of_stop run cycles tables WrongTables are_numbered stop = absurd stop

@@ -39,7 +39,7 @@ edge_not_lost : (d : Domain) (bridge cycle : ℕ) (passes : Row → Bool) (found
 edge_not_lost d bridge cycle passes None = λ lost. lost
 edge_not_lost d bridge cycle passes (Some row) = reasons (not (is_live row cycle)) (not (begins_at d row bridge)) (not (passes row))
   where
-    -- whichever reason fits
+    -- for each of the reasons
     reasons : (a b c : Bool) → ¬ IsLoss (if a then DroppedFor Withdrawn
         else (if b then DroppedFor OtherBridge else (if c then DroppedFor Octets else Queued row)))
     reasons true b c lost = lost
@@ -62,7 +62,7 @@ enters_one d l bridge accepted = ends (slice_get d.links l) (λ link is. (accept
     ends None good e = absurd (false≢true e)
     ends (Some link) good e = node link.to (good link refl) e
 
--- so where no bridge is nothing is lost
+-- so nothing is lost outside the bridges
 none_elsewhere : (run : Run) (carried : Carried) (bridge cycle : ℕ) (p : Policed) → IsAccepted run.domain → length run.domain.bridges ≤ bridge →
     Contains (policed_of run carried bridge cycle) p → ¬ IsLoss p.verdict
 none_elsewhere run carried bridge cycle p accepted outside h =
@@ -89,7 +89,7 @@ none_elsewhere run carried bridge cycle p accepted outside h =
     ]
 
 module _ (run : Run) (net : Network) (cycle : ℕ) (of : IsCycleOf run net cycle) (losses : LossesAreOfCycles) where
-  -- where the bridges lose nothing in the cycle, nothing was lost before the next
+  -- if the bridges lose nothing in the cycle, nothing was lost before the next
   none_lost_on : NoneLostBefore run net cycle → FirstLoseNothing run net cycle (length run.domain.bridges) → NoneLostBefore run net (cycle + 1)
   none_lost_on before none bridge p lost =
       let l = (losses run net.carried (cycle + 1) bridge p).0 lost in

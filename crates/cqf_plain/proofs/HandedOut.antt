@@ -28,7 +28,7 @@ use Rattle.cqf_plain.specs.SoFar.{ListsCycle}
 use Rattle.cqf_plain.specs.Driven.{AllStandHalfway, AreHandedOut, HaveAllSentCycle, IsCycleOf, ListsBackground, all_of}
 use Rattle.cqf_plain.proofs.ByLink.{flat_below, in_order_by_link}
 
--- the lists of elements end to end, where each is said by its place
+-- lists end to end, each given by its index
 flat_first : {X Y : Type 0} (f : X → List Y) (g : ℕ → List Y) (xs : List X) (n : ℕ) → n ≤ length xs → ((k : ℕ) (e : X) → k < n → f (get_or xs k e) ≡ g k) →
     flat_map f (take n xs) ≡ each_below g n
 flat_first f g xs zero le each = refl
@@ -77,7 +77,7 @@ module _ (d : Domain) (accepted : IsAccepted d) (carried : Carried) (cycle : ℕ
       one true l = refl
       one false l = refl
 
-  -- brought into order, all that the bridges send stands link by link
+  -- in order, what all bridges send is the batches of the links, one after the other
   pub sorted_batches : (sent sorted : List LinkBatch) → sent ≡ each_below (λ bridge. batches_from d carried bridge cycle) (length d.bridges) →
       IsInOrderOf (λ (x : LinkBatch). x.link) sent sorted → sorted ≡ each_below alone (length d.links)
   sorted_batches sent sorted is order =
@@ -88,7 +88,7 @@ module _ (d : Domain) (accepted : IsAccepted d) (carried : Carried) (cycle : ℕ
       (λ bridge inside. from_links bridge))
       order
 
-  -- and says what the links start
+  -- and has what the links start
   pub starts_are : flat_map starts_of_batch (each_below alone (length d.links)) ≡ each_below (starts_in d carried cycle) (length d.links)
   starts_are =
       flat_below starts_of_batch alone (length d.links)
@@ -100,7 +100,7 @@ module _ (run : Run) (net : Network) (cycle : ℕ) (of : IsCycleOf run net cycle
   abbrev accepted : IsAccepted run.domain
   accepted = of.compiled.accepted
 
-  -- the background frames of all bridges, brought into order, stand link by link
+  -- in order, the background frames of all bridges are those of the links, one after the other
   sorted_background : (sorted : List Started) →
       IsInOrderOf (λ (x : Started). x.link) (flat_map (λ (s : RunBridge). s.bridge.background) before) sorted →
       sorted ≡ each_below (background_in run.domain net.backed cycle) (length run.domain.links)
@@ -116,7 +116,7 @@ module _ (run : Run) (net : Network) (cycle : ℕ) (of : IsCycleOf run net cycle
       (length d.links)))))
       order
 
-  -- so the book says what the network sends in the cycle
+  -- so the book has what the network sends in the cycle
   pub cycle_listed : (sorted : List LinkBatch) (old new : Contents) → IsInOrderOf (λ (x : LinkBatch). x.link) sent sorted →
       new.starts ≡ old.starts ++ flat_map starts_of_batch sorted → ListsBackground before old.background new.background → new.drops ≡ old.drops →
       ListsCycle run net cycle old new
@@ -164,13 +164,13 @@ none_handed d bridges = record {
   behind = λ k e inside. sym (append-nil (get_or bridges k e).inbox.items);
 }
 
--- a batch more among those of links into a bridge, or of others
+-- one more batch among those of links into a bridge, or of others
 one_filtered : (p : LinkBatch → Bool) (xs : List LinkBatch) (x : LinkBatch) (b : Bool) → p x ≡ b →
     filter p (xs ++ x ∷ []) ≡ filter p xs ++ (if b then x ∷ [] else [])
 one_filtered p xs x true is = filter-append p xs (x ∷ []) ∙ ap (λ (ys : List LinkBatch). filter p xs ++ ys) (cond-true (p x) (x ∷ []) [] is)
 one_filtered p xs x false is = filter-append p xs (x ∷ []) ∙ ap (λ (ys : List LinkBatch). filter p xs ++ ys) (cond-false (p x) (x ∷ []) [] is)
 
--- one of a link that ends in no bridge
+-- a batch of a link that ends in no bridge
 pub passed_by : (d : Domain) (batches : List LinkBatch) (before after : List RunBridge) (batch : LinkBatch) → ((bridge : ℕ) → enters d batch.link bridge ≡ false) →
     AreHandedOut d batches before after → AreHandedOut d (batches ++ batch ∷ []) before after
 passed_by d batches before after batch none so = record {
@@ -184,7 +184,7 @@ passed_by d batches before after batch none so = record {
       ∙ append-nil (filter (λ (x : LinkBatch). enters d x.link k) batches)));
 }
 
--- one of a link that ends in one
+-- a batch of a link that ends in one
 pub one_handed : (d : Domain) (batches : List LinkBatch) (before after : List RunBridge) (batch : LinkBatch) (x y : RunBridge) (bridge place : ℕ) →
     enters d batch.link bridge ≡ true → ((other : ℕ) → enters d batch.link other ≡ true → other ≡ bridge) → place ≡ bridge → place < length after →
     x ≡ get_or after place x → y.bridge ≡ x.bridge → y.agenda ≡ x.agenda → y.inbox.items ≡ x.inbox.items ++ batch ∷ [] →
@@ -219,11 +219,11 @@ one_handed d batches before after batch x y bridge place ends only at inside the
     into : ℕ → LinkBatch → Bool
     into k z = enters d z.link k
 
-    -- what stands there then
+    -- what is there afterwards
     here : (k : ℕ) (e : RunBridge) → k ≡ place → get_or (set after place y) k e ≡ y
     here k e same = ap (λ (j : ℕ). get_or (set after place y) j e) same ∙ get_or-set_same after place y e inside
 
-    -- and stood there
+    -- and what was there before
     was : (k : ℕ) (e : RunBridge) → k ≡ place → x ≡ get_or after k e
     was k e same = there ∙ get_or_default after place x e inside ∙ ap (λ (j : ℕ). get_or after j e) (sym same)
 

@@ -1,4 +1,4 @@
--- What came to a bridge in a cycle, brought into order, is what the network brings there.
+-- What arrived at a bridge in a cycle, in order, is what the network brings there.
 use Rattle.std.proofs.Common.{◌≡◌, ℕ, ◌+◌, ◌*◌, ◌≤◌, ◌<◌, ◌++◌, ◌==◌, List, [], sym, refl, ap, ◌∙◌, arith, subst}
 use Rattle.std.proofs.Common.{length, map, Contains, Option, eqb-true, mul-le-mul_right}
 use Rattle.std.proofs.lemmas.List.Folds.{flat_map-map}
@@ -32,7 +32,7 @@ module _ (run : Run) (net : Network) (cycle bridge : ℕ) (s : RunBridge) (of : 
   abbrev sent_in : Carried
   sent_in m = batch run.domain net.carried m cycle
 
-  -- a batch that came may be gathered
+  -- a batch that arrived may be gathered
   gathers : cycle < 100000 → (b : LinkBatch) → Contains (batches_into run.domain net.carried bridge cycle) b → CanGather run.domain b
   gathers early b h =
       let d = run.domain in
@@ -75,7 +75,7 @@ module _ (run : Run) (net : Network) (cycle bridge : ℕ) (s : RunBridge) (of : 
         (flat_map-map (λ (b : LinkBatch). map (sent_received e b.link) b.frames) (batch_of e net.carried cycle) (links_into e bridge)
         ∙ made_of_kept (λ m. enters e m bridge) (λ m. map (sent_received e m) (sent_in m)) (length e.links))
 
-    -- so in order they are what comes to the bridge
+    -- so in order they are what arrives at the bridge
     received_so : frames ≡ received_in run net.carried bridge cycle
     received_so =
         in_order run sent_in bridge cycle frames (omega (arith, of.compiled.accepted.cycle_least))
@@ -84,13 +84,13 @@ module _ (run : Run) (net : Network) (cycle bridge : ℕ) (s : RunBridge) (of : 
         ((λ i. gathered_by (domain_is i) ((are ∙ come.came_are) i) ((offered ∙ come.agenda.offers_are cycle) i)) ∙ by_links) order)
         ∙ brings run (length run.tables) cycle bridge net sent_in of.compiled (λ m ends. refl)
 
-    -- each comes in the cycle
+    -- each arrives in the cycle
     pub in_cycle : (x : Received) → Contains frames x → cycle_of d x.at ≡ cycle
     in_cycle x held =
         ap (λ (e : Domain). cycle_of e x.at) domain_is
         ∙ received_in_when run net.carried bridge cycle x (subst (λ (xs : List Received). Contains xs x) received_so held)
 
-    -- and what becomes of them is what becomes of them in the run
+    -- and the verdicts on them are those of the run
     pub found_so : EachCycleIsAnew → (number : ℕ) → number ≡ s.bridge.number → (rows : List Row) → table_of run.tables cycle ≡ rows → (found : Option ℕ) →
         ((tables : List (List Row)) → table_of tables cycle ≡ rows → IsLossFound (police_all d tables number [] frames) found) →
         IsLossFound (policed_of run net.carried bridge cycle) found

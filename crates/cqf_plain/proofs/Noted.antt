@@ -19,13 +19,13 @@ use Rattle.cqf_bridge.specs.Quiet.{IsNextStartOf}
 use Rattle.cqf_plain.specs.declared.driven.RunBridge.{RunBridge}
 use Rattle.cqf_plain.specs.Due.{AreNextStarts, HasNothing, IsAmong, IsNoted, Moment, Moments, NoneBefore, NothingComes, by_moment, ports_of}
 
--- what compares as not greater isn't later
+-- what doesn't compare as greater isn't later
 not_later : (a b : ℕ) (o r : Ordering) → MatchOrdering o (a < b) (a ≡ b) (b < a) → is_gt (ordering_then o r) ≡ false → a ≤ b
 not_later a b Less r h e = omega (arith, h)
 not_later a b Equal r h e = omega (arith, h)
 not_later a b Greater r h e = absurd (true≢false e)
 
--- what compares as equal is the same
+-- what compares as equal is equal
 same_moment : (a b l m : ℕ) (o r : Ordering) → MatchOrdering o (a < b) (a ≡ b) (b < a) → MatchOrdering r (l < m) (l ≡ m) (m < l) →
     is_eq (ordering_then o r) ≡ true → (a ≡ b) × (l ≡ m)
 same_moment a b l m Less r h k e = absurd (true≢false (sym e))
@@ -45,22 +45,22 @@ itself : (x : Moment) → is_eq (by_moment x x) ≡ true
 itself x = ap (λ (o : Ordering). is_eq (ordering_then o (nat_cmp x.1 x.1))) (equal_itself x.0.0 (nat_cmp x.0.0 x.0.0) (ranks x.0.0 x.0.0))
     ∙ ap is_eq (equal_itself x.1 (nat_cmp x.1 x.1) (ranks x.1 x.1))
 
--- an answer is one of two
+-- a test has one of two results
 either : (b : Bool) → (b ≡ true) ⊎ (b ≡ false)
 either true = inl refl
 either false = inr refl
 
--- where the first isn't before an instant none is
+-- if the first isn't before an instant, none is
 pub first_is_least : (due : BTreeMap Moment ℕ) (x : Moment) (end : ℕ) → IsLowerBound by_moment due x → end ≤ x.0.0 → NoneBefore end due.entries
 first_is_least due x end least late k among =
     omega (arith, late, not_later x.0.0 k.0.0 (nat_cmp x.0.0 k.0.0) (nat_cmp x.1 k.1) (ranks x.0.0 k.0.0) (least k among))
 
 module _ (x : Moment) (v : ℕ) (before after : BTreeMap Moment ℕ) (updates : Updates by_moment before after x (Some v)) where
-  -- what is put in is there
+  -- what is inserted is there
   puts_it : IsAmong after.entries x
   puts_it = subst IsSome (sym (updates.0 x ∙ ap (λ (b : Bool). cond b (Some v) (get by_moment before x)) (itself x))) refl
 
-  -- beside what was
+  -- and so is what was there before
   puts_beside : (k : Moment) → IsAmong before.entries k → IsAmong after.entries k
   puts_beside k among = elim (either (is_eq (by_moment x k))) [
     | inl e ↦ subst IsSome (sym (updates.0 k ∙ ap (λ (b : Bool). cond b (Some v) (get by_moment before k)) e)) refl
@@ -74,7 +74,7 @@ module _ (x : Moment) (v : ℕ) (before after : BTreeMap Moment ℕ) (updates : 
     | inr e ↦ inl (subst IsSome (updates.0 k ∙ ap (λ (b : Bool). cond b (Some v) (get by_moment before k)) e) among)
   ]
 
-  -- so one more is noted
+  -- so one more is recorded
   pub one_noted : (ports : List PortRecord) (r : PortRecord) → AreNextStarts before.entries ports → IsNextStartOf r (Some x) →
       AreNextStarts after.entries (ports ++ r ∷ [])
   one_noted ports r so next = record {
@@ -91,7 +91,7 @@ module _ (x : Moment) (v : ℕ) (before after : BTreeMap Moment ℕ) (updates : 
     ];
   }
 
--- or of one that starts no more there is nothing to note
+-- a port that starts no more has nothing to record
 pub none_noted : (due : Moments) (ports : List PortRecord) (r : PortRecord) → AreNextStarts due ports → IsNextStartOf r None →
     AreNextStarts due (ports ++ r ∷ [])
 none_noted due ports r so never = record {
@@ -109,17 +109,17 @@ nothing_due due none = record {
   only = λ k among. absurd (false≢true (subst (λ (es : Moments). IsSome (lookup (is_at (by_moment k)) es)) none among));
 }
 
--- the ports of one bridge more
+-- the ports of one more bridge
 pub ports_more : (xs : List RunBridge) (s : RunBridge) → ports_of (xs ++ s ∷ []) ≡ ports_of xs ++ s.bridge.ports
 ports_more xs s =
     flat_map-append (λ (y : RunBridge). y.bridge.ports) xs (s ∷ []) ∙ ap (λ (rs : List PortRecord). ports_of xs ++ rs) (append-nil s.bridge.ports)
 
--- the first of some
+-- the first element of some
 first_of : {X : Type 0} (xs : List X) → 0 < length xs → X
 first_of [] none = absurd (omega (arith, none))
 first_of (x ∷ xs) some = x
 
--- of a bridge, one port more
+-- one more port of a bridge
 pub next_noted : (due : Moments) (ports own : List PortRecord) (place : ℕ) → place < length own →
     ((e : PortRecord) → AreNextStarts due ((ports ++ take place own) ++ get_or own place e ∷ [])) → AreNextStarts due (ports ++ take (place + 1) own)
 next_noted due ports own place inside so =
@@ -133,14 +133,14 @@ pub all_noted : (due : Moments) (ports own : List PortRecord) (place : ℕ) → 
     AreNextStarts due (ports ++ own)
 all_noted due ports own place past so = subst (λ (rs : List PortRecord). AreNextStarts due (ports ++ rs)) (take_all place own past) so
 
--- those of one bridge more
+-- the ports of one more bridge
 pub bridge_noted : (due : Moments) (bridges : List RunBridge) (place : ℕ) (s : RunBridge) → place < length bridges →
     AreNextStarts due (ports_of (take place bridges) ++ (get_or bridges place s).bridge.ports) → AreNextStarts due (ports_of (take (place + 1) bridges))
 bridge_noted due bridges place s inside so =
     subst (AreNextStarts due)
     (sym (ap ports_of (take_more bridges place s inside) ∙ ports_more (take place bridges) (get_or bridges place s))) so
 
--- nothing comes to one bridge more
+-- there is nothing for one more bridge
 pub nothing_more : (cycle : ℕ) (bridges : List RunBridge) (place : ℕ) (s : RunBridge) → place < length bridges → s ≡ get_or bridges place s →
     NothingComes cycle (take place bridges) → HasNothing cycle s → NothingComes cycle (take (place + 1) bridges)
 nothing_more cycle bridges place s inside is so more =

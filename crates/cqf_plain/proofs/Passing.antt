@@ -37,7 +37,7 @@ use Rattle.cqf_plain.proofs.Resting.{batches_empty, empty_batches, halfway_past,
 use Rattle.cqf_plain.proofs.Resting.{receives_none, sends_none, starts_rested, verdicts_none}
 use Rattle.cqf_plain.proofs.Sent.{batches_so, halfway_so}
 
--- a list with no member is empty
+-- a list without elements is empty
 no_members : {X : Type 0} (xs : List X) → ((x : X) → Contains xs x → ⊥) → xs ≡ []
 no_members [] h = refl
 no_members (x ∷ xs) h = absurd (h x (contains_here x xs))
@@ -56,7 +56,7 @@ module _ (run : Run) (net : Network) (cycle : ℕ) (of : IsCycleOf run net cycle
     sent_is = batches_so run net cycle of k s st [] (sym nothing.no_background) (halfway_past cycle s.bridge) [] (empty_batches s.bridge cycle quiet)
         (sends_none s.bridge cycle quiet) law
 
-    -- of streams' frames
+    -- for streams' frames
     pub sends_nothing : (l : ℕ) → l < length run.domain.links → leaves run.domain l k ≡ true → batch run.domain net.carried l cycle ≡ []
     sends_nothing l inside here =
         let listed : Contains (links_from run.domain k) l =
@@ -66,7 +66,7 @@ module _ (run : Run) (net : Network) (cycle : ℕ) (of : IsCycleOf run net cycle
         (subst (λ (xs : List LinkBatch). Contains xs (batch_of run.domain net.carried cycle l)) (sym sent_is)
         (contains_map (batch_of run.domain net.carried cycle) (links_from run.domain k) l listed))
 
-    -- and of background frames
+    -- and for background frames
     pub starts_nothing : (l : ℕ) → l < length run.domain.links → leaves run.domain l k ≡ true → background_in run.domain net.backed cycle l ≡ []
     starts_nothing l inside here =
         let on_link = background_in run.domain net.backed cycle in
@@ -80,7 +80,7 @@ module _ (run : Run) (net : Network) (cycle : ℕ) (of : IsCycleOf run net cycle
 
     module _ (silent : (l : ℕ) → batch run.domain net.carried l cycle ≡ []) (taken : FramesAreTakenInOrder) (receiving : ReceivingFollows)
         (verdicts : VerdictsAreTheRuns) where
-      -- nothing comes to it
+      -- no frame arrives at it
       comes_empty : (bridge : ℕ) (x : LinkBatch) → Contains (batches_into run.domain net.carried bridge cycle) x → x.frames ≡ []
       comes_empty bridge x held =
           let w = contains_from_map (batch_of run.domain net.carried cycle) _ x held in
@@ -100,7 +100,7 @@ module _ (run : Run) (net : Network) (cycle : ℕ) (of : IsCycleOf run net cycle
             st.own.received st.follows.turn;
       })
 
-      -- and stands before the next
+      -- and is before the next cycle
       pub stands_past : StandsBeforeCycle run net (cycle + 1) k (driven_past cycle s)
       stands_past = record {
         own = record { domain = st.own.domain; number = st.own.number; received = refl; agenda = st.own.agenda };
@@ -175,7 +175,7 @@ module _ (run : Run) (net : Network) (cycle : ℕ) (of : IsCycleOf run net cycle
       held_at : (k : ℕ) (e : RunBridge) → k < length run.domain.bridges → Contains c.bridges (bridge_at k e)
       held_at k e inside = Contains-get_or c.bridges k e (omega (arith, inside, at.stand.one_each))
 
-      -- some bridge, where there is a place
+      -- some bridge, if there is an index
       any_at : (k : ℕ) → k < length run.domain.bridges → RunBridge
       any_at k inside = first_of c.bridges (omega (arith, inside, at.stand.one_each))
         where
@@ -206,7 +206,7 @@ module _ (run : Run) (net : Network) (cycle : ℕ) (of : IsCycleOf run net cycle
         | inr past ↦ ap (filter (λ (sent : Sent). cycle_of run.domain sent.start.0 == cycle)) (of.compiled.legal.no_others l past).0
       ]
 
-      -- each bridge stands before the next cycle
+      -- each bridge is before the next cycle
       all_past : AllStandBefore run net (cycle + 1) (map (driven_past cycle) c.bridges)
       all_past = record {
         one_each = length-map c.bridges (driven_past cycle) ∙ at.stand.one_each;
@@ -235,7 +235,7 @@ module _ (run : Run) (net : Network) (cycle : ℕ) (of : IsCycleOf run net cycle
           loses_nothing k x (at.stand.each k s inside) (port_quiet x (held_at k s inside)) (quiet.none_come x (held_at k s inside)) sending
           silent taken receiving verdicts
 
-      -- the next starts are what they were
+      -- the next starts are unchanged
       due_past : AreNextStarts c.due (ports_of (map (driven_past cycle) c.bridges))
       due_past = record {
         noted = λ r held.

@@ -17,7 +17,7 @@ use Rattle.cqf_bridge.specs.declared.cycle_gate.KeptGate.{KeptGate}
 use Rattle.cqf_bridge.specs.Gates.{HaveCounted}
 use Rattle.cqf_plain.specs.Losing.{IsFirstLost, NoneIsLost}
 
--- frames that were policed, none of which is lost: the gates have counted them
+-- frames that were policed and aren't lost: the gates have counted them
 pub record IsPolicing (d : Domain) (bridge cycle : ℕ) (rows : List Row) (frames : List Received) (count : ℕ) (gates : List KeptGate) : Type 0 where
   pub counted : (tables : List (List Row)) → table_of tables cycle ≡ rows →
       HaveCounted d.cycle_time cycle (police_all d tables bridge [] (take count frames)) gates
@@ -41,18 +41,18 @@ module _ (d : Domain) (bridge cycle : ℕ) (rows : List Row) (frames : List Rece
       front_more = take_more frames count x inside ∙ ap (λ (z : Received). take count frames ++ z ∷ []) (sym is)
 
       module _ (tables : List (List Row)) where
-        -- what became of those before
+        -- the verdicts on those before
         abbrev done : List Policed
         done = police_all d tables bridge [] (take count frames)
 
-        -- and of the next
+        -- and on the next
         abbrev next : Policed
         next = police d tables bridge done x
 
         done_more : police_all d tables bridge [] (take (count + 1) frames) ≡ done ++ next ∷ []
         done_more = ap (police_all d tables bridge []) front_more ∙ police_more d tables bridge [] (take count frames) (x ∷ [])
 
-        -- what becomes of all
+        -- the verdicts on all
         abbrev rest : List Policed
         rest = police_all d tables bridge (done ++ next ∷ []) (drop (count + 1) frames)
 
@@ -107,7 +107,7 @@ module _ (d : Domain) (bridge cycle : ℕ) (rows : List Row) (frames : List Rece
     policing_all past tables table =
         subst (λ (ys : List Received). NoneIsLost (police_all d tables bridge [] ys)) (take_all count frames past) (h.none_lost tables table)
 
--- what is policed in a cycle is counted in it, by whatever name the cycle goes
+-- what is policed in a cycle is counted in it, if the cycle is given by an equal number
 pub counted_so : (d : Domain) (bridge cycle own : ℕ) (rows : List Row) (x : Received) (gates gates_after : List KeptGate) → own ≡ cycle →
     ((tables : List (List Row)) (policed : List Policed) → table_of tables own ≡ rows → HaveCounted d.cycle_time own policed gates →
     HaveCounted d.cycle_time own (policed ++ police d tables bridge policed x ∷ []) gates_after) →

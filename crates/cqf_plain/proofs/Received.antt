@@ -54,7 +54,7 @@ module _ (run : Run) (net : Network) (table : CycleTable) (of : IsCycleOf run ne
     into_own : batches ≡ batches_into run.domain net.carried s.bridge.number cycle
     into_own = batches_are ∙ ap (λ (n : ℕ). batches_into run.domain net.carried n cycle) (sym st.own.number)
 
-    -- what the run has for the bridge is handed to it
+    -- the run's input for the bridge is given to it
     pub run_so : OffersAreOfTheBridge → IsRunOfBridge s.bridge.domain s.bridge.number cycle table.rows offers run
     run_so law =
         subst (λ (xs : List Offered). IsRunOfBridge s.bridge.domain s.bridge.number cycle table.rows xs run) (sym (offered ∙ st.own.agenda.offers_are cycle))
@@ -97,7 +97,7 @@ module _ (run : Run) (net : Network) (table : CycleTable) (of : IsCycleOf run ne
     -- or it doesn't
     module _ (after : RunBridge) (f : BridgeFault)
         (refused : IsReceiveFault run s.bridge after.bridge cycle (record { table_cycle = table.cycle; rows = table.rows; batches = batches }) f) where
-      -- then all has come to it
+      -- then all batches have arrived at it
       pub come_so : after.agenda ≡ s.agenda → after.inbox.items ≡ s.inbox.items → HasCome run net cycle bridge after
       come_so agenda inbox =
           let same = same_bridge run s.bridge after.bridge cycle (record { table_cycle = table.cycle; rows = table.rows; batches = batches }) f refused in
@@ -108,7 +108,7 @@ module _ (run : Run) (net : Network) (table : CycleTable) (of : IsCycleOf run ne
             came_are = inbox ∙ st.came_are;
           }
 
-    -- and where that wasn't for want of memory, a frame of it is lost
+    -- and unless memory was refused, one of their frames is lost
     pub lost_so : VerdictsAreTheRuns → UnlostBatchesMayCome → (after : BridgeState) (f : BridgeFault) →
         IsReceiveFault run s.bridge after cycle (record { table_cycle = table.cycle; rows = table.rows; batches = batches }) f → (f ≡ fault.Memory → ⊥) →
         LosesNothingIn run net bridge cycle → ⊥
@@ -146,7 +146,7 @@ module _ (run : Run) (net : Network) (table : CycleTable) (of : IsCycleOf run ne
     none_lost = λ bridge below. absurd (omega (arith, below));
   }
 
-  -- the next still stands halfway through it
+  -- the next is still halfway through it
   pub next_receives : (count : ℕ) (bridges : List RunBridge) (drops now : List Dropped) (x : RunBridge) → FirstHaveReceived count bridges drops now →
       count < length run.domain.bridges → x ≡ get_or bridges count x → StandsHalfway run net cycle (all_of run net cycle) count x
   next_receives count bridges drops now x so inside is =

@@ -1,4 +1,4 @@
--- A bridge whose ports start nothing in a cycle, and which nothing comes to, has sent and received it by passing over it.
+-- A bridge whose ports start nothing in a cycle, and at which nothing arrives, has sent and received it by passing over it.
 use Rattle.std.proofs.Common.{◌≡◌, ℕ, ◌+◌, ◌≤◌, ◌<◌, ◌++◌, Bool, true, false, List, [], ◌∷◌, Contains, sym, refl, ap}
 use Rattle.std.proofs.Common.{◌∙◌, inl, inr, arith, subst, length, map, filter, append-nil, flat_map}
 use Rattle.std.specs.Prelude.{◌==◌, nat_lt, suc, if◌then◌else◌}
@@ -25,7 +25,7 @@ use Rattle.cqf_bridge.specs.Quiet.{IsQuiet, passed, rested}
 use Rattle.cqf_bridge.specs.Receiving.{ReceivesCycle, carried_by, port_queued, verdicts_in}
 use Rattle.cqf_plain.specs.Due.{IsNoted, Moments, NoneBefore}
 
--- up to an instant that isn't after its next start a port starts nothing more
+-- up to an instant that isn't after its next start, a port starts nothing more
 quiet_until : LegalPartIsLegal → (r : PortRecord) (end t : ℕ) → ((place s : ℕ) → Contains r.port.starts (place, s) → s < end) → end ≤ t →
     StartsNext r.port t → IsQuiet end r
 quiet_until part r end t before upto next =
@@ -39,7 +39,7 @@ quiet_until part r end t before upto next =
     subst (λ (xs : List Transmission). AreLegal r.port.rules r.port.arrivals end xs) same
     (part r.port.rules r.port.arrivals end (t + 1) (r.port.starts ++ last) (omega (arith, upto)) next.legal)
 
--- so a port that is noted is quiet until the least that is noted
+-- so a port that is recorded starts nothing before the least recorded start
 pub noted_quiet : LegalPartIsLegal → (due : Moments) (r : PortRecord) (end : ℕ) → IsNoted due r → r.port.reached ≤ end →
     ((place s : ℕ) → Contains r.port.starts (place, s) → s < end) → NoneBefore end due → IsQuiet end r
 noted_quiet part due r end noted from before none = elim noted [
@@ -51,14 +51,14 @@ noted_quiet part due r end noted from before none = elim noted [
 pub starts_rested : (r : PortRecord) (t end : ℕ) → StartsNext r.port t → end ≤ t → StartsNext (rested end r).port t
 starts_rested r t end next upto = record { from_now = upto; place = next.place; legal = next.legal }
 
--- which is noted then
+-- which is recorded then
 pub noted_rested : (due : Moments) (r : PortRecord) (end : ℕ) → IsNoted due r → r.port.reached ≤ end → NoneBefore end due → IsNoted due (rested end r)
 noted_rested due r end noted from none = elim noted [
   | inl never ↦ inl (λ later behind. never later (omega (arith, from, behind)))
   | inr some ↦ inr (some.0, starts_rested r some.0.0 end some.1 (none (some.0, r.link) some.2), some.2)
 ]
 
--- nothing recorded leaves a port as it was
+-- a port with nothing more recorded is unchanged
 with_none : (r : PortRecord) → with_frames r [] ≡ r
 with_none r = λ i. record {
   link = r.link;
@@ -66,17 +66,17 @@ with_none r = λ i. record {
   streams = append-nil r.streams i;
 }
 
--- a list with no member is empty
+-- a list without elements is empty
 no_members : {X : Type 0} (xs : List X) → ((x : X) → Contains xs x → ⊥) → xs ≡ []
 no_members [] h = refl
 no_members (x ∷ xs) h = absurd (h x (contains_here x xs))
 
--- nothing of each is nothing
+-- a flat map is empty if it is empty for each element
 flat_none : {X Y : Type 0} (f : X → List Y) (xs : List X) → ((x : X) → Contains xs x → f x ≡ []) → flat_map f xs ≡ []
 flat_none f [] h = refl
 flat_none f (x ∷ xs) h = λ i. h x (contains_here x xs) i ++ flat_none f xs (λ y held. h y (contains_later x xs y held)) i
 
--- each with nothing beside it
+-- an empty list for each element
 pub no_starts : {X Y : Type 0} → List X → List (List Y)
 no_starts [] = []
 no_starts (x ∷ xs) = [] ∷ no_starts xs
@@ -119,7 +119,7 @@ module _ (b : BridgeState) (cycle : ℕ) (quiet : (r : PortRecord) → Contains 
   abbrev pub beside : List (PortRecord × List Transmission)
   beside = zip b.ports (no_starts b.ports)
 
-  -- such a port demands none
+  -- none are demanded of such a port
   demands_none : (p : PortRecord × List Transmission) → Contains beside p → AreDemanded (port_with [] p.0) (end_of_cycle b.domain cycle) p.1
   demands_none p held =
       let w = from_beside {X = PortRecord} {Y = Transmission} b.ports p held in
@@ -179,11 +179,11 @@ module _ (b : BridgeState) (cycle : ℕ) (quiet : (r : PortRecord) → Contains 
         batches = refl;
       }
 
--- batches with nothing in them
+-- empty batches
 abbrev no_batch : Carried
 no_batch m = []
 
--- what they and no offers bring is nothing
+-- with them and no offers nothing arrives
 brings_nothing : FramesAreTakenInOrder → (run : Run) (bridge cycle : ℕ) → 0 < run.domain.cycle_time →
     offered_for run.domain run.offers bridge cycle ≡ [] → received_in run no_batch bridge cycle ≡ []
 brings_nothing in_order run bridge cycle some none =
@@ -194,12 +194,12 @@ brings_nothing in_order run bridge cycle some none =
     (subst (λ (xs : List Received). IsInOrderOf (λ (x : Received). x.at) xs []) (sym empty)
     (record { in_order = λ i j z less below. absurd (omega (arith, below)); stable = λ k. refl })))
   where
-    -- by a link comes nothing
+    -- nothing arrives by a link
     by_link : (m : ℕ) (b : Bool) → (if b then map (sent_received run.domain m) (no_batch m) else []) ≡ []
     by_link m true = refl
     by_link m false = refl
 
-    -- so by none
+    -- so nothing arrives by any link
     by_links : each_below (λ m. if enters run.domain m bridge then map (sent_received run.domain m) (no_batch m) else []) (length run.domain.links) ≡ []
     by_links = none_below _ (length run.domain.links) (λ m inside. by_link m (enters run.domain m bridge))
 
@@ -213,7 +213,7 @@ module _ (run : Run) (cycle : ℕ) (law : FramesAreTakenInOrder) (some : 0 < run
       if_none true xs none = none
       if_none false xs none = refl
 
-  -- so nothing comes of them to a bridge that is offered nothing
+  -- so with them there are no verdicts at a bridge without offers
   pub verdicts_none : (bridge : ℕ) → offered_for run.domain run.offers bridge cycle ≡ [] → verdicts_in run bridge cycle batches ≡ []
   verdicts_none bridge none =
       let same : carried_by batches ≡ no_batch = λ i. λ m. carry_none m i in
@@ -243,7 +243,7 @@ module _ (run : Run) (cycle : ℕ) (law : FramesAreTakenInOrder) (some : 0 < run
               (filter (is_of_place run.domain cycle place) ps)) here));
         }
       where
-        -- each is as it was
+        -- each is unchanged
         map_same_all : (rs : List PortRecord) → map (port_queued run []) rs ≡ rs
         map_same_all [] = refl
         map_same_all (r ∷ rs) = λ i. with_none r i ∷ map_same_all rs i

@@ -21,11 +21,11 @@ use Rattle.cqf_plain.proofs.Turning.{AreTurned}
 
 module _ (run : Run) (net : Network) (cycle : ℕ) (of : IsCycleOf run net cycle) where
   module _ (bridge : ℕ) (s : RunBridge) (st : StandsBeforeCycle run net cycle bridge s) (given : List Backed) (is : given ≡ background_at s.agenda cycle) where
-    -- what the agenda has of the cycle is what the run has for the bridge
+    -- the agenda's frames of the cycle are the run's input for the bridge
     given_is : given ≡ backed_for run.domain run.background bridge cycle
     given_is = is ∙ st.own.agenda.background_are cycle
 
-    -- so it may be handed to it
+    -- so they may be given to it
     pub backed_so : BackgroundIsOfTheBridge → AreBackedOf s.bridge.domain s.bridge.number cycle given
     backed_so law =
         subst (λ (xs : List Backed). AreBackedOf s.bridge.domain s.bridge.number cycle xs) (sym given_is)
@@ -61,7 +61,7 @@ module _ (run : Run) (net : Network) (cycle : ℕ) (of : IsCycleOf run net cycle
       pub batches_so : batches_after ≡ batches ++ batches_from run.domain net.carried bridge cycle
       batches_so = gives.batches ∙ ap (λ (n : ℕ). batches ++ batches_from run.domain net.carried n cycle) st.own.number
 
-    -- it refuses to for want of memory alone
+    -- it refuses to send only if memory is refused
     pub memory_so : SendsButForMemory → (after : BridgeState) (fault : BridgeFault) → IsSendFault s.bridge after cycle fault → fault ≡ Memory
     memory_so law after fault h = law cycle s.bridge after fault st.follows.of_run.not_spent (sym st.own.received, st.follows.turn) h
 
@@ -77,7 +77,7 @@ module _ (run : Run) (net : Network) (cycle : ℕ) (of : IsCycleOf run net cycle
     batches_are = none;
   }
 
-  -- the next still stands before the cycle
+  -- the next is still before the cycle
   pub next_sends : (count : ℕ) (bridges : List RunBridge) (batches : List LinkBatch) (x : RunBridge) → FirstHaveSent count bridges batches →
       count < length run.domain.bridges → x ≡ get_or bridges count x → StandsBeforeCycle run net cycle count x
   next_sends count bridges batches x so inside is =

@@ -1,4 +1,4 @@
--- What holds of each of a list's elements by its place, one after the other.
+-- Properties of each element of a list by its index, one after the other.
 use Rattle.std.proofs.Common.{◌≡◌, ℕ, ◌+◌, ◌<◌, ◌≤◌, ◌++◌, List, [], ◌∷◌, get_or, length, length-append, set, sym, ap}
 use Rattle.std.proofs.Common.{◌∙◌, arith, inl, inr, subst}
 use Rattle.std.specs.Prelude.{slice_index_or}
@@ -6,13 +6,13 @@ use Rattle.std.proofs.lemmas.Bool.{cases_eq, cases_lt}
 use Rattle.std.proofs.lemmas.List.{get_or-set_other, get_or-set_same, get_or_append_left, get_or_push, length-set}
 use Rattle.cqf_plain.specs.Turns.{EachIs}
 
--- of the first ones the second holds, and of the others still the first
+-- the first elements have the second property, and the others still the first
 pub record AreTurned {X : Type 0} (Was Is : ℕ → X → Type 0) (count turned : ℕ) (xs : List X) : Type 0 where
   pub one_each : length xs ≡ count
   pub first : (k : ℕ) (e : X) → k < turned → k < count → Is k (slice_index_or xs k e)
   pub others : (k : ℕ) (e : X) → turned ≤ k → k < count → Was k (slice_index_or xs k e)
 
--- one more behind the others
+-- one more element is appended
 pub one_pushed : {X : Type 0} (Is : ℕ → X → Type 0) (count : ℕ) (xs after : List X) (x : X) → EachIs Is count xs → Is count x → after ≡ xs ++ x ∷ [] →
     EachIs Is (count + 1) after
 one_pushed Is count xs after x so is more = subst (EachIs Is (count + 1)) (sym more) (record {
@@ -27,7 +27,7 @@ one_pushed Is count xs after x so is more = subst (EachIs Is (count + 1)) (sym m
 })
 
 module _ {X : Type 0} (Was Is : ℕ → X → Type 0) (count : ℕ) where
-  -- at first of none
+  -- at first none has it
   pub none_turned : (xs : List X) → EachIs Was count xs → AreTurned Was Is count 0 xs
   none_turned xs so = record {
     one_each = so.one_each;
@@ -35,11 +35,11 @@ module _ {X : Type 0} (Was Is : ℕ → X → Type 0) (count : ℕ) where
     others = λ k e past within. so.each k e within;
   }
 
-  -- what still holds of the next
+  -- the property that the next still has
   pub next_was : (turned : ℕ) (xs : List X) (x : X) → AreTurned Was Is count turned xs → turned < count → x ≡ get_or xs turned x → Was turned x
   next_was turned xs x so inside is = subst (Was turned) (sym is) (so.others turned x (omega arith) inside)
 
-  -- then of one more
+  -- then one more has it
   pub one_turned : (turned place : ℕ) (xs after : List X) (y : X) → AreTurned Was Is count turned xs → turned < count → place ≡ turned → Is turned y →
       after ≡ set xs place y → AreTurned Was Is count (turned + 1) after
   one_turned turned place xs after y so inside at is more = subst (AreTurned Was Is count (turned + 1)) (sym (more ∙ ap (λ (p : ℕ). set xs p y) at)) (record {
@@ -55,7 +55,7 @@ module _ {X : Type 0} (Was Is : ℕ → X → Type 0) (count : ℕ) where
         subst (Was k) (sym (get_or-set_other xs turned k y e (λ same. omega (arith, same, past)))) (so.others k e (omega (arith, past)) within);
   })
 
-  -- in the end of all
+  -- in the end all have it
   pub all_turned : (turned : ℕ) (xs : List X) → AreTurned Was Is count turned xs → count ≤ turned → EachIs Is count xs
   all_turned turned xs so past = record {
     one_each = so.one_each;

@@ -22,7 +22,7 @@ use Rattle.cqf_bridge.specs.Verdicts.{LosesNothingIn}
 use Rattle.cqf_plain.specs.declared.driven.RunBridge.{RunBridge}
 use Rattle.cqf_plain.specs.Turns.{EachIs}
 
--- a bridge that is driven and has done nothing
+-- a bridge to be driven that has done nothing
 pub record IsNewlyDriven (d : Domain) (offers : List Offer) (background : List Background) (bridge : ℕ) (s : RunBridge) : Type 0 where
   pub is_new : s.bridge ≡ new_bridge d bridge
   pub agenda : IsAgendaOf d offers background bridge s.agenda
@@ -35,44 +35,44 @@ pub record IsCycleOf (run : Run) (net : Network) (cycle : ℕ) : Type 0 where
   pub background : AreBackground run.domain run.background
   pub within_run : cycle < length run.tables
 
--- the table is the cycle's
+-- the table is that of its cycle in the run
 pub record IsTableOf (run : Run) (table : CycleTable) : Type 0 where
   pub rows : table_of run.tables table.cycle ≡ table.rows
 
--- a bridge of the run, by number, in a cycle, with what the run has for it
+-- a bridge of the run, by number, in a cycle, with the run's input for it
 pub record IsOfRunIn (run : Run) (cycle bridge : ℕ) (s : RunBridge) : Type 0 where
   pub domain : s.bridge.domain ≡ run.domain
   pub number : s.bridge.number ≡ bridge
   pub received : s.bridge.received ≡ cycle
   pub agenda : IsAgendaOf run.domain run.offers run.background bridge s.agenda
 
--- it is at the cycle's beginning: it follows the network, and nothing has come to it yet
+-- it is at the cycle's beginning: it follows the network, and no batch of the cycle has arrived at it yet
 pub record StandsBeforeCycle (run : Run) (net : Network) (cycle bridge : ℕ) (s : RunBridge) : Type 0 where
   pub own : IsOfRunIn run cycle bridge s
   pub follows : FollowsTheNetwork run net s.bridge
   pub none_came : s.inbox.items ≡ []
 
--- it has sent the cycle as the network does, and these batches have come to it
+-- it has sent the cycle as the network does, and these batches have arrived at it
 pub record StandsHalfway (run : Run) (net : Network) (cycle : ℕ) (came : ℕ → List LinkBatch) (bridge : ℕ) (s : RunBridge) : Type 0 where
   pub own : IsOfRunIn run cycle bridge s
   pub has_sent : HasSentOfTheNetwork run net s.bridge
   pub came_are : s.inbox.items ≡ came bridge
 
--- all batches of the cycle have come to it, whether it takes them or not
+-- all batches of the cycle have arrived at it, whether it takes them or not
 pub record HasCome (run : Run) (net : Network) (cycle bridge : ℕ) (s : RunBridge) : Type 0 where
   pub domain : s.bridge.domain ≡ run.domain
   pub number : s.bridge.number ≡ bridge
   pub agenda : IsAgendaOf run.domain run.offers run.background bridge s.agenda
   pub came_are : s.inbox.items ≡ batches_into run.domain net.carried bridge cycle
 
--- all bridges of the run stand so
+-- all bridges of the run are in this state
 abbrev pub AllStandBefore : Run → Network → ℕ → List RunBridge → Type 0
 AllStandBefore run net cycle bridges = EachIs (StandsBeforeCycle run net cycle) (length run.domain.bridges) bridges
 
 abbrev pub AllStandHalfway : Run → Network → ℕ → (ℕ → List LinkBatch) → List RunBridge → Type 0
 AllStandHalfway run net cycle came bridges = EachIs (StandsHalfway run net cycle came) (length run.domain.bridges) bridges
 
--- before anything of a cycle comes to a bridge, and behind all of it
+-- before any batch of a cycle arrives at a bridge, and after all of them
 abbrev pub none_yet : ℕ → List LinkBatch
 none_yet bridge = []
 
@@ -88,7 +88,7 @@ pub record HaveAllSentCycle (run : Run) (net : Network) (cycle : ℕ) (bridges :
   pub halfway : AllStandHalfway run net cycle none_yet bridges
   pub batches_are : batches ≡ sent_by_first run net cycle (length run.domain.bridges)
 
--- batches are handed out: to each bridge those of the links that end in it, behind those that it has, in their order
+-- batches are handed out: to each bridge those of the links that end in it, after those that it has, in order
 pub record AreHandedOut (d : Domain) (batches : List LinkBatch) (before after : List RunBridge) : Type 0 where
   pub as_many : length after ≡ length before
   pub same_bridge : (k : ℕ) (e : RunBridge) → k < length before → (slice_index_or after k e).bridge ≡ (slice_index_or before k e).bridge
@@ -102,7 +102,7 @@ pub record ListsBackground (bridges : List RunBridge) (background background_aft
   pub by_link : IsInOrderOf (λ (x : Started). x.link) (flat_map (λ (s : RunBridge). s.bridge.background) bridges) sorted
   pub listed : background_after ≡ background ++ sorted
 
--- a bridge receives the cycle: what is dropped at it is this, and nothing is lost there
+-- a bridge receives the cycle: these are the drops at it, and nothing is lost there
 pub record ReceivesOne (run : Run) (net : Network) (cycle bridge : ℕ) (after : RunBridge) (drops : List Dropped) : Type 0 where
   pub stands : StandsBeforeCycle run net (cycle + 1) bridge after
   pub are_drops : drops ≡ drops_of_cycle run net bridge cycle

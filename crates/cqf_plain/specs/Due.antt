@@ -1,4 +1,4 @@
--- When the ports of the bridges start next, and cycles in which nothing happens.
+-- The next starts of the bridges' ports, and cycles in which nothing happens.
 use Rattle.std.specs.Prelude.{ℕ, ◌≡◌, ◌≤◌, ◌⊎◌, List, [], Contains, IsSome}
 use Rattle.std.specs.BTreeMap.{is_at}
 use Rattle.std.specs.List.{flat_map}
@@ -16,7 +16,7 @@ use Rattle.cqf_plain.specs.declared.driven.RunBridge.{RunBridge}
 abbrev pub Moment : Type 0
 Moment = Nanos × ℕ
 
--- they go by instant, then link
+-- moments are ordered by instant, then link
 abbrev pub by_moment : Moment → Moment → Ordering
 by_moment a b = ordering_then (nat_cmp a.0.0 b.0.0) (nat_cmp a.1 b.1)
 
@@ -24,15 +24,15 @@ by_moment a b = ordering_then (nat_cmp a.0.0 b.0.0) (nat_cmp a.1 b.1)
 abbrev pub Moments : Type 0
 Moments = List (Moment × ℕ)
 
--- a moment is among them
+-- a moment is one of them
 abbrev pub IsAmong : Moments → Moment → Type 0
 IsAmong due k = IsSome (lookup (is_at (by_moment k)) due)
 
--- the next start of a port is among them, or none would come
+-- the next start of a port is one of them, or there would be no start
 abbrev pub IsNoted : Moments → PortRecord → Type 0
 IsNoted due r = StartsNoMore r.port ⊎ ((t : Nanos) × StartsNext r.port t.0 × IsAmong due (t, r.link))
 
--- they are the next starts of these ports, and no others
+-- they are exactly the next starts of these ports
 pub record AreNextStarts (due : Moments) (ports : List PortRecord) : Type 0 where
   pub noted : (r : PortRecord) → Contains ports r → IsNoted due r
   pub only : (k : Moment) → IsAmong due k → (r : PortRecord) × Contains ports r × StartsNext r.port k.0.0 × (k.1 ≡ r.link)
@@ -45,7 +45,7 @@ NoneBefore end due = (k : Moment) → IsAmong due k → end ≤ k.0.0
 abbrev pub ports_of : List RunBridge → List PortRecord
 ports_of bridges = flat_map (λ (s : RunBridge). s.bridge.ports) bridges
 
--- the run has nothing for a bridge in a cycle, neither offers nor background frames
+-- the run has neither offers nor background frames for a bridge in a cycle
 pub record HasNothing (cycle : ℕ) (s : RunBridge) : Type 0 where
   pub no_offers : offers_listed_at s.agenda cycle ≡ []
   pub no_background : background_at s.agenda cycle ≡ []

@@ -4,6 +4,6 @@ pub mod Turns
 pub mod Driven
 pub mod Due
 pub mod SoFar
--- what the inner functions say
+-- contracts of the inner functions
 pub mod Faults
 pub mod Losing

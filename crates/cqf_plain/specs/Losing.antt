@@ -1,4 +1,4 @@
--- Which frame is lost inside.
+-- The frame that is lost inside.
 use Rattle.std.specs.Prelude.{ℕ, ◌≡◌, ◌<◌, Contains, List, Option, Some, None, length}
 use Rattle.cqf_model.specs.Network.{IsLoss, Network}
 use Rattle.cqf_model.specs.Run.{Run}
@@ -9,7 +9,7 @@ use Rattle.cqf_plain.specs.declared.faults.RunFault.TheVariants.{WrongTables, In
 use Rattle.cqf_plain.specs.Driven.{FirstLoseNothing}
 use Rattle.cqf_plain.specs.Run.{IsFirstLoss}
 
--- the frame of this number is the first that is lost among some, or where there is no number none is
+-- the frame of this number is the first one that is lost among some; without a number, none is lost
 pub record IsFirstLost (policed : List Policed) (frame : ℕ) : Type 0 where
   pub x : Policed
   pub first : IsFirstLoss policed x
@@ -39,7 +39,7 @@ pub record IsLostAmong (run : Run) (net : Network) (cycle frame : ℕ) : Type 0 
   pub lost : IsLostAt run net cycle bridge frame
   pub none_lower : FirstLoseNothing run net cycle bridge
 
--- why the bridges don't all receive it
+-- why not all bridges receive it
 abbrev pub IsFaultInCycle : Run → Network → ℕ → RunFault → Type 0
 IsFaultInCycle run net cycle WrongTables = ⊥
 IsFaultInCycle run net cycle (Inside frame) = IsLostAmong run net cycle frame

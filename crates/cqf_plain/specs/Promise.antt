@@ -17,11 +17,11 @@ pub record AreOfHistory (d : Domain) (tables : List CycleTable) (entries : List 
   pub sealed : length tables ≤ seals entries
   pub rows : map (λ (t : CycleTable). t.rows) tables ≡ tables_of d entries (length tables)
 
--- under the tables of one legal history, the book of a run keeps all that is promised of it and of its network
+-- under the tables of one legal history, the book of a run keeps all promises for it and its network
 abbrev pub KeepsItOfHistory : Domain → List CycleTable → List Offer → List Background → Contents → Type 0
 KeepsItOfHistory d tables offers background book = (entries : List Recorded) → AreOfHistory d tables entries →
     KeepsThePromise (run_of d tables offers background) book
 
--- and a run gives no book for want of memory alone
+-- and a run returns no book only if memory is refused
 abbrev pub WantsMemoryAlone : Domain → ℕ → List CycleTable → RunFault → Type 0
 WantsMemoryAlone d cycles tables fault = (entries : List Recorded) → AreOfHistory d tables entries → AreTablesNumbered cycles tables → fault ≡ Memory

@@ -1,4 +1,4 @@
--- A run of the network on one thread: what comes of it, and why it gives no book.
+-- A run of the network on one thread: its book, or why there is none.
 use Rattle.std.specs.Prelude.{ℕ, ◌≡◌, ◌<◌, Contains, List, length, map, slice_get, take, Some}
 use Rattle.cqf_model.specs.declared.frames.Background.{Background}
 use Rattle.cqf_model.specs.declared.frames.Offer.{Offer}
@@ -55,14 +55,14 @@ pub record LosesInside (run : Run) (frame : ℕ) : Type 0 where
   pub first : IsLostFirst run net.carried bridge policed
   pub is_frame : policed.received.frame ≡ frame
 
--- the book of the run, where its network loses nothing inside
+-- the book of the run, if its network loses nothing inside
 pub record IsBookOfRun (run : Run) (book : Contents) : Type 0 where
   pub is_book : IsOneThreadBook run book
   pub only : (other : Contents) → IsOneThreadBook run other → other ≡ book
   pub loses_nothing : LosesNothingInside run
 
--- why a run gives no book: each cause is the first that fits, and the frame the first that is
--- lost. Memory may be wanted before a frame that is lost inside is met
+-- why a run returns no book: each cause is the first that applies, and the frame is the first one that is lost. But memory may be refused
+-- before a lost frame is reached
 abbrev pub IsRunFault : Run → ℕ → List CycleTable → RunFault → Type 0
 IsRunFault run cycles tables WrongTables = ¬ AreTablesNumbered cycles tables
 IsRunFault run cycles tables (Inside frame) = AreTablesNumbered cycles tables × LosesInside run frame

@@ -20,19 +20,19 @@ use Rattle.cqf_plain.specs.Due.{AreNextStarts, Moments, NoneBefore, NothingComes
 use Rattle.cqf_plain.specs.Run.{LosesInside}
 use Rattle.cqf_plain.specs.Turns.{EachIs}
 
--- what a run has come to: its bridges, by number, when their ports start next, and its book so far
+-- the state of a run: its bridges, by number, the next starts of their ports, and its book so far
 pub record SoFarState : Type 0 where
   pub bridges : List RunBridge
   pub due : Moments
   pub book : Contents
 
--- a run of which nothing has happened
+-- a run in which nothing has happened
 pub record IsNewRun (d : Domain) (offers : List Offer) (background : List Background) (c : SoFarState) : Type 0 where
   pub bridges : EachIs (IsNewlyDriven d offers background) (length d.bridges) c.bridges
   pub due : AreNextStarts c.due (ports_of c.bridges)
   pub book : c.book ≡ record { starts = []; background = []; drops = [] }
 
--- what the network sends in a cycle is listed behind what was: streams' frames and background frames, each by link
+-- what the network sends in a cycle is appended: streams' frames and background frames, each by link
 pub record ListsCycle (run : Run) (net : Network) (cycle : ℕ) (before after : Contents) : Type 0 where
   pub starts : after.starts ≡ before.starts ++ each_below (starts_in run.domain net.carried cycle) (length run.domain.links)
   pub background : after.background ≡ before.background ++ each_below (background_in run.domain net.backed cycle) (length run.domain.links)
@@ -51,8 +51,8 @@ drops_before run net cycle = each_below (λ c. drops_of_first run net c (length 
 abbrev pub NoneLostBefore : Run → Network → ℕ → Type 0
 NoneLostBefore run net cycle = (bridge : ℕ) (policed : Policed) → ¬ IsLost run net.carried cycle bridge policed
 
--- the run is at the beginning of a cycle: its bridges stand there, their ports' next starts are known, the book says what the network
--- did before it, and nothing was lost
+-- the run is at the beginning of a cycle: so are its bridges, their ports' next starts are known, the book has what the network did before
+-- the cycle, and nothing was lost
 pub record IsAt (run : Run) (net : Network) (cycle : ℕ) (c : SoFarState) : Type 0 where
   pub stand : AllStandBefore run net cycle c.bridges
   pub due : AreNextStarts c.due (ports_of c.bridges)
@@ -61,19 +61,19 @@ pub record IsAt (run : Run) (net : Network) (cycle : ℕ) (c : SoFarState) : Typ
   pub drops : c.book.drops ≡ drops_before run net cycle
   pub none_lost : NoneLostBefore run net cycle
 
--- it is, and may go on by the cycle's table
+-- the run is at the beginning of the cycle of a table, and may go on by the table
 pub record RunMayGoOn (d : Domain) (table : CycleTable) (c : SoFarState) (run : Run) (net : Network) : Type 0 where
   pub domain : run.domain ≡ d
   pub of_run : IsCycleOf run net table.cycle
   pub table_is : IsTableOf run table
   pub at : IsAt run net table.cycle c
 
--- nothing happens in a cycle: no port starts a frame before its end, and nothing comes in it
+-- nothing happens in a cycle: no port starts a frame before its end, and there are no offers and no background frames in it
 pub record IsQuietCycle (d : Domain) (cycle : ℕ) (c : SoFarState) : Type 0 where
   pub none_start : NoneBefore (end_of_cycle d cycle) c.due
   pub none_come : NothingComes cycle c.bridges
 
--- why a run doesn't go on: a frame is lost inside, or a growth was refused
+-- why a run doesn't go on: a frame is lost inside, or an allocation failed
 abbrev pub StopsRun : Run → RunFault → Type 0
 StopsRun run WrongTables = ⊥
 StopsRun run (Inside frame) = LosesInside run frame

@@ -9,16 +9,16 @@ use cqf_model::{Background, Offer};
 use cqf_units::Memory;
 use std::alloc::Global;
 
-/// A bridge, with what the run has for it and what has come to it.
+/// A bridge, with the run's input for it and the batches that have arrived at it.
 #[derive(Debug, Drop)]
 pub(crate) struct RunBridge {
     pub(crate) bridge: Bridge,
     pub(crate) agenda: Agenda,
-    /// The batches of its cycle that have come by the links that end in it, by number of link.
+    /// The batches of its cycle that have arrived by the links that end in it, by link number.
     pub(crate) inbox: Vec<Batch>,
 }
 
-/// A bridge of the plan that has done nothing.
+/// Returns a bridge of the plan that has done nothing.
 fn new_driven(
     alloc: Global,
     plan: &Plan,
@@ -38,7 +38,7 @@ fn new_driven(
     })
 }
 
-/// The bridges of the plan, which have done nothing, by number.
+/// Returns the bridges of the plan, which have done nothing, by number.
 pub(crate) fn new_bridges(
     alloc: Global,
     plan: &Plan,

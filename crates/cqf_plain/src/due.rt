@@ -1,4 +1,4 @@
-//! When the ports of the bridges start next, in order.
+//! The next starts of the bridges' ports, in order.
 ghost use Rattle.std.specs.Prelude.{◌≡◌, ◌++◌, ◌∷◌, [], IfOk, List, OnOk, true};
 ghost use Rattle.cqf_bridge.specs.PortRecord.{PortRecord};
 ghost use Rattle.cqf_bridge.specs.Quiet.{IsNextStartOf};
@@ -10,7 +10,7 @@ use cqf_units::{Memory, Nanos};
 use std::alloc::Global;
 use std::collections::BTreeMap;
 
-/// Notes a next start, where there is one, with the number of its bridge.
+/// Records a next start, if there is one, with the number of its bridge.
 fn note(
     next: Option<(Nanos, u16)>,
     bridge: u16,
@@ -28,7 +28,7 @@ fn note(
     }
 }
 
-/// Notes when each port of a bridge starts next: by instant, then link, with the bridge's number.
+/// Records the next start of each port of a bridge: by instant, then link, with the bridge's number.
 fn note_starts(bridge: &Bridge, due: &mut BTreeMap<(Nanos, u16), u16>) -> Result<(), Memory>
     ensures { OnOk result ((ports : List PortRecord) → AreNextStarts due.old.entries ports → AreNextStarts due.new.entries (ports ++ bridge.now.ports)) }
 {
@@ -38,7 +38,7 @@ fn note_starts(bridge: &Bridge, due: &mut BTreeMap<(Nanos, u16), u16>) -> Result
     Ok(())
 }
 
-/// When each port of the bridges starts next, if nothing more comes to it: by instant, then link, with the bridge's number.
+/// Returns the next start of each port of the bridges, if nothing more arrives at it: by instant, then link, with the bridge's number.
 pub(crate) fn next_starts(
     alloc: Global,
     bridges: &[RunBridge],
@@ -52,7 +52,7 @@ pub(crate) fn next_starts(
     Ok(due)
 }
 
-/// Whether no port starts a frame before an instant: the least of their next starts isn't before it.
+/// Returns whether no port starts a frame before an instant: the least of the next starts isn't before it.
 pub(crate) fn none_before(due: &BTreeMap<(Nanos, u16), u16>, end: Nanos) -> bool
     ensures { result ≡ true → NoneBefore end.0 due.now.entries }
 {

@@ -1,4 +1,4 @@
-//! Why a run gives no book.
+//! Why a run returns no book.
 ghost use Rattle.std.specs.Prelude.{◌≡◌, Some};
 ghost use Rattle.cqf_plain.specs.Faults.{text_of_run_fault};
 
@@ -6,17 +6,17 @@ use cqf_units::Memory;
 use std::fmt;
 use thiserror::Error;
 
-/// Why a run gives no book: the first of these that fits, in the order in which they stand here. It prints as its
-/// name, and the frame's number.
+/// Why a run returns no book: the first of these that applies, in this order. But `Memory` may also be returned before a lost frame is
+/// reached. A fault prints as its name, followed by the frame's number if it has one.
 #[derive(Clone, Copy, Debug, PartialEq, Eq, Drop, Error)]
 pub enum RunFault {
-    /// There isn't one table for each cycle, numbered from 0.
+    /// There isn't exactly one table for each cycle, numbered from 0.
     WrongTables,
-    /// This frame came to a bridge by a link, and its stream has no row there by which it goes on, or its stream's gate has
-    /// fewer octets left. It is the first such frame of the run: by cycle, then by bridge, then in the order in which the bridge
-    /// takes frames. With the tables of one history it never comes.
+    /// The frame of this number arrived at a bridge by a link, and its stream has no row there by which it goes on, or its stream's gate
+    /// has fewer octets left. It is the first such frame of the run: by cycle, then by bridge, then in the order in which the bridge takes
+    /// frames. This never happens with the tables of one history.
     Inside(u32),
-    /// A growth was refused.
+    /// An allocation failed.
     Memory,
 }
 
@@ -32,7 +32,7 @@ impl fmt::Display for RunFault {
     }
 }
 
-/// Want of memory, as a fault.
+/// A failed allocation as a fault.
 impl From<Memory> for RunFault {
     ghost use Rattle.cqf_plain.specs.declared.faults.RunFault.TheVariants as variant;
 

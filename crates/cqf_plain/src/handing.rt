@@ -17,7 +17,7 @@ use cqf_topology::Domain;
 use cqf_units::Memory;
 use std::alloc::Global;
 
-/// The bridge in which a link ends, where the domain has the link and it does end in one.
+/// Returns the bridge in which a link ends, if the domain has the link and it ends in one.
 fn bridge_at_end(domain: &Domain, link: u16) -> Option<u16>
     ensures some { IfSome result (λ bridge. (enters domain.now link bridge ≡ true) × (bridge < length domain.now.bridges)) }
     ensures only { IfSome result (λ bridge. (other : ℕ) → enters domain.now link other ≡ true → other ≡ bridge) }
@@ -33,7 +33,7 @@ fn bridge_at_end(domain: &Domain, link: u16) -> Option<u16>
     }
 }
 
-/// Hands out batches: each goes to the bridge in which its link ends, where it does end in one, behind those that came there.
+/// Hands out batches: each is appended to those at the bridge in which its link ends, if it ends in one.
 fn hand_out(
     domain: &Domain,
     batches: Vec<Batch>,
@@ -50,7 +50,7 @@ fn hand_out(
     Ok(())
 }
 
-/// Brings batches into order of link, those of one link as they stood.
+/// Sorts batches by link, keeping the order of those of one link.
 fn sort_batches(batches: &mut Vec<Batch>) -> Result<(), Memory>
     ensures { OnOk result (IsInOrderOf (λ (x : LinkBatch). x.link) batches.old.items batches.new.items) }
 {
@@ -58,7 +58,7 @@ fn sort_batches(batches: &mut Vec<Batch>) -> Result<(), Memory>
     Ok(())
 }
 
-/// Brings starts into order of link, those of one link as they stood.
+/// Sorts starts by link, keeping the order of those of one link.
 fn sort_by_link(starts: &mut Vec<Started>) -> Result<(), Memory>
     ensures { OnOk result (IsInOrderOf (λ (x : AStarted). x.link) starts.old.items starts.new.items) }
 {
@@ -66,7 +66,7 @@ fn sort_by_link(starts: &mut Vec<Started>) -> Result<(), Memory>
     Ok(())
 }
 
-/// Lists the background frames that the bridges started in the cycle that they have sent, by link.
+/// Appends the background frames that the bridges started in the cycle that they sent last, by link.
 fn list_background(
     alloc: Global,
     bridges: &[RunBridge],
@@ -83,8 +83,8 @@ fn list_background(
     Ok(())
 }
 
-/// What the bridges have sent in a cycle, bridge by bridge, goes into the book, by link, and along each link to the bridge in which
-/// the link ends.
+/// Puts what the bridges have sent in a cycle, bridge by bridge, into the book, by link, and hands it along each link to the bridge in
+/// which the link ends.
 pub(crate) fn pass_on(
     alloc: Global,
     domain: &Domain,

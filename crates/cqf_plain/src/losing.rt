@@ -1,4 +1,4 @@
-//! Which frame is lost inside, where a bridge doesn't take what came to it.
+//! Finds the frame that is lost inside, if a bridge doesn't take what arrived at it.
 ghost use Rattle.std.specs.Prelude.{◌≡◌, ◌++◌, ◌∷◌, ◌<◌, ℕ, [], Contains, List, IfOk, OnOk, false, map, true};
 ghost use Rattle.cqf_model.specs.declared.topology.Row.{Row as ARow};
 ghost use Rattle.cqf_model.specs.Domain.{cycle_of};
@@ -27,7 +27,7 @@ use cqf_topology::Domain;
 use cqf_units::Memory;
 use std::alloc::Global;
 
-/// Puts the frames of a batch behind others, in order of start.
+/// Appends the frames of a batch, in order of start.
 fn gather_batch(domain: &Domain, batch: &Batch, frames: &mut Vec<Incoming>) -> Result<(), Memory>
     requires { CanGather domain.now batch.now }
     ensures { OnOk result (map received_as frames.new.items
@@ -39,7 +39,7 @@ fn gather_batch(domain: &Domain, batch: &Batch, frames: &mut Vec<Incoming>) -> R
     Ok(())
 }
 
-/// The frames of batches and the offers, in the order in which a bridge takes them.
+/// Returns the frames of batches and the offers, in the order in which a bridge takes them.
 fn in_order(
     alloc: Global,
     domain: &Domain,
@@ -58,7 +58,7 @@ fn in_order(
     Ok(frames)
 }
 
-/// Whether a frame is lost, behind those that the gates have counted.
+/// Returns whether a frame is lost, after the frames that the gates have counted.
 fn is_lost(
     domain: &Domain,
     number: u16,
@@ -86,7 +86,8 @@ fn is_lost(
     }
 }
 
-/// The number of the first frame that is lost among those of a cycle at a bridge, which stand in the order in which they are taken.
+/// Returns the number of the first lost frame among those of a cycle at a bridge. The frames are in the order in which the bridge takes
+/// them.
 fn lost_among(
     alloc: Global,
     domain: &Domain,
@@ -107,8 +108,8 @@ fn lost_among(
     Ok(None)
 }
 
-/// The number of the first frame, in the order in which they are taken, that is lost at a bridge in the cycle of a table, of those
-/// that have come to it and are offered there; none where all go on or are dropped.
+/// Returns the number of the first frame, in the order in which frames are taken, that is lost at a bridge in the cycle of a table, among
+/// those that have arrived at it or are offered there. Returns `None` if all go on or are dropped.
 pub(crate) fn first_lost(
     alloc: Global,
     driven: &RunBridge,

@@ -7,7 +7,7 @@ ghost use Rattle.cqf_plain.specs.Due.{HasNothing, NothingComes, driven_past};
 use crate::driven::RunBridge;
 use cqf_units::{Cycle, Memory};
 
-/// Whether the run has nothing for a bridge in a cycle: neither offers nor background frames.
+/// Returns whether the run has neither offers nor background frames for a bridge in a cycle.
 fn has_nothing(driven: &RunBridge, cycle: Cycle) -> bool
     ensures { result ≡ true → HasNothing cycle.0 driven.now }
 {
@@ -19,7 +19,7 @@ fn has_nothing(driven: &RunBridge, cycle: Cycle) -> bool
     background.is_empty()
 }
 
-/// Whether the run has nothing for any bridge in a cycle.
+/// Returns whether the run has neither offers nor background frames for any bridge in a cycle.
 pub(crate) fn nothing_comes(bridges: &[RunBridge], cycle: Cycle) -> bool
     ensures { result ≡ true → NothingComes cycle.0 bridges.now }
 {
@@ -31,7 +31,7 @@ pub(crate) fn nothing_comes(bridges: &[RunBridge], cycle: Cycle) -> bool
     true
 }
 
-/// A bridge passes over a cycle.
+/// Passes over a cycle at a bridge.
 fn pass_one(driven: &mut RunBridge, cycle: Cycle) -> Result<(), Memory>
     requires { MayPass driven.old.bridge cycle.0 }
     ensures { OnOk result (driven.new ≡ driven_past cycle.0 driven.old) }
@@ -40,7 +40,7 @@ fn pass_one(driven: &mut RunBridge, cycle: Cycle) -> Result<(), Memory>
     Ok(())
 }
 
-/// All bridges pass over a cycle.
+/// Passes over a cycle at all bridges.
 pub(crate) fn pass_all(bridges: &mut Vec<RunBridge>, cycle: Cycle) -> Result<(), Memory>
     requires { (s : ARunBridge) → Contains bridges.old.items s → MayPass s.bridge cycle.0 }
     ensures { OnOk result (bridges.new.items ≡ map (driven_past cycle.0) bridges.old.items) }

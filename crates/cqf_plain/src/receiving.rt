@@ -17,7 +17,7 @@ use cqf_model::Dropped;
 use cqf_units::Memory;
 use std::alloc::Global;
 
-/// Why a bridge didn't take what came to it in the cycle of a table, where that wasn't for want of memory: a frame is lost.
+/// Returns why a bridge didn't take what arrived at it in the cycle of a table, if memory wasn't the reason: a frame is lost.
 fn why_lost(alloc: Global, driven: &RunBridge, table: &Table) -> RunFault
     requires early { table.now.cycle < most_cycles }
     requires part { (run : Run) × (net : Network) × (bridge : ℕ) × IsCycleOf run net table.now.cycle × IsTableOf run table.now
@@ -32,7 +32,7 @@ fn why_lost(alloc: Global, driven: &RunBridge, table: &Table) -> RunFault
     }
 }
 
-/// A bridge receives the cycle of a table, with what has come to it and is offered there. The drops come by frame.
+/// Receives the cycle of a table at a bridge, with what has arrived at it and is offered there. Returns the drops, by frame.
 fn receive_one(
     alloc: Global,
     driven: &mut RunBridge,
@@ -67,8 +67,8 @@ fn receive_one(
     }
 }
 
-/// All bridges receive the cycle of a table, in order of number, each with what has come to it and is offered there. The drops go
-/// behind those that are listed.
+/// Receives the cycle of a table at all bridges, in order of number, each with what has arrived at it and is offered there. The drops are
+/// appended.
 pub(crate) fn receive_all(
     alloc: Global,
     bridges: &mut Vec<RunBridge>,

@@ -22,7 +22,7 @@ use cqf_model::{Background, Book, Offer};
 use cqf_topology::Domain;
 use std::alloc::Global;
 
-/// The run goes on by all cycles, each by its table.
+/// Runs all cycles, each by its table.
 fn go_all(
     alloc: Global,
     domain: &Domain,
@@ -46,7 +46,7 @@ fn go_all(
     Ok(())
 }
 
-/// Runs the network of a plan by tables of which there is one for each cycle.
+/// Runs the network of a plan with one table for each cycle.
 fn run_numbered(
     alloc: Global,
     plan: &Plan,
@@ -76,15 +76,16 @@ fn run_numbered(
     }
 }
 
-/// Runs the network of a plan for so many cycles, from cycle 0 on, each by its table: its book is the only one that the compiled
-/// gate lists allow for what is offered and the background frames (IEEE 802.1Q, Annex T and 8.6.8; tables, offers and books:
-/// profile).
+/// Runs the network of a plan for `cycles` cycles, from cycle 0 on, each by its table. Returns the run's book, the only one that the
+/// compiled gate lists allow for these offers and background frames (IEEE 802.1Q, Annex T and 8.6.8; tables, offers and books are this
+/// project's own).
 ///
-/// `cycles` is at most 100,000; there are at most 16,777,215 offers, each at a bridge of the domain, and 16,777,215 background
-/// frames, each on a link of it. `WrongTables` where there isn't one table for each cycle, numbered from 0; `Inside` with the first
-/// frame that the network loses inside, by cycle, then bridge, then the order in which the bridge takes frames, which never comes
-/// with the tables of one history; `Memory` where a growth is refused, which may be before a frame that is lost is met. With the
-/// tables of one history the book says the shift, and loads, instants and latencies are as promised.
+/// `cycles` is at most 100,000. There are at most 16,777,215 offers, each at a bridge of the domain, and 16,777,215 background frames, each
+/// on a link of it. With the tables of one history the book says the shift, and loads, instants and latencies are as promised.
+///
+/// Returns `WrongTables` if there isn't exactly one table for each cycle, numbered from 0. Returns `Inside` with the first frame that the
+/// network loses inside, by cycle, then bridge, then the order in which the bridge takes frames; this never happens with the tables of one
+/// history. Returns `Memory` if an allocation fails, which may be before a lost frame is reached.
 pub fn run(
     alloc: Global,
     plan: &Plan,

@@ -11,7 +11,7 @@ use cqf_bridge::{Batch, BridgeFault, new_bridge_follows, no_other_fault, sending
 use cqf_units::{Cycle, Memory};
 use std::alloc::{AllocError, Global};
 
-/// A bridge sends a cycle: its batches go behind those of the bridges before it, by number of link.
+/// Sends a cycle at a bridge. Its batches are appended to those of the bridges before it, by link number.
 fn send_one(
     alloc: Global,
     driven: &mut RunBridge,
@@ -38,7 +38,7 @@ fn send_one(
     }
 }
 
-/// All bridges send a cycle. The batches are what they have sent, bridge by bridge, each bridge's by number of link.
+/// Sends a cycle at all bridges. Returns their batches, bridge by bridge, each bridge's by link number.
 pub(crate) fn send_all(
     alloc: Global,
     bridges: &mut Vec<RunBridge>,

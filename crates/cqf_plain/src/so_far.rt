@@ -25,12 +25,12 @@ use std::alloc::Global;
 use std::collections::BTreeMap;
 use std::marker::Model;
 
-/// What a run has come to: its bridges, when their ports start next, and its book so far.
+/// The state of a run: its bridges, the next starts of their ports, and its book so far.
 #[derive(Debug, Drop)]
 pub(crate) struct RunSoFar {
-    /// By number.
+    /// The bridges by number.
     bridges: Vec<RunBridge>,
-    /// By instant, then link: the number of the bridge whose port starts a frame on the link then, if nothing more comes to it.
+    /// By instant, then link: the number of the bridge whose port starts a frame on the link then, if nothing more arrives at it.
     due: BTreeMap<(Nanos, u16), u16>,
     book: Book,
 }
@@ -45,7 +45,7 @@ impl Model for RunSoFar {
 }
 
 impl RunSoFar {
-    /// A run over a plan that hasn't begun.
+    /// Returns a run over a plan that hasn't begun.
     pub(crate) fn new(
         alloc: Global,
         plan: &Plan,
@@ -69,7 +69,7 @@ impl RunSoFar {
         })
     }
 
-    /// The bridges send the cycle of a table, and it goes along the links.
+    /// Sends the cycle of a table at all bridges, and hands it along the links.
     fn send(&mut self, alloc: Global, domain: &Domain, table: &Table) -> Result<(), Memory>
         requires early { table.now.cycle < most_cycles }
         requires part { (run : Run) × (net : Network) × RunMayGoOn domain.now table.now self.old run net }
@@ -81,7 +81,8 @@ impl RunSoFar {
         Ok(())
     }
 
-    /// Whether nothing happens in a cycle: the least of the ports' next starts isn't before its end, and nothing comes in it.
+    /// Returns whether nothing happens in a cycle: the least of the ports' next starts isn't before its end, and there are no offers and no
+    /// background frames in it.
     fn is_quiet(&self, domain: &Domain, cycle: Cycle) -> bool
         requires { cycle.0 < most_cycles }
         ensures { result ≡ true → IsQuietCycle domain.now cycle.0 self.now }
@@ -93,7 +94,7 @@ impl RunSoFar {
         nothing_comes(self.bridges.as_slice(), cycle)
     }
 
-    /// The run passes over the cycle of a table, in which nothing happens.
+    /// Passes over the cycle of a table, in which nothing happens.
     fn pass(&mut self, domain: &Domain, table: &Table) -> Result<(), Memory>
         requires early { table.now.cycle < most_cycles }
         requires part { (run : Run) × (net : Network) × RunMayGoOn domain.now table.now self.old run net }
@@ -112,7 +113,7 @@ impl RunSoFar {
         Ok(())
     }
 
-    /// The run goes on by the cycle of a table: the bridges send it, it goes along the links, and they receive it.
+    /// Runs the cycle of a table: the bridges send it, it goes along the links, and they receive it.
     fn work(&mut self, alloc: Global, domain: &Domain, table: &Table) -> Result<(), RunFault>
         requires early { table.now.cycle < most_cycles }
         requires part { (run : Run) × (net : Network) × RunMayGoOn domain.now table.now self.old run net }
@@ -131,7 +132,7 @@ impl RunSoFar {
         Ok(())
     }
 
-    /// The run goes on by the cycle of a table. It passes over the cycle where nothing happens in it.
+    /// Runs the cycle of a table, or passes over it if nothing happens in it.
     pub(crate) fn go_on(
         &mut self,
         alloc: Global,
@@ -154,7 +155,7 @@ impl RunSoFar {
         }
     }
 
-    /// The book of what was run.
+    /// Returns the book of what was run.
     pub(crate) fn into_book(self) -> Book
         ensures { contents_of result ≡ self.book }
     {

@@ -1,4 +1,4 @@
--- How a bridge's links go on: from what they have sent so far to what they have sent then.
+-- How a bridge's links go on: from what they have sent so far to what they have sent afterwards.
 use Rattle.std.proofs.Common.{◌≡◌, ℕ, zero, suc, ◌+◌, ◌-◌, ◌<◌, ◌≤◌, Bool, true, false, cond, List, length, map, filter, take, min, inl, inr, refl, sym}
 use Rattle.std.proofs.Common.{ap, ap₂, ◌∙◌, subst, arith, Contains, All, AllPairs, append_assoc, append-nil, get_or, set}
 use Rattle.std.specs.Prelude.{[], ◌∷◌, ◌++◌, ◌==◌, ◌&&◌, ◌⊎◌, Option, Some, None, slice_get, slice_set, if◌then◌else◌}
@@ -53,22 +53,22 @@ use Rattle.cqf_relay.specs.Standing.{IsSameButLinks, IsWithin, LetsGo, MayReach,
 use Rattle.cqf_relay.specs.Standing.{links_from, links_into, that_go_on, told_by, wire_on, wire_out}
 use Rattle.cqf_relay.proofs.Tidy.{tidy_sends}
 
--- what a link sent in a cycle is the same with one cycle more behind
+-- what a link sent in a cycle stays the same when one more cycle is appended
 pub batch_before : (sends : List (List Sent)) (sents : List Sent) (cycle : ℕ) → cycle < length sends → batch_at (sends ++ sents ∷ []) cycle ≡ batch_at sends cycle
 batch_before sends sents cycle less = get_or_append_left sends (sents ∷ []) [] cycle less
 
--- and the one cycle more has what was sent in it
+-- and the appended cycle has what was sent in it
 pub batch_behind : (sends : List (List Sent)) (sents : List Sent) (cycle : ℕ) → cycle ≡ length sends → batch_at (sends ++ sents ∷ []) cycle ≡ sents
 batch_behind sends sents cycle e = get_or_push sends sents [] cycle (sym e)
 
--- within 256 cycles of the first one a frame on its way counts its cycle as it is
+-- within 256 cycles of the first one, the cycle count of a frame on its way is exact
 pub moving_same : (d : Domain) (l first cycle : ℕ) (sent : Sent) → cycle < first + 256 →
     moving_on (wire_on d l) first cycle sent ≡ moving_in d l first cycle sent
 moving_same d l first cycle sent near =
     let e : min (cycle - first) 65535 ≡ cycle - first = omega arith in
     ap (with_after (moving_in d l first cycle sent)) e
 
--- so do all that a cycle sends, if it sends any
+-- and so it is for all frames that a cycle sends, if it sends any
 pub all_moving_same : (d : Domain) (l first cycle : ℕ) (sents : List Sent) → ((sents ≡ [] → ⊥) → cycle < first + 256) →
     map (moving_on (wire_on d l) first cycle) sents ≡ map (moving_in d l first cycle) sents
 all_moving_same d l first cycle [] near = refl
@@ -89,7 +89,7 @@ moving_more d l base told sends sents far =
     (λ k less. ap (map (moving_in d l base (told + k))) (batch_before sends sents (told + k) (omega (arith, less)))))
     (ap (of_cycle (sends ++ sents ∷ [])) last ∙ ap (map (moving_in d l base (length sends))) (batch_behind sends sents (length sends) refl))
 
--- where nothing is on its way nothing was sent
+-- if nothing is on its way, nothing was sent
 pub none_moving : (d : Domain) (l base told : ℕ) (sends : List (List Sent)) (upto : ℕ) → moving_between d l sends base told upto ≡ [] → (cycle : ℕ) →
     told ≤ cycle → cycle < upto → batch_at sends cycle ≡ []
 none_moving d l base told sends upto none cycle from below = by_batch (batch_at sends cycle) refl
@@ -110,7 +110,7 @@ none_moving d l base told sends upto none cycle from below = by_batch (batch_at 
         contains_below (λ k. map (moving_in d l base (told + k)) (batch_at sends (told + k))) (upto - told) (cycle - told) moving inside here in
         absurd (contains_none moving (subst (λ (ms : List Moving). Contains ms moving) none all))
 
--- and where nothing was sent nothing is on its way
+-- and if nothing was sent, nothing is on its way
 pub moving_none : (d : Domain) (l base told : ℕ) (sends : List (List Sent)) (upto : ℕ) →
     ((cycle : ℕ) → told ≤ cycle → cycle < upto → batch_at sends cycle ≡ []) → moving_between d l sends base told upto ≡ []
 moving_none d l base told sends upto none =
@@ -126,13 +126,13 @@ some_moving d l base told sends upto moving c =
     let s = contains_from_map (moving_in d l base (told + w.0)) (batch_at sends (told + w.0)) moving w.2 in
     (told + w.0, omega arith, omega (arith, w.1), λ e. contains_none s.0 (subst (λ (b : List Sent). Contains b s.0) e s.1))
 
--- what a link has sent up to its last cycle and hasn't handed on is pending, of fewer than 256 cycles
+-- what a link has sent up to its last cycle and hasn't handed on is pending, within 256 cycles
 pub record IsPending (d : Domain) (l : ℕ) (sends : List (List Sent)) (told sent base : ℕ) (frames : List Moving) : Type 0 where
   pub is : frames ≡ moving_between d l sends base told sent
   pub near : (cycle : ℕ) → told ≤ cycle → cycle < sent → (batch_at sends cycle ≡ [] → ⊥) → (base ≤ cycle) × (cycle < base + 256)
 
 module _ (d : Domain) (l told : ℕ) (sends : List (List Sent)) (sents : List Sent) (far : told ≤ length sends) where
-  -- it is so with one cycle more where it counts from a cycle that is near to this too
+  -- this holds with one more cycle if the first counted cycle is near this one too
   pending_by : (base : ℕ) (frames after : List Moving) → IsPending d l sends told (length sends) base frames →
       ((sents ≡ [] → ⊥) → (base ≤ length sends) × (length sends < base + 256)) →
       after ≡ frames ++ map (moving_on (wire_on d l) base (length sends)) sents →
@@ -150,7 +150,7 @@ module _ (d : Domain) (l told : ℕ) (sends : List (List Sent)) (sents : List Se
     ];
   }
 
-  -- where nothing is pending it is so from whatever cycle on
+  -- if nothing is pending, it holds from any cycle on
   pending_none : (base other : ℕ) → IsPending d l sends told (length sends) base [] → IsPending d l sends told (length sends) other []
   pending_none base other p =
       let none = none_moving d l base told sends (length sends) (sym p.is) in
@@ -159,14 +159,14 @@ module _ (d : Domain) (l told : ℕ) (sends : List (List Sent)) (sents : List Se
         near = λ cycle from below some. absurd (some (none cycle from below));
       }
 
-  -- where something is, the cycle from which it counts isn't behind those that were sent
+  -- if something is pending, the first counted cycle is one of those that were sent
   pending_some : (base : ℕ) (x : Moving) (xs : List Moving) → IsPending d l sends told (length sends) base (x ∷ xs) → base ≤ length sends
   pending_some base x xs p =
       let c : Contains (moving_between d l sends base told (length sends)) x = subst (λ (ms : List Moving). Contains ms x) p.is (contains_here x xs) in
       let w = some_moving d l base told sends (length sends) x c in
       omega (arith, (p.near w.0 w.1 w.2 w.3).0, w.2)
 
--- what is pending, with one cycle more that isn't too far
+-- what is pending, with one more cycle that isn't too far
 pub pending_more : (d : Domain) (l told : ℕ) (sends : List (List Sent)) (sents : List Sent) (base base_then : ℕ) (frames after : List Moving) →
     told ≤ length sends → IsPending d l sends told (length sends) base frames → length sends < most_behind frames (length sends) base →
     base_then ≡ base_with frames base (length sends) sents → after ≡ frames ++ map (moving_on (wire_on d l) base_then (length sends)) sents →
@@ -182,7 +182,7 @@ pending_more d l told sends (s ∷ ss) base base_then (x ∷ xs) after far p mos
     (subst (λ (b : ℕ). IsPending d l sends told (length sends) b (x ∷ xs)) (sym counts) p)
     (λ some. (omega (arith, counts, pending_some d l told sends (s ∷ ss) far base x xs p), omega (arith, counts, most))) more
 
--- with one cycle more a link may send no less far
+-- with one more cycle a link may send at least as far
 pub most_more : (frames : List Moving) (base sent : ℕ) (sents : List Sent) (as_moving : Sent → Moving) →
     most_behind frames sent base ≤ most_behind (frames ++ map as_moving sents) (sent + 1) (base_with frames base sent sents)
 most_more [] base sent [] as_moving = omega arith
@@ -190,7 +190,7 @@ most_more [] base sent (s ∷ ss) as_moving = omega arith
 most_more (x ∷ xs) base sent [] as_moving = omega arith
 most_more (x ∷ xs) base sent (s ∷ ss) as_moving = omega arith
 
--- nor where it hands on nothing
+-- and also if it hands on nothing
 pub most_later : (frames : List Moving) (base sent : ℕ) → most_behind frames sent base ≤ most_behind frames (sent + 1) base
 most_later [] base sent = omega arith
 most_later (x ∷ xs) base sent = omega arith
@@ -205,12 +205,12 @@ entering_link d m bridge e = by_link (slice_get d.links m) refl
     by_link None is =
         absurd (true≢false (sym e ∙ ap (λ (o : Option Link). option_map_or (λ (link : Link). node_is link.to bridge) o false) is))
 
--- one condition behind the other
+-- two conditions, one inside the other
 if_both : {X : Type 0} (a b : Bool) (xs : List X) → cond a (cond b xs []) [] ≡ cond (a && b) xs []
 if_both true b xs = refl
 if_both false b xs = refl
 
--- what one source brought in a cycle goes on as the rows say that the link knows
+-- what one source brought in a cycle goes on as the link's known rows say
 pub goes_as_rows_say : (known : List By) (rows : List Row) (l : ℕ) (by : By) (source cycle : ℕ) (frames cames : List ArrivedFrame) →
     ((number : ℕ) → by_at known number ≡ by_row l (row_of rows number)) → filter (is_in cycle) frames ≡ cames →
     goes_from known by source cycle frames ≡ that_go_on rows l by source cames
@@ -220,7 +220,7 @@ goes_as_rows_say known rows l by source cycle frames cames same held =
     (filter_alike (λ (came : ArrivedFrame). same_by (by_at known came.row) by) (λ (came : ArrivedFrame). same_by (by_row l (row_of rows came.row)) by) cames
     (λ came c. ap (λ (b : By). same_by b by) (same came.row)))
 
--- a link has gone on so many cycles: it stands so with more sent, knows the same rows, and may send as far still
+-- a link has gone on by this many cycles: its state holds with more sent, it knows the same rows, and it may still send as far
 pub record HasGone (d : Domain) (bridge : ℕ) (come : Come) (until : ℕ) (sends : List (List Sent)) (count : ℕ) (before after : Outlet) : Type 0 where
   pub rest : List (List Sent)
   pub is : IsOutletOf d bridge come (sends ++ rest) after
@@ -229,10 +229,10 @@ pub record HasGone (d : Domain) (bridge : ℕ) (come : Come) (until : ℕ) (send
   pub leads : after.leads ≡ before.leads
   pub link : after.tape.link ≡ before.tape.link
 
--- a bridge with what came to it, of which it has kept all from a cycle on
+-- a bridge at which this has arrived, and which has kept all from a cycle on
 module _ (d : Domain) (bridge : ℕ) (come : Come) (least : ℕ) (inlets : List Inlet) (edge : Edge) (into : map link_in inlets ≡ links_into d bridge)
     (are_inlets : All (IsInletOf come least) inlets) (is_edge : IsEdgeOf d bridge come least edge) where
-  -- what came by a link in a cycle and goes on by another, where a row leads there
+  -- what arrived by a link in a cycle and goes on by another one, if a row leads there
   abbrev brought_to : ℕ → ℕ → ℕ → List Queued
   brought_to l cycle m =
       if leads (all_rows come.tables) m l
@@ -240,7 +240,7 @@ module _ (d : Domain) (bridge : ℕ) (come : Come) (least : ℕ) (inlets : List 
       else []
 
   module _ (l cycle : ℕ) (known : Leads) (knows : KnowsRows l come.tables known) (kept : least ≤ cycle) where
-    -- what an inlet brought in a cycle, as the link's rows say
+    -- what an inlet brought in a cycle, by the link's rows
     brought_by_inlet : (inlet : Inlet) → Contains inlets inlet → queued_by known cycle inlet ≡ brought_to l cycle inlet.link
     brought_by_inlet inlet c =
         let is = All-contains (IsInletOf come least) inlets inlet are_inlets c in
@@ -260,14 +260,14 @@ module _ (d : Domain) (bridge : ℕ) (come : Come) (least : ℕ) (inlets : List 
         (λ m less. if_both (enters d m bridge) (leads (all_rows come.tables) m l)
         (that_go_on (all_rows come.tables) l (way.Link m) m (filter (is_in cycle) (come.brought m))))
 
-    -- and the edge: all that goes on by the link of what came in the cycle
+    -- and the edge: all that arrived in the cycle and goes on by the link
     pub queue_is : queue_of known inlets edge.log cycle ≡ comes_to d bridge come (all_rows come.tables) l cycle
     queue_is =
         ap₂ (λ (xs ys : List Queued). xs ++ ys) brought_by_inlets
         (goes_as_rows_say known.rows.items (all_rows come.tables) l way.Edge 4096 cycle edge.log.frames.items
         (map (came_of_going d cycle) (covered_in d bridge come cycle)) knows.rows (is_edge.holds cycle kept))
 
-  -- all that came stands by cycle
+  -- all that arrived is in order of cycle
   pub all_by_cycle : AreByCycle inlets edge.log
   all_by_cycle = record { links = λ k x inside. (are_inlets k x inside).held.by_cycle; offers = is_edge.held.by_cycle }
 
@@ -280,7 +280,7 @@ module _ (d : Domain) (bridge : ℕ) (come : Come) (least : ℕ) (inlets : List 
       contains_from_map link_in inlets m (subst (λ (ms : List ℕ). Contains ms m) (sym into) there)
 
   module _ (until : ℕ) (tables : until ≤ length come.tables + 1) where
-    -- what a link needs has come up to a cycle
+    -- what a link needs has arrived up to a cycle
     abbrev pub HasCome : Leads → Type 0
     HasCome known = All (λ (inlet : Inlet). list_any (λ it. it == inlet.link) known.needs.items ≡ true → until ≤ inlet.upto + 1) inlets
 
@@ -290,7 +290,7 @@ module _ (d : Domain) (bridge : ℕ) (come : Come) (least : ℕ) (inlets : List 
       abbrev sents : List Sent
       sents = sends_of before.wire before.sent 0 (map came_of goes.sorted)
 
-      -- what it needs has come
+      -- what it needs has arrived
       led_has_come : (m : ℕ) → enters d m bridge ≡ true → leads (all_rows come.tables) m before.tape.link ≡ true → before.sent ≤ come.upto m
       led_has_come m enter led =
           let w = inlet_there m enter in
@@ -300,7 +300,7 @@ module _ (d : Domain) (bridge : ℕ) (come : Come) (least : ℕ) (inlets : List 
           let upto = (All-contains (IsInletOf come least) inlets w.0 are_inlets w.1).upto ∙ ap come.upto w.2 in
           omega (arith, reached, upto, less)
 
-      -- what waited for it, behind the first cycle
+      -- what waited for it, after the first cycle
       waited : (cycle : ℕ) → before.sent ≡ cycle + 1 → IsPermutation (comes_to d bridge come (all_rows come.tables) before.tape.link cycle) goes.sorted
       waited cycle e =
           let next : before.sent ≡ suc cycle = omega (arith, e) in
@@ -345,7 +345,7 @@ module _ (d : Domain) (bridge : ℕ) (come : Come) (least : ℕ) (inlets : List 
         ];
       }
 
-      -- what is pending of it then
+      -- what is pending for it afterwards
       pends_further : until ≤ most_of before → before.wire.onward ≡ true →
           IsPending d before.tape.link (sends ++ sents ∷ []) before.told (length sends + 1) after.pending.base after.pending.frames.items
       pends_further most onward =
@@ -362,7 +362,7 @@ module _ (d : Domain) (bridge : ℕ) (come : Come) (least : ℕ) (inlets : List 
           (goes.adds.pends onward
           ∙ ap₂ (λ (wire : Wire) (n : ℕ). frames ++ map (moving_on wire after.pending.base n) sents) is.wire is.as_far)
 
-      -- it still has what is pending where it hands on
+      -- it still has what is pending if it hands on
       pends_as_it_is : until ≤ most_of before → after.wire.onward ≡ true →
           IsPending d after.tape.link (sends ++ sents ∷ []) after.told after.sent after.pending.base after.pending.frames.items
       pends_as_it_is most onward =
@@ -376,7 +376,7 @@ module _ (d : Domain) (bridge : ℕ) (come : Come) (least : ℕ) (inlets : List 
           (subst (λ (n : ℕ). IsPending d before.tape.link list n after.sent base frames) (sym goes.adds.told)
           (subst (λ (n : ℕ). IsPending d before.tape.link list before.told n base frames) as_far (pends_further most onward_before)))
 
-      -- the link stands so with the cycle more
+      -- the link's state holds with the additional cycle
       pub outlet_more : until ≤ most_of before → IsOutletOf d bridge come (sends ++ sents ∷ []) after
       outlet_more most =
           let same = goes.adds.same in
@@ -399,7 +399,7 @@ module _ (d : Domain) (bridge : ℕ) (come : Come) (least : ℕ) (inlets : List 
             gone = subst (λ (k : ℕ). HasGoneOnBy d bridge come k list) (sym same.link) gone_further;
           }
 
-      -- and may send no less far
+      -- and it may send at least as far
       pub most_further : until ≤ most_of before → until ≤ most_of after
       most_further most =
           let frames = before.pending.frames.items in
@@ -417,13 +417,13 @@ module _ (d : Domain) (bridge : ℕ) (come : Come) (least : ℕ) (inlets : List 
                 omega (arith, most, now, most_later frames base before.sent)
           ]
 
-    -- what was sent in a cycle more is behind what was sent behind the first cycles
+    -- what was sent in one more cycle follows what was sent after the first cycles
     sent_behind : (sends rest : List (List Sent)) (last : List Sent) (outlet : Outlet) → IsOutletOf d bridge come ((sends ++ rest) ++ last ∷ []) outlet →
         IsOutletOf d bridge come (sends ++ (rest ++ last ∷ [])) outlet
     sent_behind sends rest last outlet is =
         subst (λ (all : List (List Sent)). IsOutletOf d bridge come all outlet) (append_assoc sends rest (last ∷ [])) is
 
-    -- a link that goes on so many cycles stands so with what it sends in them
+    -- the state of a link that goes on by this many cycles holds with what it sends in them
     pub goes_on_far : (count : ℕ) (sends : List (List Sent)) (before after : Outlet) → IsOutletOf d bridge come sends before →
         SendsMore count inlets edge.log before after → count ≤ until - before.sent → least ≤ before.sent - 1 → HasCome before.leads →
         until ≤ most_of before → HasGone d bridge come until sends count before after
@@ -454,14 +454,14 @@ module _ (d : Domain) (bridge : ℕ) (come : Come) (least : ℕ) (inlets : List 
           link = goes.2.adds.same.link ∙ so_far.link;
         }
 
--- what stands at a place may be changed where nothing that is told of each element is changed with it
+-- replacing an element at an index doesn't change a map if the image of the element stays the same
 map_set_same : {X Y : Type 0} (f : X → Y) (xs : List X) (place : ℕ) (x y : X) → slice_get xs place ≡ Some x → f y ≡ f x → map f (set xs place y) ≡ map f xs
 map_set_same f [] place x y at same = refl
 map_set_same {X} {Y} f (z ∷ xs) zero x y at same =
     let e : z ≡ x = cc in ap (λ (w : Y). w ∷ map f xs) (same ∙ ap f (sym e))
 map_set_same {X} {Y} f (z ∷ xs) (suc place) x y at same = ap (λ (ws : List Y). f z ∷ ws) (map_set_same f xs place x y at same)
 
--- where elements ascend by their numbers, two places have two
+-- if elements ascend by their numbers, different indices have different numbers
 apart_by_number : {X : Type 0} (f : X → ℕ) (xs : List X) (i j : ℕ) (d : X) → AllPairs (λ (a b : ℕ). a < b) (map f xs) → i < length xs → j < length xs →
     (i ≡ j → ⊥) → f (get_or xs i d) ≡ f (get_or xs j d) → ⊥
 apart_by_number f xs i j d ascend i_inside j_inside apart same =
@@ -476,7 +476,7 @@ apart_by_number f xs i j d ascend i_inside j_inside apart same =
       ]
     ]
 
--- with one element changed, of a list in order of number, what is told of the others is told where it is of all with other numbers
+-- if one element of a list in order of number is replaced, a property of the others holds if it holds of all with other numbers
 all_but_one : {X : Type 0} (P Q : X → Type 0) (f : X → ℕ) (xs : List X) (place : ℕ) (x y : X) → AllPairs (λ (a b : ℕ). a < b) (map f xs) →
     slice_get xs place ≡ Some x → All P xs → ((z : X) → (f z ≡ f x → ⊥) → P z → Q z) → Q y → All Q (set xs place y)
 all_but_one P Q f xs place x y ascend at all others new k d inside =
@@ -492,7 +492,7 @@ all_but_one P Q f xs place x y ascend at all others new k d inside =
           (same ∙ ap f (sym (get_or_from_slice_get xs place x d at)))) (all k d k_inside))
     ]
 
--- what all links have sent, with more that one has
+-- what all links have sent, if one has sent more
 abbrev pub with_sent : Sendings → ℕ → List (List Sent) → Sendings
 with_sent sends l rest k = if k == l then sends k ++ rest else sends k
 
@@ -503,7 +503,7 @@ one_has_sent_more sends l rest k = elim (cases_Bool (k == l)) [
   | inr e ↦ ([], cond-false (k == l) (sends k ++ rest) (sends k) e ∙ sym (append-nil (sends k)))
 ]
 
--- and more behind more is more
+-- and having sent more is transitive
 pub more_behind_more : (sends between more : Sendings) → HaveSentMore sends between → HaveSentMore between more → HaveSentMore sends more
 more_behind_more sends between more first second l =
     let a = first l in
@@ -516,12 +516,12 @@ module _ (place : ℕ) (before after : Relay) (goes : SendsOn place before after
   abbrev link : ℕ
   link = goes.outlet.tape.link
 
-  -- how it stood
+  -- its state before
   stood : IsOutletOf d before.number come (sends link) goes.outlet
   stood = All-contains (λ (outlet : Outlet). IsOutletOf d before.number come (sends outlet.tape.link) outlet) before.outlets.items goes.outlet
       stands.outlets (contains_at before.outlets.items place goes.outlet goes.was)
 
-  -- how far it has gone
+  -- how far it has gone on
   gone_far : HasGone d before.number come goes.until (sends link) (goes.until - goes.outlet.sent) goes.outlet goes.gone
   gone_far =
       goes_on_far d before.number come stands.least before.inlets.items before.edge stands.into stands.inlets stands.edge goes.until
@@ -531,7 +531,7 @@ module _ (place : ℕ) (before after : Relay) (goes : SendsOn place before after
       (contains_at before.outlets.items place goes.outlet goes.was))
       (goes.might.needed goes.outlet goes.was) (goes.might.most goes.outlet goes.was)
 
-  -- what all have sent then
+  -- what all have sent afterwards
   abbrev then_sent : Sendings
   then_sent = with_sent sends link gone_far.rest
 
@@ -539,7 +539,7 @@ module _ (place : ℕ) (before after : Relay) (goes : SendsOn place before after
   ascend : AllPairs (λ (a b : ℕ). a < b) (map link_out before.outlets.items)
   ascend = subst (AllPairs (λ (a b : ℕ). a < b)) (sym stands.from) (numbers_ascend (λ (l : ℕ). leaves d l before.number) (length d.links))
 
-  -- each link stands so with what it has sent then
+  -- the state of each link holds with what it has sent afterwards
   outlets_then : All (λ (outlet : Outlet). IsOutletOf d before.number come (then_sent outlet.tape.link) outlet) (set before.outlets.items place goes.gone)
   outlets_then =
       let so = λ (all : Sendings) (outlet : Outlet). IsOutletOf d before.number come (all outlet.tape.link) outlet in
@@ -552,7 +552,7 @@ module _ (place : ℕ) (before after : Relay) (goes : SendsOn place before after
       ∙ sym (cond-true (goes.gone.tape.link == link) (sends goes.gone.tape.link ++ gone_far.rest) (sends goes.gone.tape.link)
       (eq-eqb goes.gone.tape.link link gone_far.link))) gone_far.is)
 
-  -- the bridge stands so with it
+  -- the bridge's state holds with it
   stands_then : StandsSo d come then_sent after
   stands_then = record {
     of_domain = ap arc_value goes.same.domain ∙ stands.of_domain;
@@ -609,7 +609,7 @@ stays_further first between after a b = record {
       (b.within (subst (λ (cycles : ℕ). All (IsWithin cycles) between.outlets.items) (sym a.cycles) (a.within within)));
 }
 
--- a link stays the link that it is however many cycles it sends
+-- a link stays the same link, no matter how many cycles it sends
 pub same_link_sends : (count : ℕ) (inlets : List Inlet) (edge : SourceLog) (before after : Outlet) → SendsMore count inlets edge before after →
     IsSameLink before after
 same_link_sends zero inlets edge before after goes =
@@ -631,13 +631,13 @@ sent_count zero inlets edge before after goes = omega (arith, ap (λ (outlet : O
 sent_count (suc count) inlets edge before after goes =
     omega (arith, sent_count count inlets edge before goes.0 goes.1, goes.2.as_far)
 
--- so up to a cycle no later than the last it stays within all
+-- so if it sends up to a cycle within the run, it stays within the run
 sends_within : (until cycles : ℕ) (inlets : List Inlet) (edge : SourceLog) (before after : Outlet) → until ≤ cycles → IsWithin cycles before →
     SendsCycles until inlets edge before after → IsWithin cycles after
 sends_within until cycles inlets edge before after early within goes =
     omega (arith, sent_count (until - before.sent) inlets edge before after goes, within, early)
 
--- a bridge stays what it is as one of its links goes on
+-- a bridge stays the same when one of its links goes on
 pub sends_on_stays : (place : ℕ) (before after : Relay) → SendsOn place before after → StaysAs before after
 sends_on_stays place before after goes =
     let outlets = before.outlets.items in
@@ -660,12 +660,12 @@ sends_on_stays place before after goes =
           subst (All (IsWithin before.cycles)) (sym goes.is) (All-set (IsWithin before.cycles) outlets place goes.gone gone within);
     }
 
--- and hands nothing on by that
+-- and this hands on nothing
 told_sends : (count : ℕ) (inlets : List Inlet) (edge : SourceLog) (before after : Outlet) → SendsMore count inlets edge before after → after.told ≡ before.told
 told_sends zero inlets edge before after goes = ap (λ (outlet : Outlet). outlet.told) goes
 told_sends (suc count) inlets edge before after goes = goes.2.adds.told ∙ told_sends count inlets edge before goes.0 goes.1
 
--- nor does another of its links
+-- nor do its other links hand on anything
 told_stays : (place : ℕ) (before after : Relay) → SendsOn place before after → told_by after ≡ told_by before
 told_stays place before after goes =
     ap (map (λ (outlet : Outlet). outlet.told)) goes.is
@@ -682,7 +682,7 @@ none_goes_on before = record {
   stands = λ d come sends stands may. (sends, stands, λ l. ([], sym (append-nil (sends l))));
 }
 
--- then one link more has
+-- then one more link has
 pub one_goes_on : (place : ℕ) (first between after : Relay) → GoesOnAlone first between → SendsOn place between after → GoesOnAlone first after
 one_goes_on place first between after so_far goes = record {
   same = stays_further first between after so_far.same (sends_on_stays place between after goes);
@@ -695,7 +695,7 @@ one_goes_on place first between after so_far goes = record {
       (b.0, b.1, more_behind_more sends a.0 b.0 a.2 b.2);
 }
 
--- and in the end what no link needs is let go
+-- and in the end what no link needs is removed
 pub all_have_gone_on : (first between after : Relay) → GoesOnAlone first between → LetsGo between after → GoesOnAlone first after
 all_have_gone_on first between after so_far lets = record {
   same = stays_further first between after so_far.same lets.same;
@@ -705,18 +705,18 @@ all_have_gone_on first between after so_far lets = record {
   stands = λ d come sends stands may. let a = so_far.stands d come sends stands may in (a.0, lets.stands d come a.0 a.1, a.2);
 }
 
--- a bridge has as many links that leave it whatever it does
+-- the number of links that leave a bridge stays, no matter what it does
 pub as_many_outlets : (before after : Relay) → StaysAs before after → length after.outlets.items ≡ length before.outlets.items
 as_many_outlets before after same =
     sym (length-map after.outlets.items link_out) ∙ ap length same.links_out ∙ length-map before.outlets.items link_out
 
--- so far what a link needs has come up to a cycle
+-- what a link needs has arrived up to a cycle, for the inlets so far
 pub record HasComeSoFar (place upto : ℕ) (relay : Relay) (seen : List Inlet) : Type 0 where
   pub tables : upto ≤ relay.tables
   pub needed : (outlet : Outlet) → slice_get relay.outlets.items place ≡ Some outlet →
       All (λ (inlet : Inlet). list_any (λ it. it == inlet.link) outlet.leads.needs.items ≡ true → upto ≤ inlet.upto) seen
 
--- one inlet more has come up to a cycle that isn't later, or isn't needed
+-- one more inlet has brought a cycle that isn't later, or isn't needed
 pub has_come_more : (place have next : ℕ) (relay : Relay) (inlets : List Inlet) (k : ℕ) (inlet : Inlet) →
     HasComeSoFar place have relay (take k inlets) → k < length inlets → inlet ≡ get_or inlets k inlet → next ≤ have →
     ((outlet : Outlet) → slice_get relay.outlets.items place ≡ Some outlet → list_any (λ it. it == inlet.link) outlet.leads.needs.items ≡ true →
@@ -730,12 +730,12 @@ has_come_more place have next relay inlets k inlet so_far inside is earlier here
       (subst (needs next) is (here outlet at));
 }
 
--- the link at a place is the one that was read there
+-- the link at an index is the one that was read there
 pub link_read : (outlets : List Outlet) (place : ℕ) (read outlet : Outlet) → read ≡ get_or outlets place read → slice_get outlets place ≡ Some outlet →
     read ≡ outlet
 link_read outlets place read outlet is at = is ∙ get_or_from_slice_get outlets place outlet read at
 
--- what the link at a place said that it doesn't need it doesn't
+-- a link that the link at an index said it doesn't need isn't needed
 pub not_needed : (outlets : List Outlet) (place : ℕ) (read outlet : Outlet) (said : Bool) (m : ℕ) → read ≡ get_or outlets place read →
     said ≡ list_any (λ it. it == m) read.leads.needs.items → said ≡ false → slice_get outlets place ≡ Some outlet →
     list_any (λ it. it == m) outlet.leads.needs.items ≡ true → ⊥
@@ -745,7 +745,7 @@ not_needed outlets place read outlet said m is says denied at needs =
     ∙ sym says
     ∙ denied)
 
--- a link that was read at its place and has sent so far has gone on
+-- a link that was read at its index and has sent this far has gone on
 pub sends_on_from : (place until : ℕ) (before after : Relay) (read gone : Outlet) (inlets : List Inlet) → IsSameButLinks before after →
     MayReach place until before → place < length before.outlets.items → read ≡ get_or before.outlets.items place read →
     after.outlets.items ≡ slice_set before.outlets.items place gone → inlets ≡ before.inlets.items →

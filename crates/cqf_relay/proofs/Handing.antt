@@ -1,4 +1,4 @@
--- Relays whose links hand on what they sent, or have it back.
+-- Relays whose links hand on what they sent, or take it back.
 use Rattle.std.proofs.Common.{◌≡◌, ◌∙◌, ℕ, ◌+◌, ◌-◌, ◌<◌, ◌≤◌, true}
 use Rattle.std.proofs.Common.{List, [], ◌++◌, Some, All, length, map, set, set-set, option_map}
 use Rattle.std.proofs.Common.{refl, sym, ap, subst, arith}
@@ -32,7 +32,7 @@ use Rattle.cqf_relay.specs.Standing.{StandsSo, StaysAs, link_in, link_out, links
 use Rattle.cqf_relay.specs.Standing.{told_by, wire_on, wire_out}
 use Rattle.cqf_relay.proofs.Tidy.{back_tidy, hands_tidy}
 
--- what holds of each element holds of that at a place
+-- a property of all elements holds of the element at an index
 pub all_at : {X : Type 0} (P : X → Type 0) (xs : List X) (k : ℕ) (x : X) → All P xs → slice_get xs k ≡ Some x → P x
 all_at P xs k x each is = All-contains P xs x each (contains_at xs k x is)
 
@@ -59,7 +59,7 @@ pub knows_same : (tables : List (List Row)) (before after : Outlet) → IsSameLi
 knows_same tables before after same knows =
     subst (λ (l : ℕ). KnowsRows l tables after.leads) (sym same.link) (subst (λ (known : Leads). KnowsRows before.tape.link tables known) (sym same.leads) knows)
 
--- a link that hands on what it sent stands as before, with nothing more to hand on
+-- a link that hands on what it sent is in the same state, with nothing more to hand on
 pub outlet_hands : (d : Domain) (bridge : ℕ) (come : Come) (sends : List (List Sent)) (before after : Outlet) (stretch : Stretch) →
     TakesPending before after stretch → IsOutletOf d bridge come sends before → IsOutletOf d bridge come sends after
 outlet_hands d bridge come sends before after stretch takes stands = record {
@@ -74,7 +74,7 @@ outlet_hands d bridge come sends before after stretch takes stands = record {
   gone = subst (λ (l : ℕ). HasGoneOnBy d bridge come l sends) (sym takes.same.link) stands.gone;
 }
 
--- a link that has back what it handed on stands as before that
+-- a link that takes back what it handed on is in the state before that
 pub outlet_again : (d : Domain) (bridge : ℕ) (come : Come) (sends : List (List Sent)) (older before after : Outlet) (told : ℕ) (stretch : Stretch) →
     TakesPending older before stretch → KeepsStretchBack told stretch before after → told ≡ older.told → IsOutletOf d bridge come sends older →
     IsOutletOf d bridge come sends after
@@ -123,7 +123,7 @@ outlet_gives d bridge come sends before after stretch takes stands onward =
     } in
     (is, ends)
 
--- and may come next where it ends
+-- and may come next at its end
 pub outlet_gives_next : (before after : Outlet) (stretch : Stretch) → TakesPending before after stretch → IsTidy before → IsNextStretch before.told stretch
 outlet_gives_next before after stretch takes tidy =
     let frames : frames_of stretch ≡ map (came_by_stretch before.pending.base) before.pending.frames.items =
@@ -135,9 +135,9 @@ outlet_gives_next before after stretch takes tidy =
           (subst (All (λ (came : ArrivedFrame). (before.told ≤ came.cycle) × (came.cycle < before.sent))) (sym frames) tidy.within);
     }
 
--- ---- relays of which one link stands otherwise
+-- ---- relays with one changed link
 
--- a bridge is the same but for its links as one that is the same but for them
+-- being the same but for the links is transitive
 pub same_but_twice : (older before after : Relay) → IsSameButLinks older before → IsSameButLinks before after → IsSameButLinks older after
 same_but_twice older before after early late = record {
   domain = late.domain ∙ early.domain;
@@ -149,7 +149,7 @@ same_but_twice older before after early late = record {
   known = late.known ∙ early.known;
 }
 
--- where one link stands as it may, has sent as much and knows the same rows, a bridge stands as before
+-- if one link is in an allowed state, has sent as much and knows the same rows, the bridge is in the same state
 pub relay_with : (d : Domain) (come : Come) (sends : Sendings) (before after : Relay) (place : ℕ) (old new : Outlet) → IsSameButLinks before after →
     slice_get before.outlets.items place ≡ Some old → after.outlets.items ≡ set before.outlets.items place new → new.tape.link ≡ old.tape.link →
     new.leads ≡ old.leads → new.sent ≡ old.sent →
@@ -187,12 +187,12 @@ relay_with d come sends before after place old new same was is link known sent o
           stands.outlets));
     }
 
--- what is told of each link still is where it is told of the one that stands otherwise
+-- a property of each link still holds if it holds of the changed one
 pub all_with : (P : Outlet → Type 0) (before after : List Outlet) (place : ℕ) (new : Outlet) → after ≡ set before place new → P new → All P before →
     All P after
 all_with P before after place new is one each = subst (All P) (sym is) (All-set P before place new one each)
 
--- a bridge of which one link hands on what it sent stays what it is
+-- a bridge stays the same when one of its links hands on what it sent
 pub stays_handing : (place : ℕ) (before after : Relay) (old new : Outlet) (stretch : Stretch) → IsSameButLinks before after →
     slice_get before.outlets.items place ≡ Some old → after.outlets.items ≡ set before.outlets.items place new → TakesPending old new stretch →
     StaysAs before after
@@ -239,7 +239,7 @@ relay_hands_on place before after old new stretch same was is takes = record {
 module _ (place told : ℕ) (stretch : Stretch) (older before after : Relay) (old new : Outlet) (same : IsSameButLinks before after)
     (was : slice_get before.outlets.items place ≡ Some old) (is : after.outlets.items ≡ set before.outlets.items place new)
     (keeps : KeepsStretchBack told stretch old new) (hands : HandsOn place older before stretch) (by_then : slice_get (told_by older) place ≡ Some told) where
-  -- what a bridge's link has back is what that link handed on
+  -- what a bridge's link takes back is what that link handed on
   back_to_it : KeepsStretchBack told stretch hands.handed new
   back_to_it =
       let inside : place < length older.outlets.items = slice_get_within older.outlets.items place hands.outlet hands.was in
@@ -258,7 +258,7 @@ module _ (place told : ℕ) (stretch : Stretch) (older before after : Relay) (ol
       slice_get-map (λ (outlet : Outlet). outlet.told) older.outlets.items place ∙ ap (option_map (λ (outlet : Outlet). outlet.told)) hands.was in
       same_Some told hands.outlet.told (sym by_then ∙ told_at)
 
-  -- so the bridge stands as before that
+  -- so the bridge is in the state before that
   pub stands_again : (d : Domain) (come : Come) (sends : Sendings) → StandsSo d come sends older → StandsSo d come sends after
   stands_again d come sends =
       relay_with d come sends older after place hands.outlet new (same_but_twice older before after hands.same same) hands.was set_since
@@ -267,14 +267,14 @@ module _ (place told : ℕ) (stretch : Stretch) (older before after : Relay) (ol
       (back_to_it.as_far ∙ hands.takes.as_far)
       (outlet_again d older.number come (sends hands.outlet.tape.link) hands.outlet hands.handed new told stretch hands.takes back_to_it told_then)
 
-  -- and its links are tidy where they were so then
+  -- and its links are tidy if they were so then
   pub tidy_again : All IsTidy older.outlets.items → All IsTidy after.outlets.items
   tidy_again tidy =
       all_with IsTidy older.outlets.items after.outlets.items place new set_since
       (back_tidy hands.outlet hands.handed new told stretch hands.takes back_to_it told_then
       (all_at IsTidy older.outlets.items place hands.outlet tidy hands.was)) tidy
 
--- a bridge of which one link has back what it handed on
+-- a bridge with one link that takes back what it handed on
 pub relay_keeps_back : (place told : ℕ) (stretch : Stretch) (before after : Relay) (old new : Outlet) → IsSameButLinks before after →
     slice_get before.outlets.items place ≡ Some old → after.outlets.items ≡ set before.outlets.items place new → KeepsStretchBack told stretch old new →
     KeepsBack place told stretch before after

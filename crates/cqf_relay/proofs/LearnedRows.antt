@@ -1,4 +1,4 @@
--- The rows of a table that are new stand behind the known ones, and are learned one behind the other.
+-- The new rows of a table follow the known ones, and are learned one after the other.
 use Rattle.std.proofs.Common.{ℕ, ◌≡◌, ◌∙◌, ◌+◌, ◌-◌, ◌<◌, ◌≤◌, Bool, true, false, List, [], ◌∷◌, ◌++◌, length, drop, get_or, map, set}
 use Rattle.std.proofs.Common.{refl, sym, ap, subst, inl, inr, arith, Some}
 use Rattle.std.specs.Prelude.{AllPairs, Contains, filter, nat_le, nat_lt, slice_get, take}
@@ -19,7 +19,7 @@ use Rattle.cqf_relay.specs.Sending.{LearnsOf}
 use Rattle.cqf_relay.specs.Standing.{LearnEach, LearnOnEach, LearnsRows, known_behind, new_rows}
 use Rattle.cqf_relay.proofs.Learning.{known_push, learn_push}
 
--- the links before a place have learned a row, and the others are as they were
+-- the links before an index have learned a row, and the others are unchanged
 pub record LearnedBelow (row : Row) (n : ℕ) (before now : List Outlet) : Type 0 where
   pub count : length now ≡ length before
   pub done : (place : ℕ) (outlet learned : Outlet) → place < n → slice_get before place ≡ Some outlet → slice_get now place ≡ Some learned →
@@ -53,7 +53,7 @@ one_learned row n before now outlet learned within at learns below = record {
       slice_get-set_other now n place learned (λ same. omega (arith, same, late)) ∙ below.rest place (omega (arith, late));
 }
   where
-    -- what was written stands there
+    -- what was written is there
     put : slice_get (set now n learned) n ≡ Some learned
     put =
         slice_get-get_or (set now n learned) n learned (omega (arith, length-set now n learned, within))
@@ -67,7 +67,7 @@ all_learned row n before now over below = record {
       below.done place outlet learned (omega (arith, over, slice_get_within now place learned is)) was is;
 }
 
--- a bridge has learned rows, one behind the other
+-- a bridge has learned rows, one after the other
 pub record LearnsThese (rows : List Row) (before after : Relay) : Type 0 where
   pub domain : after.domain ≡ before.domain
   pub number : after.number ≡ before.number
@@ -78,7 +78,7 @@ pub record LearnsThese (rows : List Row) (before after : Relay) : Type 0 where
   pub known : after.known ≡ known_behind before.known rows
   pub learn : LearnEach rows before.outlets.items after.outlets.items
 
--- where these are the new ones of a table it has learned the table's rows
+-- if these are the new ones of a table, it has learned the table's rows
 pub learned_new : (rows table : List Row) (before after : Relay) → rows ≡ new_rows before.known table → LearnsThese rows before after →
     LearnsRows table before after
 learned_new rows table before after new these = record {
@@ -93,7 +93,7 @@ learned_new rows table before after new these = record {
 }
 
 module _ {X : Type 0} (value : X → Row) where
-  -- rows that stand by number ascend
+  -- rows in order of number ascend
   ascend : (xs : List X) → AllPairs (λ (a b : Row). a.no < b.no) (map value xs) → IsNonDecreasingBy (λ x. (value x).no) xs
   ascend xs order = λ i j d before within. elim (cases_lt i j) [
     | inl less ↦
@@ -134,14 +134,14 @@ module _ {X : Type 0} (value : X → Row) where
           cut (IsPartitionedBy-ltb (λ (x : X). (value x).no) xs known
           (ascend xs (subst (λ (rows : List Row). AllPairs (λ (a b : Row). a.no < b.no) rows) (sym is) order)))
 
-      -- what stands before is known
+      -- the rows before it are known
       sooner : (x : X) → Contains (take first xs) x → (value x).no < known
       sooner x held =
           let before : held.0 < first = omega (arith, held.1, length-take-le first xs within) in
           let at : get_or xs held.0 x ≡ x = sym (get_or-take first xs held.0 x before) ∙ held.2 in
           ltb-true (value x).no known (ap (λ (y : X). nat_lt (value y).no known) (sym at) ∙ point.0 held.0 x (omega arith) before)
 
-      -- what stands behind isn't
+      -- the rows after it aren't
       later : (x : X) → Contains (drop first xs) x → known ≤ (value x).no
       later x held =
           let at : get_or xs (first + held.0) x ≡ x = sym (get_or-drop first xs held.0 x) ∙ held.2 in

@@ -1,4 +1,4 @@
--- What a link knows of rows once it has learned those of a table that are new.
+-- What a link knows of rows after it has learned the new ones of a table.
 use Rattle.std.proofs.Common.{ℕ, ◌≡◌, ◌≢◌, ◌∙◌, ◌+◌, ◌-◌, ◌<◌, ◌≤◌, ◌==◌, ◌&&◌, ◌||◌, Bool, true, false, cond, List, [], ◌∷◌, ◌++◌, length, length-append}
 use Rattle.std.proofs.Common.{refl, sym, ap, subst, inl, inr, arith, Option, Some, None, get_or, replicate}
 use Rattle.std.specs.Prelude.{AllPairs, Contains, filter, slice_get}
@@ -22,23 +22,23 @@ use Rattle.cqf_relay.specs.Leading.{LearnsRow, by_at, by_hops, by_way, is_link, 
 use Rattle.cqf_relay.specs.Queues.{AreLeads}
 use Rattle.cqf_relay.specs.Standing.{LearnEach, LearnOnEach, known_behind}
 
--- whether a hop is of a link and stands behind another
+-- whether a hop is of a link and follows another
 abbrev is_behind : ℕ → ℕ → Hop → Bool
 is_behind l m hop = same_way hop.from (Some m) && (hop.link == l)
 
--- how frames come to a link by a first hop of it, or by later ones
+-- how frames arrive at a link by a first hop of it, or by later ones
 by_first : (l m : ℕ) (from : Option ℕ) (b rest : Bool) (by : By) → (b ≡ true → rest ≡ false) → (b ≡ false → rest ≡ is_link by m) →
     ((same_way from (Some m) && b) || rest) ≡ is_link (cond b (by_way from) by) m
 by_first l m None true rest by first later = first refl
 by_first l m (Some k) true rest by first later = ap (λ (x : Bool). ((k == m) && true) || x) (first refl) ∙ alone (k == m)
   where
-    -- a test with nothing else
+    -- a test alone
     alone : (x : Bool) → ((x && true) || false) ≡ x
     alone true = refl
     alone false = refl
 by_first l m from false rest by first later = ap (λ (x : Bool). x || rest) (and_right (same_way from (Some m)) false refl) ∙ later refl
 
--- where links stand once, the first hop of a link says by which other it comes
+-- if each link occurs once, the first hop of a link says after which other link it comes
 by_hops_of : (l m : ℕ) (hops : List Hop) → AllPairs (λ (a b : Hop). a.link ≢ b.link) hops → list_any (is_behind l m) hops ≡ is_link (by_hops l hops) m
 by_hops_of l m [] apart = refl
 by_hops_of l m (hop ∷ hops) apart =
@@ -52,7 +52,7 @@ by_hops_of l m (hop ∷ hops) apart =
 abbrev pub leads_row : ℕ → ℕ → Row → Bool
 leads_row m l row = list_any (λ (next : ℕ). next == l) (goes_to row (Some m))
 
--- it does just where frames come to the other by the first
+-- it does if and only if frames arrive at the other by the first
 pub leads_by_hops : (d : Domain) (l m : ℕ) (row : Row) → IsTree d row.tree.items → leads_row m l row ≡ is_link (by_hops l row.tree.items) m
 leads_by_hops d l m row tree =
     let hops = row.tree.items in
@@ -61,7 +61,7 @@ leads_by_hops d l m row tree =
     ∙ by_hops_of l m hops (pairs_weaker (λ (a b : Hop). end_of d a.link ≢ end_of d b.link) (λ (a b : Hop). a.link ≢ b.link) hops
     (λ a b _ _ apart same. apart (ap (end_of d) same)) tree.reached_once)
 
--- rows that say nothing behind others don't count
+-- rows that say nothing don't matter after others
 padded : (rows : List By) (n k : ℕ) → by_at (rows ++ replicate n Nothing) k ≡ by_at rows k
 padded rows n k = elim (cases_lt k (length rows)) [
   | inl early ↦ get_or_append_left rows (replicate n Nothing) Nothing k early
@@ -77,7 +77,7 @@ padded rows n k = elim (cases_lt k (length rows)) [
       | inr past ↦ get_or_past (replicate n Nothing) j Nothing (omega (arith, length-replicate n Nothing, past))
     ]
 
--- how many rows are known where one is learned behind the others
+-- how many rows are known if one is learned after the others
 pub length_learned : (rows : List By) (number : ℕ) (by : By) → length rows ≤ number →
     length (rows ++ replicate (number - length rows) Nothing ++ by ∷ []) ≡ number + 1
 length_learned rows number by room =
@@ -108,18 +108,18 @@ at_learned rows number by k room =
       ]
     ]
 
--- a link learns rows, one behind the other
+-- a link learns rows, one after the other
 abbrev pub LearnsAll : ℕ → List Row → Leads → Leads → Type 0
 LearnsAll l [] before after = after ≡ before
 LearnsAll l (row ∷ rows) before after =
     (between : Leads) × LearnsRow row.no (by_hops l row.tree.items) before between × LearnsAll l rows between after
 
--- rows that come by number behind so many
+-- rows in order of number, after the first `known` numbers
 pub record ComeBehind (known : ℕ) (rows : List Row) : Type 0 where
   pub by_number : AllPairs (λ (row other : Row). row.no < other.no) rows
   pub behind : (row : Row) → Contains rows row → known ≤ row.no
 
--- behind the first of them the others do
+-- the others follow the first of them
 pub later_behind : (known : ℕ) (row : Row) (rows : List Row) → ComeBehind known (row ∷ rows) → ComeBehind (row.no + 1) rows
 later_behind known row rows come = record {
   by_number = pairs_tail (λ (one other : Row). one.no < other.no) row rows come.by_number;
@@ -127,7 +127,7 @@ later_behind known row rows come = record {
       omega (arith, after);
 }
 
--- no row is found of a lower number
+-- no row with a lower number is found
 none_below : (known number : ℕ) (rows : List Row) → ComeBehind known rows → number < known → row_of rows number ≡ None
 none_below known number rows come low = by (row_of rows number) refl
   where
@@ -140,7 +140,7 @@ none_below known number rows come low = by (row_of rows number) refl
         let high : known ≤ row.no = come.behind row there.0 in
         absurd (omega (arith, same, high, low))
 
--- what a row says of a link, where one is found, or else what was known
+-- what a row says of a link, if one is found, and else what was known
 abbrev pub found_or : ℕ → Option Row → By → By
 found_or l None by = by
 found_or l (Some row) by = by_hops l row.tree.items
@@ -151,7 +151,7 @@ first_or_later : (l : ℕ) (row : Row) (b : Bool) (later : Option Row) (by : By)
 first_or_later l row true later by alone = ap (λ (found : Option Row). found_or l found (by_hops l row.tree.items)) (alone refl)
 first_or_later l row false later by alone = refl
 
--- what is known of a number once rows are learned, in order, behind the known ones
+-- what is known of a number after rows are learned, in order, after the known ones
 pub rows_learned : (l known : ℕ) (rows : List Row) (before after : Leads) → LearnsAll l rows before after → ComeBehind known rows →
     length before.rows.items ≤ known → (number : ℕ) →
     by_at after.rows.items number ≡ found_or l (row_of rows number) (by_at before.rows.items number)
@@ -170,7 +170,7 @@ rows_learned l known (row ∷ rows) before after learn come room number =
     ∙ first_or_later l row (row.no == number) (row_of rows number) (by_at before.rows.items number)
     (λ is. none_below (row.no + 1) number rows rest (omega (arith, eqb-true row.no number is)))
 
--- they are no more than by number
+-- there are no more of them than numbers
 pub room_learned : (l known : ℕ) (rows : List Row) (before after : Leads) → LearnsAll l rows before after → ComeBehind known rows →
     length before.rows.items ≤ known → length after.rows.items ≤ known_behind known rows
 room_learned l known [] before after learn come room = subst (λ (leads : Leads). length leads.rows.items ≤ known) (sym learn) room
@@ -182,18 +182,18 @@ room_learned l known (row ∷ rows) before after learn come room =
     let long : length between.rows.items ≡ row.no + 1 = ap length learn.1.rows ∙ length_learned before.rows.items row.no by fits in
     room_learned l (row.no + 1) rows between after learn.2 (later_behind known row rows come) (omega (arith, long))
 
--- either of three tests
+-- three tests, one of them passes
 either_of_three : (a b c : Bool) → ((a || b) || c) ≡ (a || (b || c))
 either_of_three true b c = refl
 either_of_three false b c = refl
 
--- a link is needed that was needed, or that one of the rows leads from
+-- a link is needed if it was needed, or if one of the rows leads from it
 pub needs_learned : (l m : ℕ) (rows : List Row) (before after : Leads) → LearnsAll l rows before after →
     list_any (λ it. it == m) after.needs.items
     ≡ (list_any (λ it. it == m) before.needs.items || list_any (λ (row : Row). is_link (by_hops l row.tree.items) m) rows)
 needs_learned l m [] before after learn = ap (λ (leads : Leads). list_any (λ it. it == m) leads.needs.items) learn ∙ alone _
   where
-    -- a test with nothing else
+    -- a test alone
     alone : (x : Bool) → x ≡ (x || false)
     alone true = refl
     alone false = refl
@@ -203,7 +203,7 @@ needs_learned l m (row ∷ rows) before after learn =
     ∙ ap (λ (b : Bool). b || later) (learn.1.needs m)
     ∙ either_of_three (list_any (λ it. it == m) before.needs.items) (is_link (by_hops l row.tree.items) m) later
 
--- what is some way or none
+-- a way that isn't one is none
 none_is_nothing : (by : By) → is_some by ≡ false → by ≡ Nothing
 none_is_nothing Nothing is = refl
 none_is_nothing Edge is = absurd (both_ways true is refl)
@@ -214,7 +214,7 @@ nothing_there : (xs : List ℕ) → ((m : ℕ) → list_any (λ it. it == m) xs 
 nothing_there [] none = refl
 nothing_there (x ∷ xs) none = absurd (both_ways (x == x) ((or_parts (x == x) (list_any (λ it. it == x) xs) (none x)).0) (eq-eqb x x refl))
 
--- leads that fit still fit with a row more
+-- leads stay consistent with one more row
 fits_with : (number : ℕ) (by : By) (before after : Leads) → LearnsRow number by before after → length before.rows.items ≤ number →
     AreLeads before → AreLeads after
 fits_with number by before after learn room fits = record {
@@ -229,12 +229,12 @@ fits_with number by before after learn room fits = record {
       nothing_there after.needs.items (λ m. learn.needs m ∙ (λ i. list_any (λ it. it == m) (fits.unneeded none.0 i) || is_link (nothing i) m));
 }
   where
-    -- either way it is nothing
+    -- in both cases it is nothing
     same_twice : (b : Bool) → cond b Nothing Nothing ≡ Nothing
     same_twice true = refl
     same_twice false = refl
 
--- and with rows more
+-- and with more rows
 pub fits_learned : (l known : ℕ) (rows : List Row) (before after : Leads) → LearnsAll l rows before after → ComeBehind known rows →
     length before.rows.items ≤ known → AreLeads before → AreLeads after
 fits_learned l known [] before after learn come room fits = subst AreLeads (sym learn) fits
@@ -247,7 +247,7 @@ fits_learned l known (row ∷ rows) before after learn come room fits =
     fits_learned l (row.no + 1) rows between after learn.2 (later_behind known row rows come) (omega (arith, long))
     (fits_with row.no by before between learn.1 small fits)
 
--- what stays of a link as it learns rows
+-- what stays of a link when it learns rows
 pub record HasLearned (rows : List Row) (before after : Outlet) : Type 0 where
   pub leads : LearnsAll before.tape.link rows before.leads after.leads
   pub wire : after.wire ≡ before.wire
@@ -256,12 +256,12 @@ pub record HasLearned (rows : List Row) (before after : Outlet) : Type 0 where
   pub pending : after.pending ≡ before.pending
   pub tape : after.tape ≡ before.tape
 
--- as many links are there as before
+-- there are as many links as before
 pub count_learned : (rows : List Row) (before after : List Outlet) → LearnEach rows before after → length after ≡ length before
 count_learned [] before after learn = ap length learn
 count_learned (row ∷ rows) before after learn = count_learned rows learn.0 after learn.2 ∙ learn.1.count
 
--- the link at a place before
+-- the link at an index before
 pub record WasAt (rows : List Row) (before : List Outlet) (place : ℕ) (learned : Outlet) : Type 0 where
   pub outlet : Outlet
   pub was : slice_get before place ≡ Some outlet
@@ -298,7 +298,7 @@ each_learned (row ∷ rows) before after learn place learned is =
       };
     }
 
--- one row more is learned by each
+-- one more row is learned by each
 pub learn_push : (rows : List Row) (row : Row) (before between after : List Outlet) → LearnEach rows before between → LearnOnEach row between after →
     LearnEach (rows ++ row ∷ []) before after
 learn_push [] row before between after learn one = (after, subst (λ (outlets : List Outlet). LearnOnEach row outlets after) learn one, refl)

@@ -1,4 +1,4 @@
--- Relays that let go of what came in cycles that none of their links needs any more.
+-- Relays that remove what arrived in cycles that none of their links needs any more.
 use Rattle.std.proofs.Common.{◌≡◌, ◌∙◌, ℕ, ◌+◌, ◌-◌, ◌<◌, ◌≤◌, max}
 use Rattle.std.proofs.Common.{List, Some, All, filter, get_or, length, map, set}
 use Rattle.std.proofs.Common.{sym, ap, subst, inl, inr, arith, take, take_all}
@@ -26,7 +26,7 @@ use Rattle.cqf_relay.specs.Standing.{AreKnown, Come, IsEdgeOf, IsInletOf, IsOutl
 use Rattle.cqf_relay.specs.Standing.{LetsGo, MayHaveCome, StandsSo, link_in, link_out, links_from, links_into, wire_out}
 use Rattle.cqf_lists.proofs.Written.{map_kept, slice_get-set_other, slice_get-set_same}
 
--- a log that keeps what came from a cycle on may have come as before
+-- a log that keeps what arrived from a cycle on may still be what has arrived
 pub held_still : (least upto : ℕ) (before after : List ArrivedFrame) → KeepsFrom least before after → MayHaveCome upto before → MayHaveCome upto after
 held_still least upto before after kept held = record {
   by_cycle = kept.by_cycle held.by_cycle;
@@ -34,13 +34,13 @@ held_still least upto before after kept held = record {
       (λ came here. All-contains (λ (came : ArrivedFrame). came.cycle < upto) before came held.within (kept.no_more came here));
 }
 
--- an inlet that has let go of what came before a cycle
+-- an inlet that has removed what arrived before a cycle
 pub record IsLetGo (least : ℕ) (before after : Inlet) : Type 0 where
   pub link : after.link ≡ before.link
   pub upto : after.upto ≡ before.upto
   pub log : KeepsFrom least before.log.frames.items after.log.frames.items
 
--- it stands as before from that cycle on
+-- from that cycle on its state holds as before
 pub inlet_lets_go : (come : Come) (least old new : ℕ) (before after : Inlet) → least ≤ new → old ≤ new → IsLetGo least before after →
     IsInletOf come old before → IsInletOf come new after
 inlet_lets_go come least old new before after least_in old_in go stands = record {
@@ -54,7 +54,7 @@ inlet_lets_go come least old new before after least_in old_in go stands = record
       ∙ ap (λ (l : ℕ). filter (is_in cycle) (come.brought l)) (sym go.link);
 }
 
--- so many of the inlets have let go
+-- this many of the inlets have removed it
 pub record HaveLetGo (least count : ℕ) (before now : List Inlet) : Type 0 where
   pub links : map link_in now ≡ map link_in before
   pub gone : (k : ℕ) (was is : Inlet) → k < count → slice_get before k ≡ Some was → slice_get now k ≡ Some is → IsLetGo least was is
@@ -85,7 +85,7 @@ one_let_go least count before now old new so_far at one = record {
 pub many_kept : (least count : ℕ) (before now : List Inlet) → HaveLetGo least count before now → length now ≡ length before
 many_kept least count before now gone = sym (length-map now link_in) ∙ ap length gone.links ∙ length-map before link_in
 
--- all inlets that have let go stand as before from that cycle on
+-- the state of all inlets that have removed it holds as before from that cycle on
 pub all_let_go : (come : Come) (least old new : ℕ) (before now : List Inlet) → least ≤ new → old ≤ new → HaveLetGo least (length before) before now →
     All (IsInletOf come old) before → All (IsInletOf come new) now
 all_let_go come least old new before now least_in old_in gone stand k d below =
@@ -94,7 +94,7 @@ all_let_go come least old new before now least_in old_in gone stand k d below =
     (gone.gone k (get_or before k d) (get_or now k d) inside (slice_get-get_or before k d inside) (slice_get-get_or now k d below))
     (stand k d inside)
 
--- a bridge of which so many inlets have let go, and nothing else
+-- a bridge at which this many inlets have removed it, and nothing else has changed
 pub record IsLettingGo (least count : ℕ) (before now : Relay) : Type 0 where
   pub domain : now.domain ≡ before.domain
   pub number : now.number ≡ before.number
@@ -105,11 +105,11 @@ pub record IsLettingGo (least count : ℕ) (before now : Relay) : Type 0 where
   pub edge : now.edge ≡ before.edge
   pub inlets : HaveLetGo least count before.inlets.items now.inlets.items
 
--- what holds of all so far holds of all in the end
+-- a property of all elements so far holds of all in the end
 pub all_taken : {X : Type 0} (P : X → Type 0) (n : ℕ) (xs ys : List X) → xs ≡ ys → length xs ≤ n → All P (take n xs) → All P ys
 all_taken P n xs ys same over each = subst (All P) (take_all n xs over ∙ same) each
 
--- what a bridge does that lets go of what came before a cycle up to which all its links have sent
+-- a bridge removes what arrived before a cycle up to which all its links have sent
 pub record LetsGoFrom (least : ℕ) (before after : Relay) : Type 0 where
   pub domain : after.domain ≡ before.domain
   pub number : after.number ≡ before.number
@@ -124,7 +124,7 @@ pub record LetsGoFrom (least : ℕ) (before after : Relay) : Type 0 where
   pub drops : after.edge.drops ≡ before.edge.drops
   pub log : KeepsFrom least before.edge.log.frames.items after.edge.log.frames.items
 
--- the offers from that cycle on are there still
+-- the offers from that cycle on are still there
 pub edge_lets_go : (d : Domain) (bridge : ℕ) (come : Come) (least old new : ℕ) (before after : Edge) → least ≤ new → old ≤ new →
     after.number ≡ before.number → after.used ≡ before.used → KeepsFrom least before.log.frames.items after.log.frames.items →
     IsEdgeOf d bridge come old before → IsEdgeOf d bridge come new after
@@ -135,7 +135,7 @@ edge_lets_go d bridge come least old new before after least_in old_in number use
   counted = subst (λ (used : Vec Used Global). CountsUpto (length come.tables) used.items) (sym used) stands.counted;
 }
 
--- then it stands as before
+-- then its state holds as before
 pub relay_lets_go : (d : Domain) (come : Come) (sends : Sendings) (least : ℕ) (before after : Relay) → LetsGoFrom least before after →
     StandsSo d come sends before → StandsSo d come sends after
 relay_lets_go d come sends least before after go stands =
@@ -165,7 +165,7 @@ relay_lets_go d come sends least before after go stands =
     both : {a b c : ℕ} → a ≤ c → b ≤ c → max a b ≤ c
     both one two = omega (arith, one, two)
 
--- so it lets go
+-- so it removes them
 pub lets_go : (least : ℕ) (before after : Relay) → LetsGoFrom least before after → LetsGo before after
 lets_go least before after go = record {
   same = record {

@@ -1,4 +1,4 @@
--- How a bridge stands that has done nothing.
+-- The state of a bridge that has done nothing.
 use Rattle.std.proofs.Common.{ℕ, ◌≡◌, ◌∙◌, ◌+◌, ◌-◌, ◌<◌, ◌≤◌, ◌==◌, Bool, true, false, List, [], ◌∷◌, ◌++◌, length}
 use Rattle.std.proofs.Common.{add-one, refl, sym, ap, subst, inl, arith, Option, Some, map, append-nil}
 use Rattle.std.specs.Prelude.{All, filter, slice_get, if◌then◌else◌}
@@ -36,7 +36,7 @@ kept test n = each_below (λ l. if test l then l ∷ [] else []) n
 kept_more : (test : ℕ → Bool) (n : ℕ) (b : Bool) → test n ≡ b → kept test (n + 1) ≡ kept test n ++ (if b then n ∷ [] else [])
 kept_more test n b is = ap (kept test) (add-one n) ∙ ap (λ (x : Bool). kept test n ++ (if x then n ∷ [] else [])) is
 
--- the links below a number that end in a bridge, of which nothing has come
+-- the links below a number that end in a bridge, and have brought nothing
 pub record NewInletsBelow (d : Domain) (bridge n : ℕ) (inlets : List Inlet) : Type 0 where
   pub links : map link_in inlets ≡ kept (λ l. enters d l bridge) n
   pub new : All IsNewInlet inlets
@@ -45,7 +45,7 @@ pub record NewInletsBelow (d : Domain) (bridge n : ℕ) (inlets : List Inlet) : 
 pub no_inlets_below : (d : Domain) (bridge : ℕ) → NewInletsBelow d bridge 0 []
 no_inlets_below d bridge = record { links = refl; new = All-nil IsNewInlet }
 
--- one more is there that ends in the bridge
+-- one more that ends in the bridge is there
 pub inlets_more : (d : Domain) (bridge n : ℕ) (link : Link) (inlets : List Inlet) (inlet : Inlet) → slice_get d.links n ≡ Some link →
     node_is link.to bridge ≡ true → IsNewInlet inlet → inlet.link ≡ n → NewInletsBelow d bridge n inlets →
     NewInletsBelow d bridge (n + 1) (inlets ++ inlet ∷ [])
@@ -107,12 +107,12 @@ outlets_same d bridge n link outlets at elsewhere below = record {
   new = below.new;
 }
 
--- no frames have come
+-- no frames have arrived
 none_came : (upto : ℕ) → MayHaveCome upto []
 none_came upto =
     record { by_cycle = IsNonDecreasingBy-short cycle_of_came [] (omega arith); within = All-nil (λ (came : ArrivedFrame). came.cycle < upto) }
 
--- a link of which nothing has come
+-- a link that has brought nothing
 new_inlet_stands : (inlet : Inlet) → IsNewInlet inlet → IsInletOf nothing_yet 0 inlet
 new_inlet_stands inlet new = record {
   upto = new.upto;
@@ -194,7 +194,7 @@ new_stands d new of_domain tables into from known number used log = record {
       new_outlet_stands d new.number outlet (All-contains (IsNewOutletOf d) new.outlets.items outlet from.new there));
 }
   where
-    -- nothing either way
+    -- nothing in both cases
     none_used : (b : Bool) (n : ℕ) → (if b then n else n) ≡ n
     none_used true n = refl
     none_used false n = refl

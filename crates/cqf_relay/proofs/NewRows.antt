@@ -1,4 +1,4 @@
--- Which rows of the next table are new, and what a link knows with them.
+-- The new rows of the next table, and what a link knows with them.
 use Rattle.std.proofs.Common.{ℕ, ◌≡◌, ◌∙◌, ◌+◌, ◌<◌, ◌≤◌, ◌==◌, ◌||◌, Bool, true, false, cond, List, [], ◌∷◌, ◌++◌, length}
 use Rattle.std.proofs.Common.{refl, sym, ap, subst, inl, inr, ◌⊎◌, arith, Option, Some, None}
 use Rattle.std.specs.Prelude.{AllPairs, Contains, filter, find, nat_le}
@@ -21,7 +21,7 @@ use Rattle.cqf_relay.specs.Leading.{by_hops, by_row, is_link, leads}
 use Rattle.cqf_relay.specs.Standing.{KnowsRows, MayBeTables, all_rows, new_rows, rows_of}
 use Rattle.cqf_relay.proofs.Learning.{ComeBehind, LearnsAll, fits_learned, found_or, leads_by_hops, leads_row, needs_learned, rows_learned}
 
--- the tables before the last one are what they were
+-- the tables before the last one are unchanged
 pub table_before : (tables : List (List Row)) (table : List Row) (cycle : ℕ) → cycle < length tables →
     table_of (tables ++ table ∷ []) cycle ≡ table_of tables cycle
 table_before tables table cycle early = get_or_append_left tables (table ∷ []) [] cycle early
@@ -30,12 +30,12 @@ table_before tables table cycle early = get_or_append_left tables (table ∷ [])
 pub table_last : (tables : List (List Row)) (table : List Row) → table_of (tables ++ table ∷ []) (length tables) ≡ table
 table_last tables table = get_or_at tables table [] [] (length tables) refl
 
--- the rows of the first tables are what they were
+-- the rows of the first tables are unchanged
 pub rows_before : (tables : List (List Row)) (table : List Row) (count : ℕ) → count ≤ length tables →
     rows_of (tables ++ table ∷ []) count ≡ rows_of tables count
 rows_before tables table count within = ap (flat_map (λ (rows : List Row). rows)) (take-append-le count tables (table ∷ []) within)
 
--- the last one's rows come behind those of all before
+-- the last table's rows follow those of all earlier ones
 pub all_rows_more : (tables : List (List Row)) (table : List Row) → all_rows (tables ++ table ∷ []) ≡ all_rows tables ++ table
 all_rows_more tables table =
     let more : length (tables ++ table ∷ []) ≡ length tables + 1 = length_push tables table in
@@ -44,20 +44,20 @@ all_rows_more tables table =
     ∙ flat_map-append each tables (table ∷ [])
     ∙ (λ i. flat_map each (sym (take_all (length tables) tables (omega arith)) i) ++ append-nil table i)
 
--- a row of a table that came is one of all
+-- a row of a table that has arrived is one of all rows
 pub row_of_all : (tables : List (List Row)) (cycle : ℕ) (row : Row) → cycle < length tables → Contains (table_of tables cycle) row →
     Contains (all_rows tables) row
 row_of_all tables cycle row early there =
     subst (λ (some : List (List Row)). Contains (flat_map (λ (rows : List Row). rows) some) row) (sym (take_all (length tables) tables (omega arith)))
     (contains_flat (λ (rows : List Row). rows) tables (table_of tables cycle) row (Contains-get_or tables cycle [] early) there)
 
--- a row stands in the table of some cycle
+-- a row is in the table of some cycle
 pub record StandsIn (tables : List (List Row)) (row : Row) : Type 0 where
   pub cycle : ℕ
   pub early : cycle < length tables
   pub there : Contains (table_of tables cycle) row
 
--- each of all does
+-- each of all rows is
 pub stands_in : (tables : List (List Row)) (row : Row) → Contains (all_rows tables) row → StandsIn tables row
 stands_in tables row there =
     let some = contains_from_flat (λ (rows : List Row). rows) tables row
@@ -73,7 +73,7 @@ stands_in tables row there =
 found_isnt_none : (found : Option Row) (row : Row) → found ≡ None → found ≡ Some row → ⊥
 found_isnt_none found row none some = absurd cc
 
--- a first row of a filter, where what passes the one test passes the other
+-- the first row found in a filtered list, if passing the one test implies passing the other
 pub find_kept : (p q : Row → Bool) (rows : List Row) → ((row : Row) → p row ≡ true → q row ≡ true) → find p (filter q rows) ≡ find p rows
 find_kept p q [] keeps = refl
 find_kept p q (row ∷ rows) keeps = by (q row) (p row) refl (keeps row) (find_kept p q rows keeps)
@@ -85,7 +85,7 @@ find_kept p q (row ∷ rows) keeps = by (q row) (p row) refl (keeps row) (find_k
     by false true is keeps same = absurd (both_ways false refl (keeps is))
     by false false is keeps same = same
 
--- two tests are the same where either follows from the other
+-- two tests are the same if each implies the other
 same_test : (a b : Bool) → (a ≡ true → b ≡ true) → (b ≡ true → a ≡ true) → a ≡ b
 same_test true b there back = sym (there refl)
 same_test false true there back = absurd (both_ways false refl (back refl))
@@ -94,11 +94,11 @@ same_test false false there back = refl
 module _ (d : Domain) (tables : List (List Row)) (table : List Row) (known : ℕ) (may : MayBeTables d (tables ++ table ∷ []))
     (below : (row : Row) → Contains (all_rows tables) row → row.no < known)
     (last : (known ≡ 0) ⊎ ((row : Row) × Contains (all_rows tables) row × (row.no + 1 ≡ known))) where
-  -- a row of the table stands in it
+  -- a row of the table is in it
   in_last : (row : Row) → Contains table row → Contains (table_of (tables ++ table ∷ []) (length tables)) row
   in_last row there = subst (λ (rows : List Row). Contains rows row) (sym (table_last tables table)) there
 
-  -- a number that no row of all has, none of an earlier table has
+  -- if no row has a number, no row of an earlier table has it
   none_earlier : (number : ℕ) → row_of (all_rows tables) number ≡ None → (before : ℕ) → before < length tables →
       list_any (λ (it : Row). it.no == number) (table_of (tables ++ table ∷ []) before) ≡ false
   none_earlier number none before early = elim (cases_Bool (list_any (λ (it : Row). it.no == number) (table_of (tables ++ table ∷ []) before))) [
@@ -110,7 +110,7 @@ module _ (d : Domain) (tables : List (List Row)) (table : List Row) (known : ℕ
         absurd (found_isnt_none (row_of (all_rows tables) number) found.0 none found.1)
   ]
 
-  -- a row of a number below the known ones has come before
+  -- a row with a number below the known ones has arrived before
   pub has_come_before : (row : Row) → Contains table row → row.no < known → row_of (all_rows tables) row.no ≡ None → ⊥
   has_come_before row there low none = elim last [
     | inl zero_known ↦ absurd (omega (arith, zero_known, low))
@@ -124,7 +124,7 @@ module _ (d : Domain) (tables : List (List Row)) (table : List Row) (known : ℕ
         absurd (omega (arith, is, behind, low))
   ]
 
-  -- the new ones come by number behind the known ones
+  -- the new ones follow the known ones by number
   pub new_behind : ComeBehind known (new_rows known table)
   new_behind = record {
     by_number = AllPairs-filter (λ (row other : Row). row.no < other.no) (λ (it : Row). nat_le known it.no) table
@@ -160,22 +160,22 @@ module _ (d : Domain) (tables : List (List Row)) (table : List Row) (known : ℕ
         ∙ ap (λ (found : Option Row). by_row l (option_or found (row_of table number))) (sym none)
   ]
     where
-      -- where nothing can be found there is none
+      -- if nothing can be found, there is none
       none_found : (found : Option Row) → ((row : Row) → found ≡ Some row → ⊥) → found ≡ None
       none_found None never = refl
       none_found (Some row) never = absurd (never row refl)
 
-      -- a row that is found in front is the one
+      -- a row that is found first is the one
       known_one : (one other : Option Row) → (one ≡ None → other ≡ None) → by_row l one ≡ by_row l (option_or one other)
       known_one None other none = ap (by_row l) (sym (none refl))
       known_one (Some row) other none = refl
 
-      -- and where nothing was known, what is found
+      -- and if nothing was known, the one that is found
       new_one : (found : Option Row) → found_or l found Nothing ≡ by_row l found
       new_one None = refl
       new_one (Some row) = refl
 
-  -- whether a row leads from a link to another, by its first hop of this
+  -- whether a row leads from a link to another, by its first hop of the latter
   abbrev by_tree : ℕ → ℕ → Row → Bool
   by_tree l m row = is_link (by_hops l row.tree.items) m
 
@@ -195,7 +195,7 @@ module _ (d : Domain) (tables : List (List Row)) (table : List Row) (known : ℕ
         | inl low ↦ absurd (by (row_of (all_rows tables) row.no) refl low)
       ]
         where
-          -- by the row of its number that came before
+          -- by the row of its number that arrived before
           by : (found : Option Row) → row_of (all_rows tables) row.no ≡ found → row.no < known → ⊥
           by None is low = has_come_before row there low is
           by (Some early) is low =
@@ -209,7 +209,7 @@ module _ (d : Domain) (tables : List (List Row)) (table : List Row) (known : ℕ
               ∙ does in
               both_ways (leads (all_rows tables) m l) none (member_any (leads_row m l) (all_rows tables) early was.0 led)
 
-      -- so where none of all leads, the new ones lead just where the table's do
+      -- so if none of all rows leads, the new ones lead if and only if the table's do
       same : leads (all_rows tables) m l ≡ false → list_any (by_tree l m) (new_rows known table) ≡ list_any (leads_row m l) table
       same none = same_test (list_any (by_tree l m) (new_rows known table)) (list_any (leads_row m l) table)
           (λ some.
@@ -221,7 +221,7 @@ module _ (d : Domain) (tables : List (List Row)) (table : List Row) (known : ℕ
           let new = contains_filter (λ (it : Row). nat_le known it.no) table one.0 one.1 (le-leb known one.0.no (earlier none one.0 one.1 one.2)) in
           member_any (by_tree l m) (new_rows known table) one.0 new (sym (of_tree one.0 one.1) ∙ one.2))
 
-      -- whether one of all leads or not
+      -- whether one of all rows leads or not
       either : (b : Bool) → leads (all_rows tables) m l ≡ b →
           (leads (all_rows tables) m l || list_any (by_tree l m) (new_rows known table)) ≡ (leads (all_rows tables) m l || list_any (leads_row m l) table)
       either true is =

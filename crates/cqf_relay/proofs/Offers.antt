@@ -1,4 +1,4 @@
--- What is counted of the offers of a cycle, and what becomes of one more of them.
+-- The counters of the offers of a cycle, and the verdict on one more of them.
 use Rattle.std.proofs.Common.{◌≡◌, ◌∙◌, ℕ, ◌+◌, ◌++◌, ◌==◌, if◌then◌else◌, not, nat_le, Bool, true, false, List, [], ◌∷◌}
 use Rattle.std.proofs.Common.{Option, Some, None, append_assoc, ap, arith, filter, map, refl, sum_by, sym, subst, zero-add}
 use Rattle.std.specs.List.Sorted.{IsNonDecreasingBy, IsPermutation}
@@ -19,7 +19,7 @@ use Rattle.cqf_relay.specs.declared.edge.Used.{Used}
 use Rattle.cqf_relay.specs.Offering.{CountsUpto, DropsOf, Going, IsSameEdge, JudgesOne, JudgesRow, TakesOffers, came_of_going, covered_behind}
 use Rattle.cqf_relay.specs.Offering.{dropped_behind, going_by, more_of, octets_of, reason_against, taken_by, used_at, verdict_with}
 
--- of each row as much is used in each cycle
+-- the same is used of each row in each cycle
 abbrev pub AreUsedAlike : List Used → List Used → Type 0
 AreUsedAlike before after = (cycle k : ℕ) → used_at after cycle k ≡ used_at before cycle k
 
@@ -28,7 +28,7 @@ abbrev pub verdict_for : Row → Option Reason → Verdict
 verdict_for row None = Queued row
 verdict_for row (Some reason) = DroppedFor reason
 
--- of the same three tests the verdict and the reason are made
+-- the verdict and the reason come from the same three tests
 reason_makes_verdict : (row : Row) (live begins fits : Bool) →
     verdict_for row (if not live then Some Withdrawn else (if not begins then Some OtherBridge else (if not fits then Some Octets else None)))
     ≡ (if not live then DroppedFor Withdrawn else (if not begins then DroppedFor OtherBridge else (if not fits then DroppedFor Octets else Queued row)))
@@ -37,7 +37,7 @@ reason_makes_verdict row true false fits = refl
 reason_makes_verdict row true true false = refl
 reason_makes_verdict row true true true = refl
 
--- the reason against an offer by the row of its name makes the verdict on it
+-- the reason against an offer by the row of its name gives the verdict on it
 pub verdict_by_row : (d : Domain) (bridge cycle : ℕ) (table : List Row) (used : ℕ → ℕ) (x : Offered) (row : Row) (result : Option Reason) →
     row_named table x.offer.stream ≡ Some row → result ≡ reason_against d bridge row cycle (used row.no) x.offer.octets →
     verdict_for row result ≡ verdict_with d bridge cycle table used x
@@ -46,7 +46,7 @@ verdict_by_row d bridge cycle table used x row result named is =
     ∙ reason_makes_verdict row (is_live row cycle) (begins_at d row bridge) (nat_le (used row.no + x.offer.octets) (reserved_in row 0 cycle))
     ∙ sym (ap (edge_verdict d bridge cycle (λ (r : Row). nat_le (used r.no + x.offer.octets) (reserved_in r 0 cycle))) named)
 
--- of a frame that goes on its octets are those of its row
+-- the octets of a frame that goes on are those of its row
 octets_of_one : (g : Going) (b : Bool) → (if b then g.received.octets else 0) ≡ sum_by (λ (h : Going). h.received.octets) (if b then g ∷ [] else [])
 octets_of_one g true = sym (zero-add g.received.octets)
 octets_of_one g false = refl
@@ -80,7 +80,7 @@ judged_by_row d cycle table x before after row result named judged same kept fre
   later = judged.counted.later;
 }
 
--- one against which the row has a reason is dropped
+-- an offer against which the row has a reason is dropped
 pub judged_against : (d : Domain) (cycle : ℕ) (table : List Row) (x : Offered) (before counted after : Edge) (row : Row) (reason : Reason) →
     row_named table x.offer.stream ≡ Some row → IsSameEdge before counted → counted.log ≡ before.log → counted.fresh ≡ before.fresh →
     JudgesRow d before.number row cycle x.offer.octets before.used.items counted.used.items (Some reason) → DropsOf cycle x reason counted after →
@@ -94,7 +94,7 @@ judged_against d cycle table x before counted after row reason named same same_l
     ∙ ap (λ n. counted.fresh.items ++ drop_by cycle n (offer_received x) (DroppedFor reason)) same.number
     ∙ ap (λ fresh. fresh.items ++ drop_by cycle before.number (offer_received x) (DroppedFor reason)) same_fresh)
 
--- the verdict is the same where as much is used of each row
+-- the verdict is the same if the same is used of each row
 same_verdict : (d : Domain) (bridge cycle : ℕ) (table : List Row) (used other : ℕ → ℕ) (x : Offered) → ((k : ℕ) → used k ≡ other k) →
     verdict_with d bridge cycle table used x ≡ verdict_with d bridge cycle table other x
 same_verdict d bridge cycle table used other x same = λ i. verdict_with d bridge cycle table (λ k. same k i) x
@@ -106,7 +106,7 @@ octets_of-append xs ys k =
     let of_row : Going → Bool = λ g. g.row.no == k in
     ap (sum_by octets) (filter-append of_row xs ys) ∙ sum_by-append octets (filter of_row xs) (filter of_row ys)
 
--- one offer more is covered behind those before, or not
+-- one more offer is covered after the earlier ones, or not
 covered-push : (d : Domain) (bridge cycle : ℕ) (table : List Row) (earlier : List Going) (xs : List Offered) (x : Offered) →
     covered_behind d bridge cycle table earlier (xs ++ x ∷ [])
     ≡ covered_behind d bridge cycle table earlier xs
@@ -140,7 +140,7 @@ dropped-push d bridge cycle table earlier (y ∷ ys) x =
     ∙ sym (append_assoc own rest (drop_by cycle bridge (offer_received x) (verdict_with d bridge cycle table
     (octets_of (earlier ++ (goings ++ covered_behind d bridge cycle table (earlier ++ goings) ys))) x)))
 
--- what has become of the first offers of a cycle, one behind the other
+-- the result for the first offers of a cycle, one after the other
 pub record HasJudged (d : Domain) (cycle : ℕ) (table : List Row) (offers : List Offered) (before now : Edge) : Type 0 where
   pub same : IsSameEdge before now
   pub kept : CountsUpto cycle before.used.items →
@@ -150,7 +150,7 @@ pub record HasJudged (d : Domain) (cycle : ℕ) (table : List Row) (offers : Lis
       used_at now.used.items cycle k ≡ octets_of (covered_behind d before.number cycle table [] offers) k
   pub later : CountsUpto cycle before.used.items → CountsUpto (cycle + 1) now.used.items
 
--- at first nothing has
+-- at first there is none
 pub none_judged : (d : Domain) (cycle : ℕ) (table : List Row) (before now : Edge) → IsSameEdge before now → now.log ≡ before.log → now.used ≡ before.used →
     now.fresh.items ≡ [] → HasJudged d cycle table [] before now
 none_judged d cycle table before now same same_log same_used none = record {
@@ -161,7 +161,7 @@ none_judged d cycle table before now same same_log same_used none = record {
   later = λ first k other late. ap (λ used. used_at used.items other k) same_used ∙ first k other (omega (arith, late));
 }
 
--- then one offer more is judged
+-- then one more offer is judged
 pub one_more_judged : (d : Domain) (cycle : ℕ) (table : List Row) (offers : List Offered) (x : Offered) (before now after : Edge) →
     HasJudged d cycle table offers before now → JudgesOne d cycle table x now after → HasJudged d cycle table (offers ++ x ∷ []) before after
 one_more_judged d cycle table offers x before now after has one = record {
@@ -200,7 +200,7 @@ one_more_judged d cycle table offers x before now after has one = record {
     covered_more first =
         ap (λ v. covered ++ going_by x v) (is_verdict first) ∙ sym (covered-push d before.number cycle table [] offers x)
 
--- and behind the last the drops stand by frame
+-- and after the last one the drops are in order of frame
 pub all_judged : (d : Domain) (cycle : ℕ) (table : List Row) (offers : List Offered) (before now after : Edge) (fresh : List Dropped) →
     HasJudged d cycle table offers before now → after.number ≡ now.number → after.log ≡ now.log → after.used ≡ now.used →
     after.drops.items ≡ now.drops.items ++ fresh → IsPermutation now.fresh.items fresh → IsNonDecreasingBy (λ (dropped : Dropped). dropped.frame) fresh →

@@ -1,4 +1,4 @@
--- What a link sends of the frames that wait for it, one behind the other.
+-- What a link sends of the frames that wait for it, one after the other.
 use Rattle.std.proofs.Common.{◌≡◌, ℕ, suc, ◌+◌, ◌*◌, ◌-◌, ◌<◌, ◌≤◌, ◌^◌, ◌++◌, Bool, true, false, cond, List, [], ◌∷◌, length, map, take, get_or, min, sym, ap, ap₂, ◌∙◌, arith, refl, subst}
 use Rattle.std.proofs.Common.{append_assoc, leb, ltb}
 use Rattle.std.specs.List.Sorted.{IsNonDecreasingBy, IsPermutation}
@@ -21,23 +21,23 @@ use Rattle.cqf_relay.specs.Queues.{AreByCycle, AreLeads, key_of_queued, queue_of
 use Rattle.cqf_relay.specs.Sending.{Adds, Hands, IsSameLink, SendsCycles, SendsMore, SendsOne, SendsOneCycle, SendsQueue, base_with, came_of, has_room_on, moving_on}
 use Rattle.cqf_relay.specs.Sending.{offset_behind, sends_of, sent_at, time_on, waits_for}
 
--- where the next frame may start behind some
+-- the offset at which the next frame may start after some
 abbrev pub offset_after : Wire → ℕ → List ArrivedFrame → ℕ
 offset_after wire offset [] = offset
 offset_after wire offset (x ∷ xs) = offset_after wire (offset_behind wire offset x) xs
 
--- behind two lists it's as behind the second, from behind the first
+-- after two lists it is the offset after the second, starting after the first
 pub offset_after-append : (wire : Wire) (offset : ℕ) (xs ys : List ArrivedFrame) →
     offset_after wire offset (xs ++ ys) ≡ offset_after wire (offset_after wire offset xs) ys
 offset_after-append wire offset [] ys = refl
 offset_after-append wire offset (x ∷ xs) ys = offset_after-append wire (offset_behind wire offset x) xs ys
 
--- a choice of one more in front, of two lists end to end
+-- an optional first element of two lists end to end
 choice_append : {X : Type 0} (b : Bool) (x : X) (xs ys : List X) → cond b (x ∷ (xs ++ ys)) (xs ++ ys) ≡ cond b (x ∷ xs) xs ++ ys
 choice_append true x xs ys = refl
 choice_append false x xs ys = refl
 
--- of two lists what is sent of the second comes behind what is sent of the first
+-- what is sent of the second list follows what is sent of the first
 pub sends_of-append : (wire : Wire) (cycle offset : ℕ) (xs ys : List ArrivedFrame) →
     sends_of wire cycle offset (xs ++ ys) ≡ sends_of wire cycle offset xs ++ sends_of wire cycle (offset_after wire offset xs) ys
 sends_of-append wire cycle offset [] ys = refl
@@ -47,7 +47,7 @@ sends_of-append wire cycle offset (x ∷ xs) ys =
     ap (λ (rest : List Sent). cond b (sent_at wire cycle offset x ∷ rest) rest) (sends_of-append wire cycle next xs ys)
     ∙ choice_append b (sent_at wire cycle offset x) (sends_of wire cycle next xs) (sends_of wire cycle (offset_after wire next xs) ys)
 
--- a link is the same as itself, and as one that is the same as another that is
+-- being the same link is reflexive and transitive
 pub same_link : (outlet : Outlet) → IsSameLink outlet outlet
 same_link outlet = record { wire = refl; leads = refl; link = refl; background = refl }
 
@@ -70,7 +70,7 @@ adds_nothing cycle outlet = record {
   ends = λ ends. refl;
 }
 
--- what is sent first says from where cycles are counted, and what is sent later leaves that
+-- what is sent first determines the base of the cycle counts, and what is sent later keeps it
 base_stays : (frames : List Moving) (base cycle : ℕ) (s t : List Sent) (between : ℕ) (f : Sent → Moving) → between ≡ base_with frames base cycle s →
     base_with (frames ++ map f s) between cycle t ≡ base_with frames base cycle (s ++ t)
 base_stays frames base cycle [] t between f is = ap₂ (λ (xs : List Moving) (n : ℕ). base_with xs n cycle t) (append-nil frames) is
@@ -78,7 +78,7 @@ base_stays frames base cycle (x ∷ s) [] between f is = is
 base_stays [] base cycle (x ∷ s) (y ∷ t) between f is = is
 base_stays (m ∷ frames) base cycle (x ∷ s) (y ∷ t) between f is = is
 
--- so what was handed on counts from there too
+-- so what was handed on is counted from there too
 counted_so : (wire : Wire) (frames : List Moving) (cycle : ℕ) (s t : List Sent) (between after : ℕ) →
     after ≡ base_with (frames ++ map (moving_on wire between cycle) s) between cycle t →
     map (moving_on wire between cycle) s ≡ map (moving_on wire after cycle) s
@@ -88,7 +88,7 @@ counted_so wire [] cycle (x ∷ s) (y ∷ t) between after is = ap (λ (n : ℕ)
 counted_so wire (m ∷ frames) cycle (x ∷ s) (y ∷ t) between after is = ap (λ (n : ℕ). map (moving_on wire n cycle) (x ∷ s)) (sym is)
 
 module _ (cycle : ℕ) (s t : List Sent) (a b e : Outlet) (one : Adds cycle s a b) (two : Adds cycle t b e) where
-  -- the base behind the second, from what the first handed on
+  -- the base after the second, from what the first handed on
   base_between : a.wire.onward ≡ true →
       e.pending.base ≡ base_with (a.pending.frames.items ++ map (moving_on a.wire b.pending.base cycle) s) b.pending.base cycle t
   base_between onward =
@@ -108,7 +108,7 @@ module _ (cycle : ℕ) (s t : List Sent) (a b e : Outlet) (one : Adds cycle s a 
       ∙ append_assoc a.pending.frames.items first second
       ∙ ap (λ (xs : List Moving). a.pending.frames.items ++ xs) (sym (map-append (moving_on a.wire e.pending.base cycle) s t))
 
-  -- frames that are sent one list behind the other are sent as one list
+  -- frames that are sent list by list are sent as one list
   pub adds_both : Adds cycle (s ++ t) a e
   adds_both = record {
     same = same_link_again a b e one.same two.same;
@@ -124,7 +124,7 @@ module _ (cycle : ℕ) (s t : List Sent) (a b e : Outlet) (one : Adds cycle s a 
     ends = λ ends. two.ends (ap (λ (w : Wire). w.onward) one.same.wire ∙ ends) ∙ one.ends ends;
   }
 
--- a link has sent the first so many frames of a queue, and the next one may start at an offset
+-- a link has sent the first `many` frames of a queue, and the next one may start at an offset
 pub record HasSent (cycle : ℕ) (queue : List Queued) (many offset : ℕ) (before now : Outlet) : Type 0 where
   pub adds : Adds cycle (sends_of before.wire cycle 0 (map came_of (take many queue))) before now
   pub as_far : now.sent ≡ before.sent
@@ -177,12 +177,12 @@ whole_in_time wire offset octets room =
     let both = and_parts (leb octets 65535) (ltb (offset + time_on wire octets) wire.cycle_time) room in
     (leb-true octets 65535 both.0, ltb-true (offset + time_on wire octets) wire.cycle_time both.1)
 
--- with the gap behind it, it takes little longer
+-- with the gap after it, it takes little longer
 pub soon_behind : (wire : Wire) (offset octets : ℕ) → offset + time_on wire octets < wire.cycle_time → wire.cycle_time < 2 ^ 32 →
     wire.octet_time < 2 ^ 32 → offset + slot_of octets wire.octet_time < 2 ^ 40
 soon_behind wire offset octets whole cycle small = omega (arith, whole, cycle, small, slot_joins octets wire.octet_time)
 
--- when a frame is whole, from the beginning of its cycle
+-- the instant at which a frame is whole, from the beginning of its cycle
 pub whole_from_cycle : (begins offset octets octet_time delay : ℕ) →
     offset + (time_of (octets + 8) octet_time + delay) ≡ ending_of (begins + offset) octets octet_time + delay - begins
 whole_from_cycle begins offset octets octet_time delay = numbers (time_of (octets + 8) octet_time)
@@ -199,7 +199,7 @@ moving_at came at after = record { at = at; frame = came.frame; row = came.row; 
 
 module _ (cycle offset : ℕ) (came : ArrivedFrame) (before after : Outlet) (wire : after.wire ≡ before.wire) (leads : after.leads ≡ before.leads)
     (sent : after.sent ≡ before.sent) (told : after.told ≡ before.told) where
-  -- where a frame has room, it stands on the tape, and where its link ends in another bridge it's to be handed on
+  -- a frame that has room is on the tape, and is to be handed on if its link ends in another bridge
   pub sends_one : (begins time taken : ℕ) → begins ≡ cycle * before.wire.cycle_time → time ≡ time_on before.wire came.octets →
       taken ≡ slot_of came.octets before.wire.octet_time → has_room_on before.wire offset came.octets ≡ true →
       before.wire.cycle_time < 2 ^ 32 → before.wire.octet_time < 2 ^ 32 → after.tape.link ≡ before.tape.link → after.tape.background.items ≡ before.tape.background.items →
@@ -236,7 +236,7 @@ module _ (cycle offset : ℕ) (came : ArrivedFrame) (before after : Outlet) (wir
         );
       }
 
--- nothing waits for the first cycle, and for another one what came in the cycle before it
+-- nothing waits for the first cycle, and for another one what arrived in the cycle before it waits
 pub waits_first : (leads : Leads) (inlets : List Inlet) (edge : SourceLog) (cycle : ℕ) → cycle ≡ 0 → waits_for leads inlets edge cycle ≡ []
 waits_first leads inlets edge cycle first = ap (waits_for leads inlets edge) first
 
@@ -246,7 +246,7 @@ waits_later leads inlets edge cycle before next =
     let again : cycle ≡ suc before = omega (arith, next) in
     ap (waits_for leads inlets edge) again
 
--- a link that has sent what waits for it, in order, has sent in one cycle more
+-- a link that has sent what waits for it, in order, has sent one more cycle
 pub sent_cycle : (inlets : List Inlet) (edge : SourceLog) (before now : Outlet) (waits sorted : List Queued) →
     (AreByCycle inlets edge → AreLeads before.leads → waits ≡ waits_for before.leads inlets edge before.sent) → IsPermutation waits sorted →
     IsNonDecreasingBy key_of_queued sorted → SendsQueue before.sent sorted before now → before.sent < 2 ^ 32 - 1 →
@@ -272,7 +272,7 @@ sent_cycle inlets edge before now waits sorted is moved rises sends early = reco
   as_far = ap (λ (n : ℕ). n + 1) sends.as_far;
 }
 
--- a link has sent up to a cycle, of those up to one that is to be the last
+-- a link has sent up to a cycle, on the way to the last one
 pub record HasSentTo (until upto : ℕ) (inlets : List Inlet) (edge : SourceLog) (before now : Outlet) : Type 0 where
   pub sends : SendsMore (upto - before.sent) inlets edge before now
   pub as_far : now.sent ≡ upto
@@ -300,7 +300,7 @@ module _ (until upto : ℕ) (inlets : List Inlet) (edge : SourceLog) (before now
     within = omega (arith, behind, early);
   }
 
-  -- and at last as far as it is to
+  -- and in the end as far as it should
   pub sent_to_all : until ≤ upto → SendsCycles until inlets edge before now
   sent_to_all end =
       let same : upto - before.sent ≡ until - before.sent = omega (arith, so.within, end) in

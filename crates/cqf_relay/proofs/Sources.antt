@@ -1,4 +1,4 @@
--- What sources bring to a bridge, and what of it is of a cycle.
+-- What sources bring to a bridge, and its part in a cycle.
 use Rattle.std.proofs.Common.{◌≡◌, ℕ, ◌+◌, ◌-◌, ◌*◌, ◌<◌, ◌≤◌, ◌++◌, List, Bool, true, false, drop, get_or, length, sym, ap, ◌∙◌, arith, subst, take, refl}
 use Rattle.std.proofs.Common.{All, AllPairs, Contains, append-nil, append_assoc, eq-eqb, ne_eqb, inl, inr}
 use Rattle.std.specs.Prelude.{◌==◌, ◌⊎◌, ◌||◌, [], ◌∷◌, filter, if◌then◌else◌, map, min, nat_le, nat_lt, replicate}
@@ -38,7 +38,7 @@ use Rattle.cqf_relay.specs.Queues.{AreByCycle, AreLeads, goes_from, queue_of, qu
 use Rattle.cqf_relay.specs.Standing.{Come, IsInletOf, MayHaveCome, with_stretch}
 
 module _ {X : Type 0} where
-  -- where all before a stretch and all behind it fail a test, and all in it pass, the test keeps the stretch
+  -- if all elements before and after a section fail a test, and all in it pass, the test keeps the section
   pub kept_between : (p : X → Bool) (before between behind : List X) → ((x : X) → Contains before x → p x ≡ false) → ((x : X) → Contains between x → p x ≡ true)
       → ((x : X) → Contains behind x → p x ≡ false) → filter p (before ++ (between ++ behind)) ≡ between
   kept_between p before between behind early here late =
@@ -49,27 +49,27 @@ module _ {X : Type 0} where
       ∙ filter-append p between behind ∙ (λ i. own i ++ last i) ∙ append-nil between
 
   module _ (p : X → Bool) (xs : List X) (n : ℕ) (cut : IsPartitionPoint (λ y. p y ≡ true) (λ y. p y ≡ false) xs n) (upto : n ≤ length xs) where
-    -- what stands before a cut passes its test
+    -- an element before a cut passes its test
     pub before_cut : (x : X) → Contains (take n xs) x → p x ≡ true
     before_cut x held =
         let within : held.0 < n = omega (arith, held.1, length-take-le n xs upto) in
         let at : get_or xs held.0 x ≡ x = sym (get_or-take n xs held.0 x within) ∙ held.2 in
         ap p (sym at) ∙ cut.0 held.0 x (omega arith) within
 
-    -- and what stands behind it fails
+    -- and an element after it fails
     pub behind_cut : (x : X) → Contains (drop n xs) x → p x ≡ false
     behind_cut x held =
         let at : get_or xs (n + held.0) x ≡ x = sym (get_or-drop n xs held.0 x) ∙ held.2 in
         ap p (sym at) ∙ cut.1 (n + held.0) x (omega arith) (omega (arith, held.1, length-drop n xs, upto))
 
--- a number that isn't less than another is the same or more
+-- a number that isn't less than another is equal or greater
 not_below : (a b : ℕ) → nat_lt a b ≡ false → b ≤ a
 not_below a b past = elim (cases_lt a b) [
   | inl l ↦ absurd (false≢true (sym past ∙ lt-ltb a b l))
   | inr g ↦ g
 ]
 
--- and one that isn't less or the same is more
+-- and one that isn't less or equal is greater
 not_upto : (a b : ℕ) → nat_le a b ≡ false → b < a
 not_upto a b past = elim (cases_lt b a) [
   | inl l ↦ l
@@ -77,7 +77,7 @@ not_upto a b past = elim (cases_lt b a) [
 ]
 
 module _ {X : Type 0} (key : X → ℕ) where
-  -- of a list whose keys don't go back, what stands from the first cut to the second has the key, and nothing else
+  -- in a list with non-decreasing keys, exactly the elements from the first cut to the second have the key
   pub cut_of_key : (t : ℕ) (xs whole rest : List X) (from count : ℕ) → xs ≡ whole → IsNonDecreasingBy key whole →
       (IsPartitionedBy (λ y. nat_lt (key y) t) xs → IsPartitionPoint (λ y. nat_lt (key y) t ≡ true) (λ y. nat_lt (key y) t ≡ false) xs from) →
       from ≤ length xs → rest ≡ take (length xs - from) (drop from xs) →
@@ -106,7 +106,7 @@ module _ {X : Type 0} (key : X → ℕ) where
       sym (kept_between (λ x. key x == t) (take from xs) (take count rest) (drop count rest) early here late)
       ∙ ap (filter (λ x. key x == t)) (parts ∙ same)
 
--- frames of which those from a cycle on are kept
+-- frames; those from a cycle on are kept
 pub keeps_from : (before : ℕ) (old new : List ArrivedFrame) → new ≡ filter (λ (came : ArrivedFrame). nat_le before came.cycle) old → KeepsFrom before old new
 keeps_from before old new is =
     let keeps = λ (came : ArrivedFrame). nat_le before came.cycle in
@@ -121,7 +121,7 @@ keeps_from before old new is =
 module _ (leads : Leads) (cycle : ℕ) (inlets : List Inlet) (edge : SourceLog) (n : ℕ) (inlet : Inlet) (old now next : List Queued) (needed : Bool)
     (within : n < length inlets) (at : inlet ≡ get_or inlets n inlet) (all : AreByCycle inlets edge)
     (so : now ≡ old ++ flat_map (queued_by leads cycle) (take n inlets)) (asked : needed ≡ list_any (λ it. it == inlet.link) leads.needs.items) where
-  -- with one more inlet's frames behind them those of one inlet more wait
+  -- appending one more inlet's frames gives the frames of one more inlet
   one_more_inlet : next ≡ now ++ queued_by leads cycle inlet → next ≡ old ++ flat_map (queued_by leads cycle) (take (n + 1) inlets)
   one_more_inlet more =
       let by = queued_by leads cycle in
@@ -133,7 +133,7 @@ module _ (leads : Leads) (cycle : ℕ) (inlets : List Inlet) (edge : SourceLog) 
       more ∙ ap (λ (qs : List Queued). qs ++ by inlet) so ∙ append_assoc old (flat_map by (take n inlets)) (by inlet)
       ∙ ap (λ (qs : List Queued). old ++ qs) (sym grown)
 
-  -- the frames of an inlet that is needed are put behind the others
+  -- the frames of an inlet that is needed are appended to the others
   pub needed_inlet : needed ≡ true →
       (ByCycle inlet.log.frames.items → next ≡ now ++ goes_from leads.rows.items (Link inlet.link) inlet.link cycle inlet.log.frames.items) →
       next ≡ old ++ flat_map (queued_by leads cycle) (take (n + 1) inlets)
@@ -143,14 +143,14 @@ module _ (leads : Leads) (cycle : ℕ) (inlets : List Inlet) (edge : SourceLog) 
       one_more_inlet (put up ∙ ap (λ (qs : List Queued). now ++ qs)
       (sym (cond-true (list_any (λ it. it == inlet.link) leads.needs.items) goes [] (sym asked ∙ is_needed))))
 
-  -- and of one that isn't needed none are
+  -- and those of one that isn't needed aren't
   pub unneeded_inlet : needed ≡ false → next ≡ now → next ≡ old ++ flat_map (queued_by leads cycle) (take (n + 1) inlets)
   unneeded_inlet not_so same =
       let goes = goes_from leads.rows.items (Link inlet.link) inlet.link cycle inlet.log.frames.items in
       one_more_inlet (same ∙ sym (append-nil now) ∙ ap (λ (qs : List Queued). now ++ qs)
       (sym (cond-false (list_any (λ it. it == inlet.link) leads.needs.items) goes [] (sym asked ∙ not_so))))
 
--- with the frames of the edge behind those of all inlets all wait that go on
+-- with the frames of the edge after those of all inlets, all that go on are waiting
 pub all_gathered : (leads : Leads) (cycle : ℕ) (inlets : List Inlet) (edge : SourceLog) (n : ℕ) (old now next : List Queued) → length inlets ≤ n →
     now ≡ old ++ flat_map (queued_by leads cycle) (take n inlets) → next ≡ now ++ goes_from leads.rows.items Edge 4096 cycle edge.frames.items →
     next ≡ old ++ queue_of leads inlets edge cycle
@@ -159,7 +159,7 @@ all_gathered leads cycle inlets edge n old now next all so more =
     more ∙ ap (λ (qs : List Queued). qs ++ goes) (so ∙ ap (λ (its : List Inlet). old ++ flat_map (queued_by leads cycle) its) (take_all n inlets all))
     ∙ append_assoc old (flat_map (queued_by leads cycle) inlets) goes
 
--- by a link to which no row leads nothing goes on
+-- nothing goes on by a link to which no row leads
 pub nothing_goes : (leads : Leads) (inlets : List Inlet) (edge : SourceLog) (cycle : ℕ) → AreLeads leads → leads.used ≡ false → queue_of leads inlets edge cycle ≡ []
 nothing_goes leads inlets edge cycle fits unused =
     let by_link : flat_map (queued_by leads cycle) inlets ≡ [] = flat_none (queued_by leads cycle) inlets (λ inlet h.
@@ -170,13 +170,13 @@ nothing_goes leads inlets edge cycle fits unused =
     (λ came h. ap (λ (by : By). same_by by Edge) (fits.unused unused came.row))) in
     λ i. by_link i ++ offered i
 
--- so many rows more are known, of which none leads to the link
+-- this many more rows are known, and none of them leads to the link
 pub record HasNothingMore (count : ℕ) (before now : Leads) : Type 0 where
   pub rows : now.rows.items ≡ before.rows.items ++ replicate count Nothing
   pub needs : now.needs ≡ before.needs
   pub used : now.used ≡ before.used
 
--- at first no row more is known
+-- at first no more rows are known
 pub nothing_first : (count : ℕ) (before : Leads) → count ≡ 0 → HasNothingMore count before before
 nothing_first count before none =
     record {
@@ -187,7 +187,7 @@ nothing_first count before none =
       used = refl;
     }
 
--- and then one more of which none leads to the link
+-- and then one more, which doesn't lead to the link
 pub nothing_more : (count later : ℕ) (before now next : Leads) → later ≡ count + 1 → HasNothingMore count before now →
     next.rows.items ≡ now.rows.items ++ Nothing ∷ [] → next.needs ≡ now.needs → next.used ≡ now.used → HasNothingMore later before next
 nothing_more count later before now next is so rows needs used =
@@ -202,7 +202,7 @@ nothing_more count later before now next is so rows needs used =
     }
 
 module _ (number count : ℕ) (before now between after : Leads) (by way : By) where
-  -- a row is learned where it stands behind these, and what is said of it is noted
+  -- a row is learned after these, and what it says is recorded
   pub row_learned : HasNothingMore count before now → count ≡ number - length before.rows.items → by ≡ way → between.rows.items ≡ now.rows.items ++ by ∷ []
       → between.needs ≡ now.needs → between.used ≡ now.used → after.rows ≡ between.rows →
       ((m : ℕ) → list_any (λ it. it == m) after.needs.items ≡ (list_any (λ it. it == m) between.needs.items || is_link by m)) →
@@ -228,7 +228,7 @@ rises key xs pairs i j d le within = elim (cases_eq i j) [
   | inr differ ↦ pairs i j d (omega (arith, le, differ)) within
 ]
 
--- frames behind others, by cycle both, of which the ones are of cycles before one, and the others of that one and later ones
+-- frames appended to others, both in order of cycle, the latter of cycles before one, and the former of that one and later ones
 pub behind_by_cycle : (begin : ℕ) (old new : List ArrivedFrame) → ByCycle old → All (λ (came : ArrivedFrame). came.cycle < begin) old → ByCycle new →
     All (λ (came : ArrivedFrame). begin ≤ came.cycle) new → ByCycle (old ++ new)
 behind_by_cycle begin old new old_up early new_up late =
@@ -241,17 +241,17 @@ behind_by_cycle begin old new old_up early new_up late =
       All-contains (λ (came : ArrivedFrame). begin ≤ came.cycle) new y late in_new,
     )))
 
--- where all keys are the same, none is less than one before it
+-- if all keys are the same, they don't decrease
 pairs_alike : {X : Type 0} (key : X → ℕ) (k : ℕ) (xs : List X) → ((x : X) → Contains xs x → key x ≡ k) → AllPairs (λ (x y : X). key x ≤ key y) xs
 pairs_alike key k xs same i j d l within =
     omega (arith, same (get_or xs i d) (Contains-get_or xs i d (omega (arith, l, within))), same (get_or xs j d) (Contains-get_or xs j d within))
 
 module _ (d : Domain) (m : ℕ) (sends : List (List Sent)) (begin : ℕ) (stretch : Stretch) (so : IsStretchOf d m sends begin stretch) (few : stretch.upto ≤ 4294967295) where
-  -- what a link sent in the cycle of a number behind the first, as it comes
+  -- what a link sent in the cycle of a number after the first, as it arrives
   abbrev batch_of : ℕ → List ArrivedFrame
   batch_of k = map (came_in d m (begin + k)) (batch_at sends (begin + k))
 
-  -- a frame of the stretch comes as the link sent it
+  -- a frame of the stretch arrives as the link sent it
   comes_as_sent : (k : ℕ) (sent : Sent) → stretch.from ≤ k → k < stretch.upto → came_by_stretch stretch.from (moving_in d m stretch.from k sent) ≡ came_in d m k sent
   comes_as_sent k sent counted before =
       let same : min (stretch.from + (k - stretch.from)) 4294967295 ≡ k = omega (arith, counted, before, few) in
@@ -264,7 +264,7 @@ module _ (d : Domain) (m : ℕ) (sends : List (List Sent)) (begin : ℕ) (stretc
       map (came_by_stretch stretch.from) (map (moving_in d m stretch.from k) (batch_at sends k)) ≡ map (came_in d m k) (batch_at sends k)
   batch_comes k from before = each_comes (batch_at sends k) (so.counts k from before)
     where
-      -- frames come as they were sent where their cycle is counted
+      -- frames arrive as they were sent if their cycle is counted
       each_comes : (batch : List Sent) → ((batch ≡ [] → ⊥) → stretch.from ≤ k) →
           map (came_by_stretch stretch.from) (map (moving_in d m stretch.from k) batch) ≡ map (came_in d m k) batch
       each_comes [] counts = refl
@@ -281,11 +281,11 @@ module _ (d : Domain) (m : ℕ) (sends : List (List Sent)) (begin : ℕ) (stretc
       (λ k. map (came_in d m (begin + k)) (batch_at sends (begin + k))) (stretch.upto - begin)
       (λ k l. batch_comes (begin + k) (omega arith) (omega (arith, l)))
 
-  -- what was sent in a cycle comes in it
+  -- what was sent in a cycle arrives in it
   cycle_of_sent : (k : ℕ) (came : ArrivedFrame) → Contains (map (came_in d m k) (batch_at sends k)) came → came.cycle ≡ k
   cycle_of_sent k came h = sym (ap cycle_of_came (contains_from_map (came_in d m k) (batch_at sends k) came h).2)
 
-  -- of each cycle that a stretch carries its frames are what the link sent in it
+  -- in each cycle that a stretch carries, its frames are what the link sent in it
   pub stretch_in_cycle : (cycle : ℕ) → begin ≤ cycle → cycle < stretch.upto → filter (is_in cycle) (frames_of stretch) ≡ map (came_in d m cycle) (batch_at sends cycle)
   stretch_in_cycle cycle from before =
       let at : begin + (cycle - begin) ≡ cycle = omega (arith, from) in
@@ -303,7 +303,7 @@ module _ (d : Domain) (m : ℕ) (sends : List (List Sent)) (begin : ℕ) (stretc
       let at : came.cycle ≡ begin + r.0 = cycle_of_sent (begin + r.0) came r.2 in
       (omega (arith, at), omega (arith, at, r.1))
 
-  -- so of other cycles it has none
+  -- so it has none of other cycles
   pub stretch_not_in_cycle : (cycle : ℕ) → (cycle < begin) ⊎ (stretch.upto ≤ cycle) → filter (is_in cycle) (frames_of stretch) ≡ []
   stretch_not_in_cycle cycle outside = filter_none (is_in cycle) (frames_of stretch) (λ came h. ne_eqb came.cycle cycle (other came h))
     where
@@ -316,7 +316,7 @@ module _ (d : Domain) (m : ℕ) (sends : List (List Sent)) (begin : ℕ) (stretc
             | inr behind ↦ omega (arith, e, behind, within.1)
           ]
 
-  -- and it may come next, behind what came before its first cycle
+  -- and it may come next, after what arrived before its first cycle
   pub stretch_is_next : IsNextStretch begin stretch
   stretch_is_next =
       record {
@@ -329,7 +329,7 @@ module _ (d : Domain) (m : ℕ) (sends : List (List Sent)) (begin : ℕ) (stretc
         within = all_from_members (λ (came : ArrivedFrame). (begin ≤ came.cycle) × (came.cycle < stretch.upto)) (frames_of stretch) stretch_within;
       }
 
--- what may have come, and behind it a stretch that may come next, may have come
+-- what may have arrived, followed by a stretch that may come next, may have arrived
 pub stretch_may_come : (begin : ℕ) (brought : List ArrivedFrame) (stretch : Stretch) → MayHaveCome begin brought → IsNextStretch begin stretch →
     MayHaveCome stretch.upto (brought ++ frames_of stretch)
 stretch_may_come begin brought stretch may next =
@@ -367,7 +367,7 @@ inlet_takes come least before after stretch is next link upto log =
           ∙ sym (ap (filter (is_in cycle)) more ∙ filter-append (is_in cycle) (come.brought m) (frames_of stretch));
     }
 
--- so one that takes a stretch of what its link sent behind what came before has what its link brought with it
+-- so one that takes a stretch of what its link sent after what arrived before has what its link brought with it
 pub inlet_takes_sent : (d : Domain) (sends : List (List Sent)) (come : Come) (least : ℕ) (before after : Inlet) (stretch : Stretch) → IsInletOf come least before →
     IsStretchOf d before.link sends before.upto stretch → stretch.upto ≤ 4294967295 → after.link ≡ before.link → after.upto ≡ stretch.upto →
     after.log.frames.items ≡ before.log.frames.items ++ frames_of stretch → IsInletOf (with_stretch come before.link stretch) least after

@@ -1,4 +1,4 @@
--- How a bridge stands with one table more.
+-- The state of a bridge with one more table.
 use Rattle.std.proofs.Common.{ℕ, ◌≡◌, ◌∙◌, ◌+◌, ◌-◌, ◌<◌, ◌≤◌, ◌⊎◌, List, [], ◌∷◌, ◌++◌, length, length-append, nat_le}
 use Rattle.std.proofs.Common.{refl, sym, ap, subst, inl, inr, arith, Some, map, get_or, append-nil}
 use Rattle.std.specs.Prelude.{All, Contains, filter, slice_get}
@@ -35,7 +35,7 @@ use Rattle.cqf_relay.proofs.Learning.{ComeBehind, HasLearned, each_learned, late
 use Rattle.cqf_relay.proofs.NewRows.{all_rows_more, knows_with, new_behind, rows_before, table_before, table_last}
 use Rattle.cqf_relay.proofs.Tidy.{same_tidy}
 
--- the covered offers of the cycles before are what they were
+-- the covered offers of the earlier cycles are unchanged
 covered_before : (d : Domain) (bridge cycle : ℕ) (come : Come) (table : List Row) (offers : List Offered) → cycle < length come.tables →
     length come.offers ≡ length come.tables → covered_in d bridge (with_table come table offers) cycle ≡ covered_in d bridge come cycle
 covered_before d bridge cycle come table offers early long =
@@ -48,7 +48,7 @@ covered_last : (d : Domain) (bridge : ℕ) (come : Come) (table : List Row) (off
 covered_last d bridge come table offers long =
     λ i. covered_behind d bridge (length come.tables) (table_last come.tables table i) [] (get_or_at come.offers offers [] [] (length come.tables) long i)
 
--- and behind all there are none
+-- and after all there are none
 covered_none : (d : Domain) (bridge cycle : ℕ) (come : Come) → length come.offers ≤ cycle → covered_in d bridge come cycle ≡ []
 covered_none d bridge cycle come late =
     ap (covered_behind d bridge cycle (table_of come.tables cycle) []) (get_or_past come.offers cycle [] late)
@@ -58,7 +58,7 @@ of_the_cycle : (d : Domain) (cycle : ℕ) (goings : List Going) (came : ArrivedF
 of_the_cycle d cycle goings came there =
     let from = contains_from_map (came_of_going d cycle) goings came there in sym (ap (λ (it : ArrivedFrame). it.cycle) from.2)
 
--- so they are all of those of the cycle
+-- so they are all frames of the cycle
 all_of_cycle : (d : Domain) (cycle : ℕ) (goings : List Going) →
     filter (is_in cycle) (map (came_of_going d cycle) goings) ≡ map (came_of_going d cycle) goings
 all_of_cycle d cycle goings =
@@ -71,7 +71,7 @@ none_of_other d cycle other goings apart =
     filter_none (is_in other) (map (came_of_going d cycle) goings) (λ came there.
     ne_eqb came.cycle other (λ same. apart (sym (of_the_cycle d cycle goings came there) ∙ same)))
 
--- frames of the next cycle may come behind those that have
+-- frames of the next cycle may arrive after those that have
 come_more : (cycle later : ℕ) (xs ys : List ArrivedFrame) → cycle < later → MayHaveCome cycle xs → ((came : ArrivedFrame) → Contains ys came → came.cycle ≡ cycle) →
     MayHaveCome later (xs ++ ys)
 come_more cycle later xs ys early held next = record {
@@ -131,11 +131,11 @@ edge_with d bridge least come table offers before after long stood takes =
     goings : List Going
     goings = covered_behind d bridge cycle table [] offers
 
-    -- and comes in it
+    -- and arrives in it
     fresh : List ArrivedFrame
     fresh = map (came_of_going d cycle) goings
 
-    -- of the next cycle and later ones there were none
+    -- there were none of the next cycle and later ones
     none_yet : (at : ℕ) → least ≤ at → cycle ≤ at → filter (is_in at) before.log.frames.items ≡ []
     none_yet at from late =
         stood.holds at from ∙ ap (map (came_of_going d at)) (covered_none d bridge at come (omega (arith, long, late)))
@@ -161,13 +161,13 @@ edge_with d bridge least come table offers before after long stood takes =
       ]
     ]
 
--- what a link has sent it has sent by what came before
+-- what a link has sent depends on what arrived before
 gone_with : (d : Domain) (bridge l : ℕ) (come : Come) (table : List Row) (offers : List Offered) (sends : List (List Sent)) →
     length come.offers ≡ length come.tables → HasGoneOnBy d bridge come l sends → HasGoneOnBy d bridge (with_table come table offers) l sends
 gone_with d bridge l come table offers sends long gone =
     record { first = gone.first; next = λ cycle early. goes_with cycle (batch_at sends (cycle + 1)) (gone.next cycle early) }
   where
-    -- each step by what came before
+    -- each step by what arrived before
     goes_with : (cycle : ℕ) (sent : List Sent) → GoesOnBy d bridge come l cycle sent → GoesOnBy d bridge (with_table come table offers) l cycle sent
     goes_with cycle sent goes =
         let rows = rows_before come.tables table goes.count goes.within in
@@ -187,7 +187,7 @@ gone_with d bridge l come table offers sends long gone =
           sends = goes.sends;
         }
 
--- how many rows are known, where some more come by number
+-- how many rows are known if more follow by number
 known_up : (known : ℕ) (rows : List Row) → ComeBehind known rows → known ≤ known_behind known rows
 known_up known [] come = omega arith
 known_up known (row ∷ rows) come =
@@ -208,7 +208,7 @@ known_above known (first ∷ rows) come row there =
       | inr rest ↦ known_above (first.no + 1) rows later row rest
     ]
 
--- and the last of them the number before
+-- and the last of them has the number before
 known_last : (known : ℕ) (rows : List Row) →
     (known_behind known rows ≡ known) ⊎ ((row : Row) × Contains rows row × (row.no + 1 ≡ known_behind known rows))
 known_last known [] = inl refl
@@ -217,7 +217,7 @@ known_last known (first ∷ rows) = elim (known_last (first.no + 1) rows) [
   | inr some ↦ inr (some.0, contains_later first rows some.0 some.1, some.2)
 ]
 
--- links of which each has become like another are as many, and alike
+-- links that are replaced one by one by similar ones are as many, and similar
 links_alike : {X Y : Type 0} (f : X → Y) (xs ys : List X) → length ys ≡ length xs →
     ((k : ℕ) (x y : X) → slice_get xs k ≡ Some x → slice_get ys k ≡ Some y → f y ≡ f x) → map f ys ≡ map f xs
 links_alike f xs ys long each =
@@ -230,7 +230,7 @@ links_alike f xs ys long each =
       | inr past ↦ absurd (omega (arith, within, past.0, length-map ys f))
     ])
 
--- what each link keeps as it learns a row all keep as they learn rows
+-- what each link keeps when it learns a row, all keep when they learn rows
 kept_learning : {X : Type 0} (f : Outlet → X) → ((row : Row) (outlet learned : Outlet) → LearnsOf row outlet learned → f learned ≡ f outlet) →
     (rows : List Row) (before after : List Outlet) → LearnEach rows before after → map f after ≡ map f before
 kept_learning f kept [] before after learn = ap (map f) learn
@@ -238,7 +238,7 @@ kept_learning f kept (row ∷ rows) before after learn =
     kept_learning f kept rows learn.0 after learn.2
     ∙ links_alike f before learn.0 learn.1.count (λ k outlet learned was is. kept row outlet learned (learn.1.each k outlet learned was is))
 
--- the links stay as they learn
+-- the links stay when they learn
 links_learned : (rows : List Row) (before after : List Outlet) → LearnEach rows before after → map link_out after ≡ map link_out before
 links_learned rows before after learn =
     kept_learning link_out (λ row outlet learned learns. ap (λ tape. tape.link) learns.tape) rows before after learn
@@ -247,19 +247,19 @@ links_learned rows before after learn =
 wires_learned : (rows : List Row) (before after : List Outlet) → LearnEach rows before after → map wire_out after ≡ map wire_out before
 wires_learned rows before after learn = kept_learning wire_out (λ row outlet learned learns. learns.wire) rows before after learn
 
--- and up to which cycle they have handed on
+-- and the cycles up to which they have handed on
 told_learned : (rows : List Row) (before after : List Outlet) → LearnEach rows before after →
     map (λ (outlet : Outlet). outlet.told) after ≡ map (λ (outlet : Outlet). outlet.told) before
 told_learned rows before after learn =
     kept_learning (λ (outlet : Outlet). outlet.told) (λ row outlet learned learns. learns.told) rows before after learn
 
--- a link that was one before it learned rows
+-- a link before it learned rows
 record WasOne (rows : List Row) (before : List Outlet) (learned : Outlet) : Type 0 where
   outlet : Outlet
   there : Contains before outlet
   has : HasLearned rows outlet learned
 
--- each was one
+-- each was such a link
 was_one : (rows : List Row) (before after : List Outlet) → LearnEach rows before after → (learned : Outlet) → Contains after learned →
     WasOne rows before learned
 was_one rows before after learn learned there =
@@ -267,14 +267,14 @@ was_one rows before after learn learned there =
     let was = each_learned rows before after learn at.0 learned at.1 in
     record { outlet = was.outlet; there = contains_at before at.0 was.outlet was.was; has = was.has }
 
--- tidy links stay tidy as they learn
+-- tidy links stay tidy when they learn
 tidy_learned : (rows : List Row) (before after : List Outlet) → LearnEach rows before after → All IsTidy before → All IsTidy after
 tidy_learned rows before after learn tidy = all_from_members IsTidy after (λ outlet there.
     let was = was_one rows before after learn outlet there in
     same_tidy was.outlet outlet was.has.told was.has.sent (ap (λ (pending : Pending). pending.base) was.has.pending)
     (ap (λ (pending : Pending). pending.frames.items) was.has.pending) (All-contains IsTidy before was.outlet tidy was.there))
 
--- and none has sent more as it learns
+-- and none has sent more when it has learned
 within_learned : (cycles : ℕ) (rows : List Row) (before after : List Outlet) → LearnEach rows before after → All (IsWithin cycles) before →
     All (IsWithin cycles) after
 within_learned cycles rows before after learn within = all_from_members (IsWithin cycles) after (λ outlet there.
@@ -285,7 +285,7 @@ module _ (d : Domain) (bridge : ℕ) (come : Come) (table : List Row) (offers : 
     (may : MayBeTables d (come.tables ++ table ∷ [])) (long : length come.offers ≡ length come.tables)
     (below : (row : Row) → Contains (all_rows come.tables) row → row.no < known)
     (last : (known ≡ 0) ⊎ ((row : Row) × Contains (all_rows come.tables) row × (row.no + 1 ≡ known))) where
-  -- the new rows come by number behind the known ones
+  -- the new rows follow the known ones by number
   behind : ComeBehind known (new_rows known table)
   behind = new_behind d come.tables table known may below last
 
@@ -315,12 +315,12 @@ module _ (d : Domain) (bridge : ℕ) (come : Come) (table : List Row) (offers : 
             (gone_with d bridge before.tape.link come table offers sends long stood.gone);
       }
 
-  -- a row of all tables with the next one is of those before, or of it
+  -- a row of all tables with the next one is of the earlier ones, or of the next one
   of_either : (row : Row) → Contains (all_rows (come.tables ++ table ∷ [])) row → Contains (all_rows come.tables) row ⊎ Contains table row
   of_either row there = Contains-append_cases (all_rows come.tables) table row
       (subst (λ (rows : List Row). Contains rows row) (all_rows_more come.tables table) there)
 
-  -- and the other way round
+  -- and conversely
   of_all : (row : Row) → Contains (all_rows come.tables ++ table) row → Contains (all_rows (come.tables ++ table ∷ [])) row
   of_all row there = subst (λ (rows : List Row). Contains rows row) (sym (all_rows_more come.tables table)) there
 
@@ -357,20 +357,20 @@ module _ (d : Domain) (bridge : ℕ) (come : Come) (table : List Row) (offers : 
           let up : known ≤ known_behind known (new_rows known table) = known_up known (new_rows known table) behind in
           omega (arith, low, up)
 
--- a bridge that has learned rows, with what its edge took
+-- a bridge that has learned rows, with the edge after its offers
 abbrev pub with_edge : Relay → Edge → Relay
 with_edge learned edge = record learned { tables = learned.tables + 1; edge = edge }
 
 module _ (table : List Row) (offers : List Offered) (before learned : Relay) (edge : Edge) (learn : LearnsRows table before learned)
     (took : TakesOffers (arc_value learned.domain) learned.tables table offers learned.edge edge) where
-  -- the edge took the offers as it was before
+  -- the edge, as it was before, took the offers
   takes : TakesOffers (arc_value before.domain) before.tables table offers before.edge edge
   takes =
       subst (λ (from : Edge). TakesOffers (arc_value before.domain) before.tables table offers from edge) learn.edge
       (subst (λ (cycle : ℕ). TakesOffers (arc_value before.domain) cycle table offers learned.edge edge) learn.tables
       (subst (λ (d : Domain). TakesOffers d learned.tables table offers learned.edge edge) (ap arc_value learn.domain) took))
 
-  -- however the bridge stood, it stands with the table
+  -- any state of the bridge becomes the state with the table
   table_stands : (d : Domain) (come : Come) (sends : Sendings) → StandsSo d come sends before → MayBeTables d (come.tables ++ table ∷ []) →
       StandsSo d (with_table come table offers) sends (with_edge learned edge)
   table_stands d come sends stood may =

@@ -1,4 +1,4 @@
--- Relays to which a stretch comes.
+-- Relays to which a stretch is given.
 use Rattle.std.proofs.Common.{◌≡◌, ◌≢◌, ◌∙◌, ℕ, ◌+◌, ◌-◌, ◌<◌, ◌≤◌, ◌==◌, ◌&&◌, if◌then◌else◌, Bool, true, false}
 use Rattle.std.proofs.Common.{List, [], ◌++◌, Some, All, AllPairs, Contains, filter, get_or, length, map, set}
 use Rattle.std.proofs.Common.{refl, sym, ap, subst, inl, inr, arith, append-nil, get_or-set_other, get_or-set_same, eq-eqb, ne_eqb}
@@ -38,7 +38,7 @@ use Rattle.cqf_relay.proofs.Handing.{all_at}
 
 -- ---- lists whose numbers ascend
 
--- a list that doesn't fall, behind another with no larger numbers
+-- a non-decreasing list, appended to another with no larger numbers
 pub rising_append : {X : Type 0} (n : X → ℕ) (xs ys : List X) → IsNonDecreasingBy n xs → IsNonDecreasingBy n ys →
     ((x y : X) → Contains xs x → Contains ys y → n x ≤ n y) → IsNonDecreasingBy n (xs ++ ys)
 rising_append n xs ys first second across i j d le inside = elim (cases_lt j (length xs)) [
@@ -64,7 +64,7 @@ rising_append n xs ys first second across i j d le inside = elim (cases_lt j (le
       ]
 ]
 
--- elements at two places have two numbers, where the numbers ascend
+-- elements at two indices have two numbers if the numbers ascend
 pub apart_at : {X : Type 0} (f : X → ℕ) (xs : List X) (i j : ℕ) (x y : X) → AllPairs (λ (a b : ℕ). a < b) (map f xs) → i ≢ j →
     slice_get xs i ≡ Some x → slice_get xs j ≡ Some y → f x ≢ f y
 apart_at {X} f xs i j x y ascend differ at_i at_j same = elim (cases_order i j) [
@@ -75,7 +75,7 @@ apart_at {X} f xs i j x y ascend differ at_i at_j same = elim (cases_order i j) 
   ]
 ]
   where
-    -- the number of an element stands at its place
+    -- the number of an element is at its index
     number_at : (k : ℕ) (z : X) → slice_get xs k ≡ Some z → get_or (map f xs) k 0 ≡ f z
     number_at k z at = get_or-map f xs k z 0 (slice_get_within xs k z at) ∙ ap f (get_or_from_slice_get xs k z z at)
 
@@ -83,30 +83,30 @@ apart_at {X} f xs i j x y ascend differ at_i at_j same = elim (cases_order i j) 
     within : (k : ℕ) (z : X) → slice_get xs k ≡ Some z → k < length (map f xs)
     within k z at = omega (arith, slice_get_within xs k z at, length-map xs f)
 
--- ---- what has come, and what of it goes on
+-- ---- what has arrived, and what of it goes on
 
--- what has come by a link has more behind it when a stretch comes by it
+-- a stretch by a link is appended to what has arrived by that link
 own_more : (brought : ℕ → List ArrivedFrame) (m : ℕ) (more : List ArrivedFrame) → more_from brought m more m ≡ brought m ++ more
 own_more brought m more = cond-true (m == m) (brought m ++ more) (brought m) (eq-eqb m m refl)
 
--- and stays when one comes by another
+-- and what has arrived by another link stays
 other_more : (brought : ℕ → List ArrivedFrame) (m : ℕ) (more : List ArrivedFrame) (k : ℕ) → k ≢ m → more_from brought m more k ≡ brought k
 other_more brought m more k apart = cond-false (k == m) (brought k ++ more) (brought k) (ne_eqb k m apart)
 
--- up to where it has come is the stretch's end
+-- the link has brought the cycles up to the stretch's end
 own_upto : (upto : ℕ → ℕ) (m later : ℕ) → upto_from upto m later m ≡ later
 own_upto upto m later = cond-true (m == m) later (upto m) (eq-eqb m m refl)
 
--- and stays when the stretch comes by another
+-- and the bound of another link stays
 other_upto : (upto : ℕ → ℕ) (m later k : ℕ) → k ≢ m → upto_from upto m later k ≡ upto k
 other_upto upto m later k apart = cond-false (k == m) later (upto k) (ne_eqb k m apart)
 
--- what may have come, by equal bounds and lists
+-- what may have arrived, with equal bounds and lists
 may_same : (upto later : ℕ) (xs ys : List ArrivedFrame) → later ≡ upto → ys ≡ xs → MayHaveCome upto xs → MayHaveCome later ys
 may_same upto later xs ys bound same may =
     subst (λ (n : ℕ). MayHaveCome n ys) (sym bound) (subst (λ (zs : List ArrivedFrame). MayHaveCome upto zs) (sym same) may)
 
--- what has come with a stretch that may come next behind it may have come
+-- what has arrived, followed by a stretch that may come next, may have arrived
 pub more_may_come : (begin : ℕ) (stretch : Stretch) (brought : List ArrivedFrame) → IsNextStretch begin stretch → MayHaveCome begin brought →
     MayHaveCome stretch.upto (brought ++ frames_of stretch)
 more_may_come begin stretch brought next may =
@@ -121,7 +121,7 @@ more_may_come begin stretch brought next may =
           (All-weaker InStretch (λ (came : ArrivedFrame). came.cycle < stretch.upto) (λ came both. both.1) (frames_of stretch) next.within);
     }
   where
-    -- a cycle before the stretch's is no later than one of these
+    -- a cycle before the stretch's is not later than one of these
     across : (early late : ℕ) → early < begin → begin ≤ late → early ≤ late
     across early late before from = omega (arith, before, from)
 
@@ -129,7 +129,7 @@ more_may_come begin stretch brought next may =
     below : {cycle : ℕ} → cycle < begin → cycle < stretch.upto
     below soon = omega (arith, soon, next.behind)
 
--- a stretch that comes next has nothing of the cycles before
+-- a stretch that comes next has nothing of earlier cycles
 pub none_before : (begin cycle : ℕ) (stretch : Stretch) → IsNextStretch begin stretch → cycle < begin → filter (is_in cycle) (frames_of stretch) ≡ []
 none_before begin cycle stretch next soon = filter_none (is_in cycle) (frames_of stretch) (λ came held.
     ne_eqb came.cycle cycle
@@ -139,7 +139,7 @@ none_before begin cycle stretch next soon = filter_none (is_in cycle) (frames_of
     late : (other : ℕ) → begin ≤ other → other ≢ cycle
     late other from same = omega (arith, from, same, soon)
 
--- the inlet to which the stretch comes
+-- the inlet that takes the stretch
 pub inlet_takes : (come : Come) (least : ℕ) (before after : Inlet) (stretch : Stretch) → after.link ≡ before.link → after.upto ≡ stretch.upto →
     after.log.frames.items ≡ before.log.frames.items ++ frames_of stretch → IsNextStretch before.upto stretch → IsInletOf come least before →
     IsInletOf (with_stretch come before.link stretch) least after
@@ -165,7 +165,7 @@ inlet_takes come least before after stretch link upto log next stands =
           ∙ ap (λ (l : ℕ). filter (is_in cycle) (now.brought l)) (sym link);
     }
 
--- and one of another link
+-- and the inlet of another link
 pub inlet_beside : (come : Come) (least m : ℕ) (stretch : Stretch) (inlet : Inlet) → inlet.link ≢ m → IsInletOf come least inlet →
     IsInletOf (with_stretch come m stretch) least inlet
 inlet_beside come least m stretch inlet apart stands =
@@ -200,7 +200,7 @@ inlets_take come least place stretch inlets old new ascend at link upto log next
           (stand k d inside))
     ]
 
--- what had come of a cycle is the same when a stretch comes behind it
+-- what had arrived in a cycle is the same after a later stretch
 pub brought_same : (come : Come) (m : ℕ) (stretch : Stretch) (k cycle : ℕ) → IsNextStretch (come.upto m) stretch → cycle < come.upto k →
     filter (is_in cycle) (come.brought k) ≡ filter (is_in cycle) ((with_stretch come m stretch).brought k)
 brought_same come m stretch k cycle next had = elim (cases_eq k m) [
@@ -214,14 +214,14 @@ brought_same come m stretch k cycle next had = elim (cases_eq k m) [
   | inr apart ↦ ap (filter (is_in cycle)) (sym (other_more come.brought m (frames_of stretch) k apart))
 ]
 
--- and so what goes on of it by a link
+-- and so is what goes on of it by a link
 pub comes_same : (d : Domain) (bridge : ℕ) (come : Come) (m : ℕ) (stretch : Stretch) (rows : List Row) (l cycle k : ℕ) → IsNextStretch (come.upto m) stretch →
     (enters d k bridge ≡ true → leads rows k l ≡ true → cycle < come.upto k) →
     comes_by d bridge come rows l cycle k ≡ comes_by d bridge (with_stretch come m stretch) rows l cycle k
 comes_same d bridge come m stretch rows l cycle k next had =
     where_led (enters d k bridge) (leads rows k l) (λ here led. brought_same come m stretch k cycle next (had here led))
   where
-    -- what comes where a link is led from is the same where the frames are
+    -- if the frames are the same, so are those that go on
     where_led : (a b : Bool) →
         (a ≡ true → b ≡ true → filter (is_in cycle) (come.brought k) ≡ filter (is_in cycle) ((with_stretch come m stretch).brought k)) →
         (if a && b then that_go_on rows l (way.Link k) k (filter (is_in cycle) (come.brought k)) else [])
@@ -230,7 +230,7 @@ comes_same d bridge come m stretch rows l cycle k next had =
     where_led true false same = refl
     where_led false b same = refl
 
--- up to where it has come is no less far with a stretch
+-- with a stretch, at least as many cycles have arrived
 upto_grows : (come : Come) (m : ℕ) (stretch : Stretch) (k cycle : ℕ) → IsNextStretch (come.upto m) stretch → cycle < come.upto k → cycle < (with_stretch come m stretch).upto k
 upto_grows come m stretch k cycle next had = elim (cases_eq k m) [
   | inl e ↦
@@ -240,7 +240,7 @@ upto_grows come m stretch k cycle next had = elim (cases_eq k m) [
   | inr apart ↦ subst (λ (n : ℕ). cycle < n) (sym (other_upto come.upto m stretch.upto k apart)) had
 ]
 
--- a link that has gone on has gone on so with a stretch more
+-- a link that has gone on has gone on in the same way with one more stretch
 pub goes_on_still : (d : Domain) (bridge : ℕ) (come : Come) (m : ℕ) (stretch : Stretch) (l cycle : ℕ) (sent : List Sent) → IsNextStretch (come.upto m) stretch →
     GoesOnBy d bridge come l cycle sent → GoesOnBy d bridge (with_stretch come m stretch) l cycle sent
 goes_on_still d bridge come m stretch l cycle sent next goes = record {
@@ -260,7 +260,7 @@ goes_on_still d bridge come m stretch l cycle sent next goes = record {
   sends = goes.sends;
 }
 
--- and so a link that leaves the bridge stands
+-- and the state of a link that leaves the bridge holds
 pub outlet_beside : (d : Domain) (bridge : ℕ) (come : Come) (m : ℕ) (stretch : Stretch) (sends : List (List Sent)) (outlet : Outlet) →
     IsNextStretch (come.upto m) stretch → IsOutletOf d bridge come sends outlet → IsOutletOf d bridge (with_stretch come m stretch) sends outlet
 outlet_beside d bridge come m stretch sends outlet next stands = record {
@@ -278,13 +278,13 @@ outlet_beside d bridge come m stretch sends outlet next stands = record {
   };
 }
 
--- and the edge, which sees nothing of stretches
+-- and that of the edge, which doesn't depend on stretches
 edge_beside : (d : Domain) (bridge : ℕ) (come : Come) (m : ℕ) (stretch : Stretch) (least : ℕ) (edge : Edge) → IsEdgeOf d bridge come least edge →
     IsEdgeOf d bridge (with_stretch come m stretch) least edge
 edge_beside d bridge come m stretch least edge stands =
     record { number = stands.number; held = stands.held; holds = stands.holds; counted = stands.counted }
 
--- what a bridge does that takes a stretch at a place
+-- a bridge takes a stretch at an index
 pub record TakesAt (place : ℕ) (stretch : Stretch) (before after : Relay) : Type 0 where
   pub domain : after.domain ≡ before.domain
   pub number : after.number ≡ before.number
@@ -301,7 +301,7 @@ pub record TakesAt (place : ℕ) (stretch : Stretch) (before after : Relay) : Ty
   pub upto : new.upto ≡ stretch.upto
   pub log : new.log.frames.items ≡ old.log.frames.items ++ frames_of stretch
 
--- then it stands so with what came
+-- then its state holds with what arrived
 pub relay_takes : (d : Domain) (come : Come) (sends : Sendings) (place : ℕ) (stretch : Stretch) (before after : Relay) (takes : TakesAt place stretch before after) →
     IsNextStretch takes.old.upto stretch → StandsSo d come sends before → StandsSo d (with_stretch come takes.old.link stretch) sends after
 relay_takes d come sends place stretch before after takes next stands =
@@ -362,7 +362,7 @@ takes_stretch place stretch before after takes = record {
       (same_Some takes.old inlet (sym takes.was ∙ there)) (λ next. relay_takes d come sends place stretch before after takes next stands);
 }
 
--- where it is taken with no fault
+-- if it is taken without a fault
 pub stretch_taken : {T E : Type 0} (result : Result T E) (place : ℕ) (stretch : Stretch) (before after : Relay) (old new : Inlet) →
     (new.upto ≡ stretch.upto → new.log.frames.items ≡ old.log.frames.items ++ frames_of stretch → TakesAt place stretch before after) →
     OnOk result (new.upto ≡ stretch.upto) → OnOk result (new.log.frames.items ≡ old.log.frames.items ++ frames_of stretch) →

@@ -1,4 +1,4 @@
--- Whatever a link sends, what it is to hand on stays tidy.
+-- The frames that a link is to hand on stay tidy, no matter what it sends.
 use Rattle.std.proofs.Common.{◌≡◌, ℕ, zero, suc, ◌+◌, ◌-◌, ◌<◌, ◌≤◌, ◌++◌, List, [], ◌∷◌, length, map, get_or, min, All, sym, ap, ◌∙◌, arith, inl, inr, refl, subst, length-append}
 use Rattle.std.proofs.lemmas.Bool.{cases_Bool, cases_lt}
 use Rattle.std.proofs.lemmas.List.{get_or-append_right, get_or-map, get_or_append_left, length-map, map-append}
@@ -15,7 +15,7 @@ use Rattle.cqf_relay.specs.declared.wire.Wire.{Wire}
 use Rattle.cqf_relay.specs.Logs.{ByCycle, came_by_stretch, cycle_of_came}
 use Rattle.cqf_relay.specs.Sending.{IsTidy, KeepsStretchBack, SendsCycles, SendsMore, SendsOneCycle, TakesPending, base_with, moving_on}
 
--- frames of one cycle, behind others of cycles up to that, stand by cycle with them
+-- frames of one cycle, appended to others of cycles up to that one, are in order of cycle with them
 by_cycle_behind : (old new : List ArrivedFrame) (cycle : ℕ) → ByCycle old → All (λ (x : ArrivedFrame). x.cycle ≤ cycle) old → All (λ (x : ArrivedFrame). x.cycle ≡ cycle) new →
     ByCycle (old ++ new)
 by_cycle_behind old new cycle rises below same = λ i j d before inside.
@@ -45,12 +45,12 @@ by_cycle_behind old new cycle rises below same = λ i j d before inside.
           ]
     ]
 
--- what holds of each image
+-- a property of each image
 all_of_map : {X Y : Type 0} (P : Y → Type 0) (f : X → Y) (xs : List X) → All P (map f xs) → All (λ (x : X). P (f x)) xs
 all_of_map P f xs each = λ k d inside.
     subst P (get_or-map f xs k d (f d) inside) (each k (f d) (omega (arith, length-map xs f, inside)))
 
--- the cycle in which a frame comes that a link sends, which counts cycles from a base, and the greatest number of one
+-- the cycle in which a frame that a link sends arrives, counted from a base, and the greatest cycle number
 abbrev pub last_cycle : ℕ
 last_cycle = 4294967295
 
@@ -63,7 +63,7 @@ pub record ArePending (told sent base : ℕ) (frames : List Moving) : Type 0 whe
   pub within : All (λ (came : ArrivedFrame). (told ≤ came.cycle) × (came.cycle < sent)) (map (came_by_stretch base) frames)
   pub counted : All (λ (moving : Moving). moving.after ≤ 65535) frames
 
--- what a link sends in its next cycle comes behind what it is to hand on
+-- what a link sends in its next cycle follows what it is to hand on
 comes_behind : (told cycle base after : ℕ) → cycle ≤ last_cycle → told ≤ min (base + after) last_cycle → min (base + after) last_cycle < cycle →
     after ≤ 65535 → (min (base + after) last_cycle ≤ coming_cycle base cycle) × (told ≤ coming_cycle base cycle) × (coming_cycle base cycle < cycle + 1)
 comes_behind told cycle base after early handed before few =
@@ -93,7 +93,7 @@ module _ (told cycle base : ℕ) (frames : List Moving) (wire : Wire) (sents : L
         counted = All-append (λ (x : Moving). x.after ≤ 65535) frames moving are.counted few;
       }
 
--- so whatever a link sends in its next cycle, where it ends in another bridge
+-- so they stay tidy, no matter what a link that ends in another bridge sends in its next cycle
 pending_stay : (told cycle base after : ℕ) (frames : List Moving) (wire : Wire) (sents : List Sent) → told ≤ cycle → cycle ≤ last_cycle →
     after ≡ base_with frames base cycle sents → ArePending told cycle base frames →
     ArePending told (cycle + 1) after (frames ++ map (moving_on wire after cycle) sents)
@@ -124,7 +124,7 @@ pending_stay told cycle base after (m ∷ frames) wire sents handed early is are
     base_of_some m frames base cycle [] = refl
     base_of_some m frames base cycle (x ∷ sents) = refl
 
--- where it ends in a station nothing is added
+-- if it ends in a station, nothing is added
 pending_keep : (told cycle base : ℕ) (frames : List Moving) → ArePending told cycle base frames → ArePending told (cycle + 1) base frames
 pending_keep told cycle base frames are = record {
   by_cycle = are.by_cycle;
@@ -137,7 +137,7 @@ pending_keep told cycle base frames are = record {
 pending_of_tidy : (outlet : Outlet) → IsTidy outlet → ArePending outlet.told outlet.sent outlet.pending.base outlet.pending.frames.items
 pending_of_tidy outlet tidy = record { by_cycle = tidy.by_cycle; within = tidy.within; counted = tidy.counted }
 
--- so in one cycle more it stays tidy
+-- so it stays tidy in one more cycle
 pub tidy_one : (inlets : List Inlet) (edge : SourceLog) (before after : Outlet) → IsTidy before → SendsOneCycle inlets edge before after → IsTidy after
 tidy_one inlets edge before after tidy sends =
     let early : before.sent ≤ last_cycle = omega (arith, sends.early) in
@@ -163,14 +163,14 @@ tidy_one inlets edge before after tidy sends =
       counted = as_far.counted;
     }
 
--- and in as many
+-- and in this many
 pub tidy_more : (cycles : ℕ) (inlets : List Inlet) (edge : SourceLog) (before after : Outlet) → IsTidy before →
     SendsMore cycles inlets edge before after → IsTidy after
 tidy_more zero inlets edge before after tidy same = subst IsTidy (sym same) tidy
 tidy_more (suc cycles) inlets edge before after tidy sends =
     tidy_one inlets edge sends.0 after (tidy_more cycles inlets edge before sends.0 tidy sends.1) sends.2
 
--- a tidy link stays tidy up to whichever cycle it sends
+-- a tidy link stays tidy up to any cycle
 pub tidy_sends : (until : ℕ) (inlets : List Inlet) (edge : SourceLog) (before after : Outlet) → IsTidy before →
     SendsCycles until inlets edge before after → IsTidy after
 tidy_sends until inlets edge before after tidy sends = tidy_more (until - before.sent) inlets edge before after tidy sends
@@ -188,7 +188,7 @@ nothing_tidy outlet handed none = record {
       (sym none) (All-nil (λ (came : ArrivedFrame). (outlet.told ≤ came.cycle) × (came.cycle < outlet.sent)));
 }
 
--- a link that has sent and handed on as far as a tidy one, and is to hand on the same, is tidy
+-- a link that has sent and handed on as far as a tidy one, and has the same to hand on, is tidy
 pub same_tidy : (before after : Outlet) → after.told ≡ before.told → after.sent ≡ before.sent → after.pending.base ≡ before.pending.base →
     after.pending.frames.items ≡ before.pending.frames.items → IsTidy before → IsTidy after
 same_tidy before after told sent base frames tidy =
@@ -205,11 +205,11 @@ same_tidy before after told sent base frames tidy =
           (map (came_by_stretch before.pending.base) before.pending.frames.items) tidy.within);
     }
 
--- a link that hands on what it sent is tidy, whatever that was
+-- a link that has handed on what it sent is tidy
 pub hands_tidy : (before after : Outlet) (stretch : Stretch) → TakesPending before after stretch → IsTidy after
 hands_tidy before after stretch takes = nothing_tidy after (omega (arith, takes.told, takes.as_far)) takes.none
 
--- and one that has back what it handed on is tidy where it was so before
+-- and one that takes back what it handed on is tidy if it was so before
 pub back_tidy : (older before after : Outlet) (told : ℕ) (stretch : Stretch) → TakesPending older before stretch → KeepsStretchBack told stretch before after →
     told ≡ older.told → IsTidy older → IsTidy after
 back_tidy older before after told stretch takes keeps by_then =

@@ -1,4 +1,4 @@
--- Which rows lead to a link.
+-- The rows that lead to a link.
 use Rattle.std.specs.Prelude.{ℕ, ◌≡◌, ◌-◌, ◌++◌, ◌==◌, ◌||◌, Bool, true, false, if◌then◌else◌, List, [], ◌∷◌, Option, Some, None, length, replicate, slice_index_or}
 use Rattle.std.specs.List.{list_any}
 use Rattle.cqf_model.specs.declared.topology.Hop.{Hop}
@@ -8,26 +8,26 @@ use Rattle.cqf_relay.specs.declared.leads.By.{By}
 use Rattle.cqf_relay.specs.declared.leads.By.TheVariants.{Nothing, Edge, Link}
 use Rattle.cqf_relay.specs.declared.leads.Leads.{Leads}
 
--- whether a row of a table leads from one link to another: its tree has the other behind the one
+-- whether a row of a table leads from link m to link l: l follows m in the row's tree
 abbrev pub leads : List Row → ℕ → ℕ → Bool
 leads table m l = list_any (λ (row : Row). list_any (λ next. next == l) (goes_to row (Some m))) table
 
--- by the link before a hop, where there is one
+-- how frames arrive, by the link before a hop, if there is one
 abbrev pub by_way : Option ℕ → By
 by_way None = Edge
 by_way (Some m) = Link m
 
--- how the frames come that go on by a link, by the first hop of their row's tree that has it
+-- how the frames that go on by a link arrive, by the first hop of their row's tree that has this link
 abbrev pub by_hops : ℕ → List Hop → By
 by_hops l [] = Nothing
 by_hops l (hop ∷ hops) = if hop.link == l then by_way hop.from else by_hops l hops
 
--- by their row, where there is one
+-- the same by their row, if there is one
 abbrev pub by_row : ℕ → Option Row → By
 by_row l None = Nothing
 by_row l (Some row) = by_hops l row.tree.items
 
--- whether frames come the same way
+-- whether frames arrive in the same way
 abbrev pub same_by : By → By → Bool
 same_by Nothing Nothing = true
 same_by Nothing Edge = false
@@ -43,7 +43,7 @@ same_by (Link k) (Link m) = k == m
 abbrev pub by_at : List By → ℕ → By
 by_at rows number = slice_index_or rows number Nothing
 
--- whether a link is needed of which a row is known that it leads from, and whether any row is
+-- whether the frames arrive by link m, so that this link is needed; and whether they arrive at all
 abbrev pub is_link : By → ℕ → Bool
 is_link Nothing m = false
 is_link Edge m = false
@@ -54,7 +54,7 @@ is_some Nothing = false
 is_some Edge = true
 is_some (Link m) = true
 
--- a row is learned behind those that are known, and no row between
+-- a row is learned after the known ones, and no row in between leads to the link
 pub record LearnsRow (number : ℕ) (by : By) (before after : Leads) : Type 0 where
   pub rows : after.rows.items ≡ before.rows.items ++ replicate (number - length before.rows.items) Nothing ++ by ∷ []
   pub needs : (m : ℕ) → list_any (λ it. it == m) after.needs.items ≡ (list_any (λ it. it == m) before.needs.items || is_link by m)

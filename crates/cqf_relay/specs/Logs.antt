@@ -1,27 +1,27 @@
--- What sources bring to a bridge, cycle by cycle.
+-- The frames that sources bring to a bridge, cycle by cycle.
 use Rattle.std.specs.Prelude.{ℕ, ◌≡◌, ◌+◌, ◌≤◌, ◌==◌, Bool, Contains, List, filter, min}
 use Rattle.std.specs.List.Sorted.{IsNonDecreasingBy}
 use Rattle.cqf_relay.specs.declared.log.ArrivedFrame.{ArrivedFrame}
 use Rattle.cqf_relay.specs.declared.moving.Moving.{Moving}
 
--- the cycle in which a frame came, and whether it is this one
+-- the cycle in which a frame arrived, and whether it is the given one
 abbrev pub cycle_of_came : ArrivedFrame → ℕ
 cycle_of_came came = came.cycle
 
 abbrev pub is_in : ℕ → ArrivedFrame → Bool
 is_in cycle came = came.cycle == cycle
 
--- frames that stand by cycle
+-- the frames are in order of cycle
 abbrev pub ByCycle : List ArrivedFrame → Type 0
 ByCycle frames = IsNonDecreasingBy cycle_of_came frames
 
--- what came from a cycle on is kept, in its order, and nothing else comes
+-- what arrived in cycle `before` or later is kept, in order, and nothing is added
 pub record KeepsFrom (before : ℕ) (old new : List ArrivedFrame) : Type 0 where
   pub by_cycle : ByCycle old → ByCycle new
   pub kept : (cycle : ℕ) → before ≤ cycle → filter (is_in cycle) new ≡ filter (is_in cycle) old
   pub no_more : (came : ArrivedFrame) → Contains new came → Contains old came
 
--- a frame of a stretch that begins in a cycle, as it came; cycles are numbered in 32 bits
+-- the arrival of a frame of a stretch whose first frame is of cycle `from`; cycles are numbered in 32 bits
 abbrev pub came_by_stretch : ℕ → Moving → ArrivedFrame
 came_by_stretch from moving =
     record { cycle = min (from + moving.after) 4294967295; at = moving.at; frame = moving.frame; row = moving.row; octets = moving.octets }

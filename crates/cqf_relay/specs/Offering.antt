@@ -1,4 +1,4 @@
--- What becomes of the offers of a cycle at a bridge.
+-- The verdicts on the offers of a cycle at a bridge.
 use Rattle.std.specs.Prelude.{ℕ, ◌≡◌, ◌+◌, ◌*◌, ◌-◌, ◌≤◌, ◌<◌, ◌++◌, ◌==◌, if◌then◌else◌, not, nat_le, List, [], ◌∷◌, Bool, true, false, Option, Some, None}
 use Rattle.std.specs.Prelude.{filter, map, slice_index_or, sum_by}
 use Rattle.std.specs.List.Sorted.{IsNonDecreasingBy, IsPermutation}
@@ -15,34 +15,34 @@ use Rattle.cqf_relay.specs.declared.edge.Edge.{Edge}
 use Rattle.cqf_relay.specs.declared.edge.Used.{Used}
 use Rattle.cqf_relay.specs.declared.log.ArrivedFrame.{ArrivedFrame}
 
--- an offer is of a cycle
+-- the offer is of the cycle
 pub record IsOfCycle (d : Domain) (cycle : ℕ) (x : Offered) : Type 0 where
   pub begun : cycle * d.cycle_time ≤ x.offer.at.0
   pub early : x.offer.at.0 < (cycle + 1) * d.cycle_time
 
--- a frame that came to a bridge, with the row with which it goes on
+-- a frame that arrived at a bridge, with the row by which it goes on
 pub record Going : Type 0 where
   pub received : Received
   pub row : Row
 
--- what the covered offers before took of a row, in octets
+-- the octets of a row that the covered offers before used
 abbrev pub octets_of : List Going → ℕ → ℕ
 octets_of earlier number = sum_by (λ (g : Going). g.received.octets) (filter (λ (g : Going). g.row.no == number) earlier)
 
--- the verdict on an offer of a cycle, where so much of each row is used before: the first reason that fits, where one does
+-- the verdict on an offer of a cycle, given the octets of each row used before: the first reason that applies, if any
 abbrev pub verdict_with : Domain → ℕ → ℕ → List Row → (ℕ → ℕ) → Offered → Verdict
 verdict_with d bridge cycle table used x = edge_verdict d bridge cycle
     (λ (row : Row). nat_le (used row.no + x.offer.octets) (reserved_in row 0 cycle))
     (row_named table x.offer.stream)
 
--- the offer with the row that covers it, where one does
+-- the offer with the row that covers it, if one does
 abbrev pub going_by : Offered → Verdict → List Going
 going_by x (Queued row) = record { received = offer_received x; row = row } ∷ []
 going_by x (DroppedFor reason) = []
 going_by x LacksRow = []
 going_by x ExceedsGate = []
 
--- the covered ones of a cycle's offers at a bridge, behind those before
+-- the covered ones of a cycle's offers at a bridge, after the earlier ones
 abbrev pub covered_behind : Domain → ℕ → ℕ → List Row → List Going → List Offered → List Going
 covered_behind d bridge cycle table earlier [] = []
 covered_behind d bridge cycle table earlier (x ∷ xs) = let goings = going_by x (verdict_with d bridge cycle table (octets_of earlier) x) in
@@ -54,43 +54,43 @@ dropped_behind d bridge cycle table earlier [] = []
 dropped_behind d bridge cycle table earlier (x ∷ xs) = let verdict = verdict_with d bridge cycle table (octets_of earlier) x in
     drop_by cycle bridge (offer_received x) verdict ++ dropped_behind d bridge cycle table (earlier ++ going_by x verdict) xs
 
--- a frame that goes on with a row, as it came in a cycle
+-- the arrival in a cycle of a frame that goes on by a row
 abbrev pub came_of_going : Domain → ℕ → Going → ArrivedFrame
 came_of_going d cycle g =
     record { cycle = cycle; at = g.received.at - cycle * d.cycle_time; frame = g.received.frame; row = g.row.no; octets = g.received.octets }
 
--- and an offer with the number of its row
+-- and of an offer with the number of its row
 abbrev pub came_offered : Domain → ℕ → Offered → ℕ → ArrivedFrame
 came_offered d cycle x number =
     record { cycle = cycle; at = x.offer.at.0 - cycle * d.cycle_time; frame = x.frame; row = number; octets = x.offer.octets }
 
--- what is used of a row in a cycle, as it is counted
+-- the octets used of a row in a cycle, by the counters
 abbrev pub used_in : ℕ → Used → ℕ
 used_in cycle used = if used.cycle == cycle then used.octets else 0
 
 abbrev pub used_at : List Used → ℕ → ℕ → ℕ
 used_at used cycle number = used_in cycle (slice_index_or used number (record { cycle = 0; octets = 0 }))
 
--- nothing is counted of cycles from one on
+-- nothing is counted for cycle `next` or later ones
 abbrev pub CountsUpto : ℕ → List Used → Type 0
 CountsUpto next used = (number cycle : ℕ) → next ≤ cycle → used_at used cycle number ≡ 0
 
--- so much more is used of a row
+-- the octets added to row k if they are used of row `number`
 abbrev pub more_of : ℕ → ℕ → ℕ → ℕ
 more_of number octets k = if number == k then octets else 0
 
--- octets of a row are counted in a cycle: of other rows, and of later cycles, nothing is
+-- octets of a row are counted in a cycle; the other rows' counts stay, and nothing is counted for later cycles
 pub record IsCounted (number cycle octets : ℕ) (before after : List Used) : Type 0 where
   pub more : (k : ℕ) → used_at after cycle k ≡ used_at before cycle k + more_of number octets k
   pub later : CountsUpto (cycle + 1) before → CountsUpto (cycle + 1) after
 
--- they are where no more than so many are used with them
+-- they are counted if and only if at most `most` are used with them
 pub record Counts (number cycle octets most : ℕ) (before after : List Used) (result : Bool) : Type 0 where
   pub fits : result ≡ nat_le (used_at before cycle number + octets) most
   pub counted : result ≡ true → IsCounted number cycle octets before after
   pub not_counted : result ≡ false → IsCounted number cycle 0 before after
 
--- the first reason against an offer of a row, or that its octets are counted
+-- the first reason against an offer of a row; the octets that are counted, none if there is a reason; and both as the result of a call
 abbrev pub reason_against : Domain → ℕ → Row → ℕ → ℕ → ℕ → Option Reason
 reason_against d bridge row cycle used octets =
     if not (is_live row cycle) then Some Withdrawn
@@ -106,7 +106,7 @@ pub record JudgesRow (d : Domain) (bridge : ℕ) (row : Row) (cycle octets : ℕ
   pub reason : result ≡ reason_against d bridge row cycle (used_at before cycle row.no) octets
   pub counted : IsCounted row.no cycle (taken_by result octets) before after
 
--- what stays at the edge as offers are judged
+-- what stays at the edge while offers are judged
 pub record IsSameEdge (before after : Edge) : Type 0 where
   pub number : after.number ≡ before.number
   pub drops : after.drops ≡ before.drops
@@ -118,7 +118,7 @@ pub record DropsOf (cycle : ℕ) (x : Offered) (reason : Reason) (before after :
   pub log : after.log ≡ before.log
   pub fresh : after.fresh.items ≡ before.fresh.items ++ drop_by cycle before.number (offer_received x) (DroppedFor reason)
 
--- an offer is kept where a row covers it, and dropped else, by what is used before
+-- an offer is kept if a row covers it, and else dropped, by the octets used before
 pub record JudgesOne (d : Domain) (cycle : ℕ) (table : List Row) (x : Offered) (before after : Edge) : Type 0 where
   pub same : IsSameEdge before after
   pub verdict : Verdict
@@ -128,7 +128,7 @@ pub record JudgesOne (d : Domain) (cycle : ℕ) (table : List Row) (x : Offered)
   pub used : (k : ℕ) → used_at after.used.items cycle k ≡ used_at before.used.items cycle k + octets_of (going_by x verdict) k
   pub later : CountsUpto (cycle + 1) before.used.items → CountsUpto (cycle + 1) after.used.items
 
--- the offers of a cycle are judged one behind the other: the covered ones are kept, and the others dropped, by frame
+-- the offers of a cycle are judged one after the other: the covered ones are kept, and the others dropped, by frame
 pub record TakesOffers (d : Domain) (cycle : ℕ) (table : List Row) (offers : List Offered) (before after : Edge) : Type 0 where
   pub number : after.number ≡ before.number
   pub kept : CountsUpto cycle before.used.items →

@@ -15,19 +15,19 @@ use Rattle.cqf_relay.specs.Logs.{ByCycle, is_in}
 abbrev pub queued : ℕ → ArrivedFrame → Queued
 queued source came = record { source = source; came = came }
 
--- by instant, source and frame in one number
+-- instant, source and frame as one number
 abbrev pub key_of_queued : Queued → ℕ
 key_of_queued q = (q.came.at * 8192 + q.source) * 16777216 + q.came.frame
 
--- of frames that one source brought those that go on by a link
+-- those of the frames that one source brought that go on by a link
 abbrev pub that_go : List By → By → ℕ → List ArrivedFrame → List Queued
 that_go rows by source frames = map (queued source) (filter (λ (came : ArrivedFrame). same_by (by_at rows came.row) by) frames)
 
--- and those of a cycle
+-- and among them those of a cycle
 abbrev pub goes_from : List By → By → ℕ → ℕ → List ArrivedFrame → List Queued
 goes_from rows by source cycle frames = that_go rows by source (filter (is_in cycle) frames)
 
--- of each link that is needed, and of the edge
+-- the frames of a cycle that go on by a link: of each link that is needed, then of the edge
 abbrev pub queued_by : Leads → ℕ → Inlet → List Queued
 queued_by leads cycle inlet =
     if list_any (λ it. it == inlet.link) leads.needs.items
@@ -38,12 +38,12 @@ abbrev pub queue_of : Leads → List Inlet → SourceLog → ℕ → List Queued
 queue_of leads inlets edge cycle =
     flat_map (queued_by leads cycle) inlets ++ goes_from leads.rows.items Edge 4096 cycle edge.frames.items
 
--- all frames stand by cycle
+-- all frames are in order of cycle
 pub record AreByCycle (inlets : List Inlet) (edge : SourceLog) : Type 0 where
   pub links : All (λ (inlet : Inlet). ByCycle inlet.log.frames.items) inlets
   pub offers : ByCycle edge.frames.items
 
--- what a link knows of rows, and of whether there are any, fits
+-- if a link knows of no row that leads to it, no row does, and no link is needed
 pub record AreLeads (leads : Leads) : Type 0 where
   pub unused : leads.used ≡ false → (number : ℕ) → by_at leads.rows.items number ≡ Nothing
   pub unneeded : leads.used ≡ false → leads.needs.items ≡ []

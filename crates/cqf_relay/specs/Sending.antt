@@ -1,4 +1,4 @@
--- What a link sends of the frames that wait for it, and what of it is to be handed on.
+-- What a link sends of the frames that wait for it, and what it then has to hand on.
 use Rattle.std.specs.Prelude.{ℕ, zero, suc, ◌≡◌, ◌+◌, ◌*◌, ◌-◌, ◌<◌, ◌^◌, ◌≤◌, ◌++◌, ◌&&◌, Bool, true, false, if◌then◌else◌, nat_le, nat_lt}
 use Rattle.std.specs.Prelude.{All, List, [], ◌∷◌, map, min}
 use Rattle.std.specs.List.Sorted.{IsNonDecreasingBy, IsPermutation}
@@ -21,14 +21,14 @@ use Rattle.cqf_relay.specs.Leading.{LearnsRow, by_hops}
 use Rattle.cqf_relay.specs.Logs.{ByCycle, came_by_stretch}
 use Rattle.cqf_relay.specs.Queues.{AreByCycle, AreLeads, key_of_queued, queue_of}
 
--- how long a frame takes from its start until it is whole at a link's end, and whether it is so within the cycle, if it starts at an offset
+-- the time from a frame's start until it is whole at a link's end, and whether it is whole within the cycle if it starts at an offset
 abbrev pub time_on : Wire → ℕ → ℕ
 time_on wire octets = time_of (octets + 8) wire.octet_time + wire.delay
 
 abbrev pub has_room_on : Wire → ℕ → ℕ → Bool
 has_room_on wire offset octets = nat_le octets 65535 && nat_lt (offset + time_on wire octets) wire.cycle_time
 
--- where the next frame may start behind one
+-- the offset at which the next frame may start after one
 abbrev pub offset_behind : Wire → ℕ → ArrivedFrame → ℕ
 offset_behind wire offset came = if has_room_on wire offset came.octets then offset + slot_of came.octets wire.octet_time else offset
 
@@ -37,8 +37,8 @@ abbrev pub sent_at : Wire → ℕ → ℕ → ArrivedFrame → Sent
 sent_at wire cycle offset came =
     record { start = record { 0 = cycle * wire.cycle_time + offset }; frame = came.frame; stream = came.row; octets = came.octets }
 
--- what a link sends in a cycle of frames, from an offset on: each behind the one before it and its gap, and none that wouldn't be whole within
--- the cycle. In a legal run all are
+-- what a link sends of these frames in a cycle, from an offset on: each starts after the one before it and its gap, and a frame that
+-- wouldn't be whole within the cycle isn't sent. In a legal run all are sent
 abbrev pub sends_of : Wire → ℕ → ℕ → List ArrivedFrame → List Sent
 sends_of wire cycle offset [] = []
 sends_of wire cycle offset (x ∷ xs) =
@@ -46,7 +46,7 @@ sends_of wire cycle offset (x ∷ xs) =
     then sent_at wire cycle offset x ∷ sends_of wire cycle (offset_behind wire offset x) xs
     else sends_of wire cycle (offset_behind wire offset x) xs
 
--- frames without their source
+-- the frame without its source
 abbrev pub came_of : Queued → ArrivedFrame
 came_of queued = queued.came
 
@@ -60,7 +60,7 @@ moving_on wire first cycle sent = record {
   after = min (cycle - first) 65535;
 }
 
--- from which cycle on frames that are to be handed on are counted, when a cycle sends more
+-- the cycle from which the cycles of waiting frames are counted, if a cycle sends more; and: a moving frame with another count
 abbrev pub base_behind : List Moving → ℕ → ℕ → ℕ
 base_behind [] base cycle = cycle
 base_behind (x ∷ xs) base cycle = base
@@ -72,12 +72,12 @@ base_with frames base cycle (sent ∷ sents) = base_behind frames base cycle
 abbrev pub with_after : Moving → ℕ → Moving
 with_after moving after = record { at = moving.at; frame = moving.frame; row = moving.row; octets = moving.octets; after = after }
 
--- a frame of a cycle stands behind those that are to be handed on
+-- a frame of a cycle is appended to the frames that wait to be handed on
 pub record Hands (cycle : ℕ) (moving : Moving) (before after : Pending) : Type 0 where
   pub base : after.base ≡ base_behind before.frames.items before.base cycle
   pub frames : after.frames.items ≡ before.frames.items ++ with_after moving (min (cycle - after.base) 65535) ∷ []
 
--- what stays of a link whatever it sends or hands on
+-- what stays of a link no matter what it sends or hands on
 pub record IsSameLink (before after : Outlet) : Type 0 where
   pub wire : after.wire ≡ before.wire
   pub leads : after.leads ≡ before.leads
@@ -94,19 +94,19 @@ pub record Adds (cycle : ℕ) (sents : List Sent) (before after : Outlet) : Type
       after.pending.frames.items ≡ before.pending.frames.items ++ map (moving_on before.wire after.pending.base cycle) sents
   pub ends : before.wire.onward ≡ false → after.pending ≡ before.pending
 
--- one frame, and where the next one may start
+-- a link has sent one frame, if there is room, and the next one may start at an offset
 pub record SendsOne (cycle offset : ℕ) (came : ArrivedFrame) (before after : Outlet) (next : ℕ) : Type 0 where
   pub adds : Adds cycle (sends_of before.wire cycle offset (came ∷ [])) before after
   pub as_far : after.sent ≡ before.sent
   pub next_is : next ≡ offset_behind before.wire offset came
   pub small : next < 2 ^ 40
 
--- the frames of a queue
+-- a link has sent the frames of a queue
 pub record SendsQueue (cycle : ℕ) (queue : List Queued) (before after : Outlet) : Type 0 where
   pub adds : Adds cycle (sends_of before.wire cycle 0 (map came_of queue)) before after
   pub as_far : after.sent ≡ before.sent
 
--- what waits for a cycle: what came in the one before it
+-- the frames that wait for a cycle: those that arrived in the cycle before it
 abbrev pub waits_for : Leads → List Inlet → SourceLog → ℕ → List Queued
 waits_for leads inlets edge zero = []
 waits_for leads inlets edge (suc cycle) = queue_of leads inlets edge cycle
@@ -120,7 +120,7 @@ pub record SendsOneCycle (inlets : List Inlet) (edge : SourceLog) (before after 
   pub adds : Adds before.sent (sends_of before.wire before.sent 0 (map came_of sorted)) before after
   pub as_far : after.sent ≡ before.sent + 1
 
--- so in as many cycles, and up to one
+-- it does so in this many cycles, and up to a cycle
 abbrev pub SendsMore : ℕ → List Inlet → SourceLog → Outlet → Outlet → Type 0
 SendsMore zero inlets edge before after = after ≡ before
 SendsMore (suc cycles) inlets edge before after =
@@ -129,7 +129,7 @@ SendsMore (suc cycles) inlets edge before after =
 abbrev pub SendsCycles : ℕ → List Inlet → SourceLog → Outlet → Outlet → Type 0
 SendsCycles until inlets edge before after = SendsMore (until - before.sent) inlets edge before after
 
--- up to which cycle a link may send as yet, whatever has come
+-- the cycle up to which a link may send now, no matter what has arrived
 abbrev pub most_behind : List Moving → ℕ → ℕ → ℕ
 most_behind [] sent base = sent + 256
 most_behind (x ∷ xs) sent base = base + 256
@@ -137,7 +137,8 @@ most_behind (x ∷ xs) sent base = base + 256
 abbrev pub most_of : Outlet → ℕ
 most_of outlet = most_behind outlet.pending.frames.items outlet.sent outlet.pending.base
 
--- whatever it has sent, what a link is to hand on are frames by cycle, of the cycles that it has sent and not handed on, counted in 16 bits
+-- an invariant of a link's pending frames: they are in order of cycle, of cycles that the link has sent and not handed on, and their cycles
+-- are counted in 16 bits
 pub record IsTidy (outlet : Outlet) : Type 0 where
   pub handed : outlet.told ≤ outlet.sent
   pub counted : All (λ (moving : Moving). moving.after ≤ 65535) outlet.pending.frames.items
@@ -167,7 +168,7 @@ pub record LearnsOf (row : Row) (before after : Outlet) : Type 0 where
   pub pending : after.pending ≡ before.pending
   pub tape : after.tape ≡ before.tape
 
--- what was to be handed on is taken as a stretch
+-- the pending frames are taken as a stretch
 pub record TakesPending (before after : Outlet) (stretch : Stretch) : Type 0 where
   pub same : IsSameLink before after
   pub tape : after.tape ≡ before.tape
@@ -178,7 +179,7 @@ pub record TakesPending (before after : Outlet) (stretch : Stretch) : Type 0 whe
   pub told : after.told ≡ before.sent
   pub none : after.pending.frames.items ≡ []
 
--- and comes back
+-- and the stretch is given back
 pub record KeepsStretchBack (told : ℕ) (stretch : Stretch) (before after : Outlet) : Type 0 where
   pub same : IsSameLink before after
   pub tape : after.tape ≡ before.tape

@@ -1,4 +1,4 @@
--- How far a bridge's links have gone on, by what has come to it.
+-- How far a bridge's links have gone on, by what has arrived at it.
 use Rattle.std.specs.Prelude.{ℕ, ◌≡◌, ◌+◌, ◌-◌, ◌≤◌, ◌<◌, ◌⊎◌, ◌++◌, ◌==◌, ◌&&◌, Bool, true, false, if◌then◌else◌, nat_le, slice_index_or}
 use Rattle.std.specs.Prelude.{List, [], ◌∷◌, Some, All, AllPairs, Contains, filter, length, map, slice_get, slice_set, take}
 use Rattle.std.specs.Arc.{arc_value}
@@ -34,36 +34,36 @@ use Rattle.cqf_relay.specs.Offering.{CountsUpto, Going, IsOfCycle, came_of_going
 use Rattle.cqf_relay.specs.Queues.{AreLeads, key_of_queued, queued}
 use Rattle.cqf_relay.specs.Sending.{IsNewOutlet, IsTidy, KeepsStretchBack, LearnsOf, SendsCycles, TakesPending, came_of, most_of, sends_of}
 
--- what has come to a bridge: the tables of its first cycles, with the offers of each, by instant, then place, and by link that ends in it up to
--- which cycle what it sent has come, and what that is
+-- what has arrived at a bridge: the tables of its first cycles, with the offers of each, by instant, then index; and for each link that
+-- ends in it the frames that it brought, and the cycle up to which it has brought them
 pub record Come : Type 0 where
   pub tables : List (List Row)
   pub offers : List (List Offered)
   pub upto : ℕ → ℕ
   pub brought : ℕ → List ArrivedFrame
 
--- the offers of a cycle, and the covered ones
+-- the offers of a cycle, and the covered ones among them
 abbrev pub offers_in : Come → ℕ → List Offered
 offers_in come cycle = slice_index_or come.offers cycle []
 
 abbrev pub covered_in : Domain → ℕ → Come → ℕ → List Going
 covered_in d bridge come cycle = covered_behind d bridge cycle (table_of come.tables cycle) [] (offers_in come cycle)
 
--- tables that may come: orderly ones, of which each brings its new rows by number, behind those of all before
+-- tables that may arrive: orderly ones, each with its new rows by number, after the rows of all earlier tables
 pub record MayBeTables (d : Domain) (tables : List (List Row)) : Type 0 where
   pub orderly : AreOrderly d tables
   pub by_number : (cycle : ℕ) → AllPairs (λ (row other : Row). row.no < other.no) (table_of tables cycle)
   pub behind : (cycle later : ℕ) (row other : Row) → cycle < later → Contains (table_of tables cycle) row → Contains (table_of tables later) other →
       ((before : ℕ) → before < later → list_any (λ (it : Row). it.no == other.no) (table_of tables before) ≡ false) → row.no < other.no
 
--- the rows of so many tables, one behind the other
+-- the rows of the first `count` tables, one table after the other; and those of all tables
 abbrev pub rows_of : List (List Row) → ℕ → List Row
 rows_of tables count = flat_map (λ (table : List Row). table) (take count tables)
 
 abbrev pub all_rows : List (List Row) → List Row
 all_rows tables = rows_of tables (length tables)
 
--- a link as its domain has it
+-- whether a node is a bridge, whether a link ends in one, and the wire of a link of the domain
 abbrev pub is_bridge : Node → Bool
 is_bridge (Bridge b) = true
 is_bridge (Station s) = false
@@ -74,28 +74,28 @@ is_onward d l = option_map_or (λ (link : Link). is_bridge link.to) (slice_get d
 abbrev pub wire_on : Domain → ℕ → Wire
 wire_on d l = record { octet_time = octet_time_of d l; delay = delay_of d l; cycle_time = d.cycle_time; onward = is_onward d l }
 
--- what a link has brought, where it is what may have come: cycle by cycle, and only of those up to which it has
+-- what a link may have brought: frames in order of cycle, of cycles below the one up to which it has brought them
 pub record MayHaveCome (upto : ℕ) (brought : List ArrivedFrame) : Type 0 where
   pub by_cycle : ByCycle brought
   pub within : All (λ (came : ArrivedFrame). came.cycle < upto) brought
 
--- those of some frames that go on by a link, by the rows that are known
+-- those of some frames that go on by a link, by the known rows
 abbrev pub that_go_on : List Row → ℕ → By → ℕ → List ArrivedFrame → List Queued
 that_go_on rows l by source frames =
     map (queued source) (filter (λ (came : ArrivedFrame). same_by (by_row l (row_of rows came.row)) by) frames)
 
--- what came by a link in a cycle and goes on by another, where a row is known that leads there
+-- what arrived by a link in a cycle and goes on by another one, if a known row leads there
 abbrev pub comes_by : Domain → ℕ → Come → List Row → ℕ → ℕ → ℕ → List Queued
 comes_by d bridge come rows l cycle m =
     if enters d m bridge && leads rows m l then that_go_on rows l (way.Link m) m (filter (is_in cycle) (come.brought m)) else []
 
--- and all that goes on by a link of what came in a cycle
+-- and all that arrived in a cycle and goes on by a link
 abbrev pub comes_to : Domain → ℕ → Come → List Row → ℕ → ℕ → List Queued
 comes_to d bridge come rows l cycle = each_below (comes_by d bridge come rows l cycle) (length d.links)
     ++ that_go_on rows l way.Edge 4096 (map (came_of_going d cycle) (covered_in d bridge come cycle))
 
--- a link has gone on from a cycle to the next, when so many tables had come: the links from which a row of these leads to it had brought the
--- cycle, and it sent what goes on by it of what came in that, in order, from the next one's beginning on
+-- a link has gone on from a cycle to the next, when `count` tables had arrived: the links from which a row of these tables leads to it had
+-- brought the cycle, and it sent what arrived in the cycle and goes on by it, in order, from the beginning of the next one on
 pub record GoesOnBy (d : Domain) (bridge : ℕ) (come : Come) (l cycle : ℕ) (sent : List Sent) : Type 0 where
   pub count : ℕ
   pub had_table : cycle < count
@@ -106,12 +106,12 @@ pub record GoesOnBy (d : Domain) (bridge : ℕ) (come : Come) (l cycle : ℕ) (s
   pub in_order : IsNonDecreasingBy key_of_queued sorted
   pub sends : sent ≡ sends_of (wire_on d l) (cycle + 1) 0 (map came_of sorted)
 
--- what a link sent in its first cycles, by what came to its bridge: nothing in the first
+-- what a link sent in its first cycles, by what arrived at its bridge: nothing in the first cycle
 pub record HasGoneOnBy (d : Domain) (bridge : ℕ) (come : Come) (l : ℕ) (sends : List (List Sent)) : Type 0 where
   pub first : batch_at sends 0 ≡ []
   pub next : (cycle : ℕ) → cycle + 1 < length sends → GoesOnBy d bridge come l cycle (batch_at sends (cycle + 1))
 
--- a link that ends in the bridge: what it brought from a cycle on is there
+-- a link that ends in the bridge: what it brought from cycle `least` on is kept
 pub record IsInletOf (come : Come) (least : ℕ) (inlet : Inlet) : Type 0 where
   pub upto : inlet.upto ≡ come.upto inlet.link
   pub may : MayHaveCome (come.upto inlet.link) (come.brought inlet.link)
@@ -119,7 +119,7 @@ pub record IsInletOf (come : Come) (least : ℕ) (inlet : Inlet) : Type 0 where
   pub holds : (cycle : ℕ) → least ≤ cycle →
       filter (is_in cycle) inlet.log.frames.items ≡ filter (is_in cycle) (come.brought inlet.link)
 
--- and so at the edge the covered offers, and nothing is counted of the next cycle yet
+-- the same for the covered offers at the edge, and nothing is counted for the next cycle yet
 pub record IsEdgeOf (d : Domain) (bridge : ℕ) (come : Come) (least : ℕ) (edge : Edge) : Type 0 where
   pub number : edge.number ≡ bridge
   pub held : MayHaveCome (length come.tables) edge.log.frames.items
@@ -133,8 +133,8 @@ pub record KnowsRows (l : ℕ) (tables : List (List Row)) (known : Leads) : Type
   pub needs : (m : ℕ) → list_any (λ it. it == m) known.needs.items ≡ leads (all_rows tables) m l
   pub fits : AreLeads known
 
--- a link that leaves the bridge, which has sent this in its first cycles: what it hasn't handed on yet, of fewer than 256 cycles from the first
--- frame's on, is pending
+-- a link that leaves the bridge and has sent this in its first cycles: what it hasn't handed on yet is pending, all within 256 cycles from
+-- the first pending frame's
 pub record IsOutletOf (d : Domain) (bridge : ℕ) (come : Come) (sends : List (List Sent)) (outlet : Outlet) : Type 0 where
   pub wire : outlet.wire ≡ wire_on d outlet.tape.link
   pub knows : KnowsRows outlet.tape.link come.tables outlet.leads
@@ -148,7 +148,7 @@ pub record IsOutletOf (d : Domain) (bridge : ℕ) (come : Come) (sends : List (L
   pub no_background : outlet.tape.background.items ≡ []
   pub gone : HasGoneOnBy d bridge come outlet.tape.link sends
 
--- the links that end in a bridge, and those that leave it, by number, and as the bridge has them
+-- the links that end in a bridge, and those that leave it, by number; and the link of an inlet, the link of an outlet and its wire
 abbrev pub links_into : Domain → ℕ → List ℕ
 links_into d bridge = each_below (λ l. if enters d l bridge then l ∷ [] else []) (length d.links)
 
@@ -164,13 +164,14 @@ link_out outlet = outlet.tape.link
 abbrev pub wire_out : Outlet → Wire
 wire_out outlet = outlet.wire
 
--- so many rows are known: all that have come have lower numbers, and one has the last of these
+-- all rows that have arrived have numbers below `known`, and one of them has the greatest such number, unless `known` is 0; no link has
+-- learned more than `known` rows
 pub record AreKnown (tables : List (List Row)) (known : ℕ) (outlets : List Outlet) : Type 0 where
   pub below : (row : Row) → Contains (all_rows tables) row → row.no < known
   pub last : (known ≡ 0) ⊎ ((row : Row) × Contains (all_rows tables) row × (row.no + 1 ≡ known))
   pub room : All (λ (outlet : Outlet). length outlet.leads.rows.items ≤ known) outlets
 
--- a bridge stands so: this has come to it, and its links have sent this
+-- the state of a bridge at which this has arrived, and whose links have sent this
 pub record StandsSo (d : Domain) (come : Come) (sends : Sendings) (relay : Relay) : Type 0 where
   pub of_domain : arc_value relay.domain ≡ d
   pub tables_taken : relay.tables ≡ length come.tables
@@ -184,11 +185,11 @@ pub record StandsSo (d : Domain) (come : Come) (sends : Sendings) (relay : Relay
   pub edge : IsEdgeOf d relay.number come least relay.edge
   pub outlets : All (λ (outlet : Outlet). IsOutletOf d relay.number come (sends outlet.tape.link) outlet) relay.outlets.items
 
--- nothing has come
+-- nothing has arrived
 abbrev pub nothing_yet : Come
 nothing_yet = record { tables = []; offers = []; upto = λ m. 0; brought = λ m. [] }
 
--- one table more has come, with its offers; and what a link sent in some cycles more
+-- one more table has arrived, with its offers; and what a link sent in more cycles has arrived
 abbrev pub with_table : Come → List Row → List Offered → Come
 with_table come table offers =
     record { tables = come.tables ++ table ∷ []; offers = come.offers ++ offers ∷ []; upto = come.upto; brought = come.brought }
@@ -207,7 +208,7 @@ with_stretch come m stretch = record {
   brought = more_from come.brought m (frames_of stretch);
 }
 
--- offers are of a cycle
+-- all offers are of the cycle
 abbrev pub AreOfCycle : Domain → ℕ → List Offered → Type 0
 AreOfCycle d cycle offers = All (IsOfCycle d cycle) offers
 
@@ -229,11 +230,11 @@ pub record AreNewOutlets (d : Domain) (bridge : ℕ) (outlets : List Outlet) : T
   pub links : map link_out outlets ≡ links_from d bridge
   pub new : All (IsNewOutletOf d) outlets
 
--- a link has sent no more than so many cycles
+-- a link has sent at most `cycles` cycles
 abbrev pub IsWithin : ℕ → Outlet → Type 0
 IsWithin cycles outlet = outlet.sent ≤ cycles
 
--- what stays of a bridge whatever it does
+-- what stays of a bridge no matter what it does
 pub record StaysAs (before after : Relay) : Type 0 where
   pub domain : after.domain ≡ before.domain
   pub number : after.number ≡ before.number
@@ -244,7 +245,7 @@ pub record StaysAs (before after : Relay) : Type 0 where
   pub tidy : All IsTidy before.outlets.items → All IsTidy after.outlets.items
   pub within : All (IsWithin before.cycles) before.outlets.items → All (IsWithin before.cycles) after.outlets.items
 
--- and all of it but what its links have sent
+-- everything stays but what its links have sent
 pub record IsSameButLinks (before after : Relay) : Type 0 where
   pub domain : after.domain ≡ before.domain
   pub number : after.number ≡ before.number
@@ -260,12 +261,12 @@ pub record LearnOnEach (row : Row) (before after : List Outlet) : Type 0 where
   pub each : (place : ℕ) (outlet learned : Outlet) → slice_get before place ≡ Some outlet → slice_get after place ≡ Some learned →
       LearnsOf row outlet learned
 
--- each link learns rows, one behind the other
+-- each link learns rows, one after the other
 abbrev pub LearnEach : List Row → List Outlet → List Outlet → Type 0
 LearnEach [] before after = after ≡ before
 LearnEach (row ∷ rows) before after = (between : List Outlet) × LearnOnEach row before between × LearnEach rows between after
 
--- how many rows are known behind some
+-- how many rows are known after these
 abbrev pub known_behind : ℕ → List Row → ℕ
 known_behind known [] = known
 known_behind known (row ∷ rows) = known_behind (row.no + 1) rows
@@ -285,12 +286,12 @@ pub record LearnsRows (rows : List Row) (before after : Relay) : Type 0 where
   pub known : after.known ≡ known_behind before.known (new_rows before.known rows)
   pub learn : LearnEach (new_rows before.known rows) before.outlets.items after.outlets.items
 
--- up to which cycle each link has handed on what it sent
+-- the cycle up to which each link has handed on what it sent
 abbrev pub told_by : Relay → List ℕ
 told_by relay = map (λ (outlet : Outlet). outlet.told) relay.outlets.items
 
--- a bridge has taken a table with the cycle's offers: however it stood, it stands so with these, and has the drops of the offers that aren't
--- covered behind those that it had
+-- a bridge has taken a table with the cycle's offers: any state of it before becomes the state with these, and the drops of the offers that
+-- aren't covered are appended
 pub record TakesTable (table : List Row) (offers : List Offered) (before after : Relay) : Type 0 where
   pub same : StaysAs before after
   pub taken : after.tables ≡ before.tables + 1
@@ -303,7 +304,7 @@ pub record TakesTable (table : List Row) (offers : List Offered) (before after :
       IsPermutation (dropped_behind d before.number before.tables table [] offers) fresh
   pub by_frame : IsNonDecreasingBy (λ (dropped : Dropped). dropped.frame) fresh
 
--- a bridge has taken what came by the inlet at a place: where that is what may come next, however it stood, it stands so with it
+-- a bridge has taken what the inlet at an index brought: if that may come next, any state of the bridge before becomes the state with it
 pub record TakesStretch (place : ℕ) (stretch : Stretch) (before after : Relay) : Type 0 where
   pub same : StaysAs before after
   pub tables_same : after.tables ≡ before.tables
@@ -312,7 +313,7 @@ pub record TakesStretch (place : ℕ) (stretch : Stretch) (before after : Relay)
   pub stands : (d : Domain) (come : Come) (sends : Sendings) (inlet : Inlet) → StandsSo d come sends before →
       slice_get before.inlets.items place ≡ Some inlet → IsNextStretch inlet.upto stretch → StandsSo d (with_stretch come inlet.link stretch) sends after
 
--- what a link needs has come up to a cycle
+-- everything that a link needs has arrived up to a cycle
 pub record NeedsHaveCome (place upto : ℕ) (relay : Relay) : Type 0 where
   pub needed : (outlet : Outlet) → slice_get relay.outlets.items place ≡ Some outlet →
       All (λ (inlet : Inlet). list_any (λ it. it == inlet.link) outlet.leads.needs.items ≡ true → upto ≤ inlet.upto) relay.inlets.items
@@ -325,7 +326,7 @@ pub record MayReach (place until : ℕ) (relay : Relay) : Type 0 where
   pub needed : (outlet : Outlet) → slice_get relay.outlets.items place ≡ Some outlet →
       All (λ (inlet : Inlet). list_any (λ it. it == inlet.link) outlet.leads.needs.items ≡ true → until ≤ inlet.upto + 1) relay.inlets.items
 
--- a link has gone on as far as it might
+-- a link has sent as far as it may
 pub record SendsOn (place : ℕ) (before after : Relay) : Type 0 where
   pub same : IsSameButLinks before after
   pub until : ℕ
@@ -336,7 +337,7 @@ pub record SendsOn (place : ℕ) (before after : Relay) : Type 0 where
   pub is : after.outlets.items ≡ slice_set before.outlets.items place gone
   pub sends : SendsCycles until before.inlets.items before.edge.log outlet gone
 
--- a bridge has let go of what none of its links needs any more: however it stood, it stands so still
+-- a bridge has removed what none of its links needs any more: any state of it before still holds
 pub record LetsGo (before after : Relay) : Type 0 where
   pub same : StaysAs before after
   pub tables_same : after.tables ≡ before.tables
@@ -344,7 +345,7 @@ pub record LetsGo (before after : Relay) : Type 0 where
   pub outlets_same : after.outlets ≡ before.outlets
   pub stands : (d : Domain) (come : Come) (sends : Sendings) → StandsSo d come sends before → StandsSo d come sends after
 
--- more was sent by each link, behind what it had sent
+-- each link has sent more, after what it had sent
 abbrev pub HaveSentMore : Sendings → Sendings → Type 0
 HaveSentMore sends more = (l : ℕ) → (rest : List (List Sent)) × (more l ≡ sends l ++ rest)
 
@@ -357,7 +358,7 @@ pub record GoesOnAlone (before after : Relay) : Type 0 where
   pub stands : (d : Domain) (come : Come) (sends : Sendings) → StandsSo d come sends before → MayBeTables d come.tables →
       (more : Sendings) × StandsSo d come more after × HaveSentMore sends more
 
--- what a link sent since it was last asked, as a stretch
+-- what a link sent since its last stretch was taken, as a stretch
 pub record HandsOn (place : ℕ) (before after : Relay) (stretch : Stretch) : Type 0 where
   pub same : IsSameButLinks before after
   pub stays : StaysAs before after
@@ -373,7 +374,7 @@ pub record HandsOn (place : ℕ) (before after : Relay) (stretch : Stretch) : Ty
       IsStretchOf d outlet.tape.link (sends outlet.tape.link) outlet.told stretch × (stretch.upto ≡ length (sends outlet.tape.link))
   pub is_next : IsTidy outlet → IsNextStretch outlet.told stretch
 
--- a stretch that couldn't be handed on was given back: the bridge stands as before it was asked for it
+-- a stretch that couldn't be handed on was given back: the bridge is as before the stretch was taken
 pub record KeepsBack (place told : ℕ) (stretch : Stretch) (before after : Relay) : Type 0 where
   pub same : IsSameButLinks before after
   pub links : map link_out after.outlets.items ≡ map link_out before.outlets.items

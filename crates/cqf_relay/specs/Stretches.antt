@@ -1,4 +1,4 @@
--- What links send, as stretches carry it.
+-- What links send, in stretches.
 use Rattle.std.specs.Prelude.{ℕ, ◌≡◌, ◌+◌, ◌*◌, ◌-◌, ◌≤◌, ◌<◌, All, List, [], ◌∷◌, length, map, slice_index_or}
 use Rattle.std.specs.List.{flat_map}
 use Rattle.cqf_lists.specs.Lists.{each_below}
@@ -10,11 +10,12 @@ use Rattle.cqf_relay.specs.declared.moving.Stretch.{Stretch}
 use Rattle.cqf_relay.specs.declared.moving.Moving.{Moving}
 use Rattle.cqf_relay.specs.Logs.{ByCycle, came_by_stretch}
 
--- by link what it sent in its first cycles, cycle by cycle
+-- for each link what it sent in its first cycles, cycle by cycle
 abbrev pub Sendings : Type 0
 Sendings = ℕ → List (List Sent)
 
--- a frame that a link sent in a cycle, as it is on its way: when it is whole, from the cycle's beginning, and its cycle, from a first one
+-- a frame that a link sent in a cycle, on its way: the instant at which it is whole, from the cycle's beginning, and its cycle, from a
+-- first one
 abbrev pub moving_in : Domain → ℕ → ℕ → ℕ → Sent → Moving
 moving_in d m first cycle sent = record {
   at = whole_at d m sent - cycle * d.cycle_time;
@@ -24,31 +25,32 @@ moving_in d m first cycle sent = record {
   after = cycle - first;
 }
 
--- what a link sent in a cycle of its first ones
+-- what a link sent in one of its first cycles
 abbrev pub batch_at : List (List Sent) → ℕ → List Sent
 batch_at sends cycle = slice_index_or sends cycle []
 
--- what it sent in the cycles from one on up to another, as it is on its way
+-- what it sent in the cycles from `begin` up to `upto`, on its way
 abbrev pub moving_between : Domain → ℕ → List (List Sent) → ℕ → ℕ → ℕ → List Moving
 moving_between d m sends first begin upto =
     each_below (λ k. map (moving_in d m first (begin + k)) (batch_at sends (begin + k))) (upto - begin)
 
--- the frames of a stretch, as they come
+-- the frames of a stretch, as they arrive
 abbrev pub frames_of : Stretch → List ArrivedFrame
 frames_of stretch = map (came_by_stretch stretch.from) stretch.frames.items
 
--- a stretch may come next, behind what has come up to a cycle: its frames stand by cycle, and are of cycles from that one on up to its end
+-- a stretch may come next, after what has arrived up to a cycle: its frames are in order of cycle, and of cycles from that one up to the
+-- stretch's end
 pub record IsNextStretch (begin : ℕ) (stretch : Stretch) : Type 0 where
   pub behind : begin ≤ stretch.upto
   pub by_cycle : ByCycle (frames_of stretch)
   pub within : All (λ (came : ArrivedFrame). (begin ≤ came.cycle) × (came.cycle < stretch.upto)) (frames_of stretch)
 
--- stretches may come one behind the other, each where the one before it ends
+-- stretches may come one after the other, each beginning where the one before it ends
 abbrev pub AreNextStretches : ℕ → List Stretch → Type 0
 AreNextStretches begin [] = Unit {0}
 AreNextStretches begin (stretch ∷ stretches) = IsNextStretch begin stretch × AreNextStretches stretch.upto stretches
 
--- up to which cycle they come, and the frames of all
+-- the cycle up to which they come, and the frames of all
 abbrev pub end_of_stretches : ℕ → List Stretch → ℕ
 end_of_stretches begin [] = begin
 end_of_stretches begin (stretch ∷ stretches) = end_of_stretches stretch.upto stretches
@@ -56,12 +58,13 @@ end_of_stretches begin (stretch ∷ stretches) = end_of_stretches stretch.upto s
 abbrev pub all_frames : List Stretch → List ArrivedFrame
 all_frames stretches = flat_map frames_of stretches
 
--- a frame that a link sent in a cycle, as it comes
+-- a frame that a link sent in a cycle, as it arrives
 abbrev pub came_in : Domain → ℕ → ℕ → Sent → ArrivedFrame
 came_in d m cycle sent =
     record { cycle = cycle; at = whole_at d m sent - cycle * d.cycle_time; frame = sent.frame; row = sent.stream; octets = sent.octets }
 
--- a stretch carries what a link sends in the cycles from one on up to the stretch's end, and counts these from one that is none behind the first frame's
+-- a stretch has what a link sends in the cycles from `begin` up to the stretch's end, and counts these cycles from one that is not later
+-- than the first frame's
 pub record IsStretchOf (d : Domain) (m : ℕ) (sends : List (List Sent)) (begin : ℕ) (stretch : Stretch) : Type 0 where
   pub behind : begin ≤ stretch.upto
   pub within : stretch.upto ≤ length sends

@@ -1,4 +1,4 @@
-//! What is offered at the bridge: what of it goes on, and what is dropped.
+//! The offers at the bridge: those that go on, and those that are dropped.
 ghost use Rattle.std.specs.Prelude.{◌≡◌, All, IfOk, None, OnOk, []};
 ghost use Rattle.cqf_relay.specs.Offering.{Counts, DropsOf, IsOfCycle, JudgesOne, JudgesRow, TakesOffers, came_offered, used_in};
 
@@ -9,35 +9,35 @@ use cqf_topology::{Domain, begins_at};
 use cqf_units::{Cycle, Memory};
 use std::alloc::Global;
 
-/// What covered offers have used of a row's octets in a cycle, the last in which one used some.
+/// The octets of a row that covered offers have used in `cycle`, the last cycle in which one used any.
 #[derive(Clone, Copy, Debug)]
 struct Used {
     cycle: u32,
     octets: u32,
 }
 
-/// What is offered at a bridge of a number.
+/// The edge of the bridge with this number.
 #[derive(Debug, Drop)]
 pub(crate) struct Edge {
     number: u16,
-    /// By number of row.
+    /// The octets used, by row number.
     used: Vec<Used>,
-    /// What goes on.
+    /// The offers that go on.
     pub(crate) log: SourceLog,
-    /// What is dropped, by cycle, then frame.
+    /// The drops, by cycle, then frame.
     pub(crate) drops: Vec<Dropped>,
-    /// Room for the drops of a cycle.
+    /// Working memory for the drops of a cycle.
     fresh: Vec<Dropped>,
 }
 
-/// What is used of a row in a cycle.
+/// Returns the octets used of a row in a cycle.
 fn octets_in(used: &Used, cycle: u32) -> u32
     ensures { result ≡ used_in cycle used.now }
 {
     if used.cycle == cycle { used.octets } else { 0 }
 }
 
-/// Counts octets of the row of a number in a cycle, where no more than so many are used with them; whether they are.
+/// Counts octets for the row of a number in a cycle, unless more than `most` would be used with them. Returns whether they were counted.
 fn count(
     used: &mut Vec<Used>,
     number: u32,
@@ -65,7 +65,8 @@ fn count(
     Ok(true)
 }
 
-/// The first reason against an offer of a cycle at a bridge that names a row's stream; where there is none its octets are counted.
+/// Returns the first reason against an offer with the name of a row's stream, for a cycle at a bridge. If there is none, the offer's octets
+/// are counted.
 fn judge_row(
     domain: &Domain,
     bridge: u16,
@@ -89,7 +90,7 @@ fn judge_row(
     Ok(None)
 }
 
-/// An offer of a row in a cycle, as it came.
+/// Returns the arrival of an offer of a row in a cycle.
 fn came(domain: &Domain, cycle: Cycle, offered: &Offered, row: u32) -> ArrivedFrame
     requires { IsOfCycle domain.now cycle.0 offered.now }
     ensures { result ≡ came_offered domain.now cycle.0 offered.now row }
@@ -106,7 +107,7 @@ fn came(domain: &Domain, cycle: Cycle, offered: &Offered, row: u32) -> ArrivedFr
 }
 
 impl Edge {
-    /// The edge of a bridge at which nothing was offered. It takes no memory yet.
+    /// Returns the edge of a bridge at which nothing was offered. It takes no memory yet.
     pub(crate) fn new(alloc: Global, number: u16) -> Edge
         ensures number { result.number ≡ number }
         ensures used { result.used.items ≡ [] }
@@ -136,7 +137,7 @@ impl Edge {
         Ok(())
     }
 
-    /// Keeps an offer of a cycle, where the row of its name covers it, and drops it else.
+    /// Keeps an offer of a cycle if the row of its name covers it, and else drops it.
     fn judge(
         &mut self,
         domain: &Domain,
@@ -157,7 +158,8 @@ impl Edge {
         }
     }
 
-    /// Takes the offers of a cycle with its table: keeps those that are covered, and drops the others. `Memory` where a growth is refused.
+    /// Takes the offers of a cycle with its table: keeps those that are covered, and drops the others. Returns `Memory` if an allocation
+    /// fails.
     pub(crate) fn take(
         &mut self,
         domain: &Domain,
@@ -172,7 +174,7 @@ impl Edge {
         for offered in offers {
             self.judge(domain, cycle, table, offered)?;
         }
-        // offers come by instant, and drops stand by frame
+        // offers are by instant, and drops by frame
         self.fresh.sort_unstable_by_key(|dropped| dropped.frame);
         self.drops.extend_from_slice(self.fresh.as_slice())?;
         Ok(())

@@ -7,7 +7,7 @@ use crate::moving::{Moving, Stretch};
 use cqf_units::Memory;
 use std::alloc::Global;
 
-/// A link that ends in the bridge: up to which cycle what it sent has come, and what that is.
+/// A link that ends in the bridge: the cycle up to which its frames have arrived, exclusive, and these frames.
 #[derive(Debug, Drop)]
 pub(crate) struct Inlet {
     pub(crate) link: u16,
@@ -15,7 +15,7 @@ pub(crate) struct Inlet {
     pub(crate) log: SourceLog,
 }
 
-/// A frame of a stretch that begins in a cycle, as it came.
+/// Returns the arrival of a frame of a stretch whose first frame is of cycle `from`.
 fn came(from: u32, moving: Moving) -> ArrivedFrame
     ensures { result ≡ came_by_stretch from moving }
 {
@@ -29,7 +29,7 @@ fn came(from: u32, moving: Moving) -> ArrivedFrame
 }
 
 impl Inlet {
-    /// A link of which nothing has come. It takes no memory yet.
+    /// Returns a link that has brought nothing. It takes no memory yet.
     pub(crate) fn new(alloc: Global, link: u16) -> Inlet
         ensures link { result.link ≡ link }
         ensures upto { result.upto ≡ 0 }
@@ -42,7 +42,7 @@ impl Inlet {
         }
     }
 
-    /// Takes what the link sent behind what came before. `Memory` where a growth is refused.
+    /// Takes what the link sent after what arrived before. Returns `Memory` if an allocation fails.
     pub(crate) fn take(&mut self, stretch: &Stretch) -> Result<(), Memory>
         ensures link { self.new.link ≡ self.old.link }
         ensures upto { OnOk result (self.new.upto ≡ stretch.now.upto) }

@@ -1,4 +1,4 @@
-//! Which rows lead to a link.
+//! The rows that lead to a link.
 ghost use Rattle.std.specs.Prelude.{ℕ, ◌≡◌, ◌==◌, ◌||◌, [], OnOk, false};
 ghost use Rattle.std.specs.List.{list_any};
 ghost use Rattle.cqf_relay.specs.Leading.{LearnsRow, by_at, by_hops, is_link, is_some, same_by};
@@ -7,29 +7,29 @@ use cqf_model::Hop;
 use cqf_units::Memory;
 use std::alloc::Global;
 
-/// How the frames of a row come that go on by a link.
+/// How those frames of a row that go on by a link arrive at the link's bridge.
 #[derive(Clone, Copy, Debug, PartialEq, Eq)]
 pub(crate) enum By {
-    /// None go on by it.
+    /// No frames go on by the link.
     Nothing,
-    /// They are offered at its bridge.
+    /// The frames are offered at the bridge.
     Edge,
-    /// They come by another link.
+    /// The frames arrive by another link.
     Link(u16),
 }
 
-/// Which rows lead to one link.
+/// The rows that lead to one link.
 #[derive(Debug, Drop)]
 pub(crate) struct Leads {
-    /// By number of row how its frames come that go on by the link.
+    /// By row number, how those frames of the row that go on by the link arrive.
     rows: Vec<By>,
-    /// The links from which a row leads here.
+    /// The links from which a row leads to this one.
     needs: Vec<u16>,
-    /// Whether any row leads here.
+    /// Whether any row leads to this link.
     used: bool,
 }
 
-/// How the frames come that go on by a link, by the tree of their row.
+/// Returns how the frames that go on by a link arrive, by the tree of their row.
 fn by_tree(tree: &[Hop], link: u16) -> By
     ensures { result ≡ by_hops link tree.now }
 {
@@ -44,7 +44,7 @@ fn by_tree(tree: &[Hop], link: u16) -> By
     By::Nothing
 }
 
-/// Whether frames come the same way.
+/// Returns whether frames arrive in the same way.
 fn is_same(one: By, other: By) -> bool
     ensures { result ≡ same_by one other }
 {
@@ -52,7 +52,7 @@ fn is_same(one: By, other: By) -> bool
 }
 
 impl Leads {
-    /// No row yet. It takes no memory.
+    /// Returns no rows. It takes no memory.
     pub(crate) fn new(alloc: Global) -> Leads
         ensures rows { result.rows.items ≡ [] }
         ensures needs { result.needs.items ≡ [] }
@@ -65,8 +65,8 @@ impl Leads {
         }
     }
 
-    /// Learns the tree of the row of a number, behind those that are known; no row between leads to the link. `Memory` where a growth is
-    /// refused.
+    /// Learns the tree of the row of a number, after the known rows. No row with a number in between leads to the link. Returns `Memory` if
+    /// an allocation fails.
     pub(crate) fn learn(&mut self, number: u32, tree: &[Hop], link: u16) -> Result<(), Memory>
         ensures { OnOk result (LearnsRow number (by_hops link tree.now) self.old self.new) }
     {
@@ -79,7 +79,7 @@ impl Leads {
         Ok(())
     }
 
-    /// Notes whether a row leads here, and from which link, by how its frames come. `Memory` where a growth is refused.
+    /// Records that a row leads to the link, and from which link, by how its frames arrive. Returns `Memory` if an allocation fails.
     fn note(&mut self, by: By) -> Result<(), Memory>
         ensures rows { self.new.rows ≡ self.old.rows }
         ensures needs { OnOk result ((m : ℕ) →
@@ -103,7 +103,7 @@ impl Leads {
         }
     }
 
-    /// Whether the frames of the row of a number go on by the link that come so.
+    /// Returns whether those frames of the row of a number that arrive in this way go on by the link.
     pub(crate) fn has(&self, number: u32, by: By) -> bool
         ensures { result ≡ same_by (by_at self.now.rows.items number) by }
     {
@@ -113,14 +113,14 @@ impl Leads {
         }
     }
 
-    /// Whether a row leads here from a link.
+    /// Returns whether a row leads from a link to this one.
     pub(crate) fn needs(&self, link: u16) -> bool
         ensures { result ≡ list_any (λ it. it == link) self.now.needs.items }
     {
         self.needs.iter().any(|it| *it == link)
     }
 
-    /// Whether any row leads here.
+    /// Returns whether any row leads to this link.
     pub(crate) fn used(&self) -> bool
         ensures { result ≡ self.now.used }
     {

@@ -1,13 +1,13 @@
-//! A bridge whose links go on by themselves, by exact instants: each as far as those incoming links and tables have come from which a row
-//! leads to it, over many cycles at once.
+//! A bridge whose links go on separately, by exact instants: each link sends as far as the incoming links and tables that it needs have
+//! arrived, over many cycles at once. A link needs another link if a row leads from that link to it.
 //!
-//! - A [`Stretch`] is what a link sends in some cycles, one behind the other: a `Moving` frame of 16 octets for each.
-//! - A [`Relay`] is what goes on in a bridge (its MAC relay entity, IEEE 802.1Q, 8.5), with its `Outlet`s, the links that leave the bridge,
-//!   and its inlets, those that end in it. It takes tables and stretches as they come, judges the offers of each cycle at the edge, and sends
-//!   what it may.
+//! - A [`Stretch`] has what a link sends in consecutive cycles: a `Moving` of 16 octets for each frame.
+//! - A [`Relay`] is the forwarding part of a bridge (its MAC relay entity, IEEE 802.1Q, 8.5). It has `Outlet`s, the links that leave the bridge,
+//!   and inlets, the links that end in it. It takes tables and stretches as they arrive, judges the offers of each cycle at the edge, and sends
+//!   as far as it may.
 //!
-//! What came in a cycle starts in the next one, from its beginning, back to back, in order of instant, then source, the offers last. No gate
-//! and no port is asked; `cqf_laws_relay` says that links which go on so send what the gates ask for.
+//! What arrives in a cycle starts in the next one, from its beginning, back to back, in order of instant, then source, with the offers
+//! last. No gate and no port is used. `cqf_laws_relay` states that such links send what the gates require.
 //!
 //! ```text
 //! relay.take_table(&table, offers)      the frames that are offered in cycle 0

@@ -1,16 +1,16 @@
-//! What one source has brought to the bridge.
+//! The frames that one source has brought to the bridge.
 ghost use Rattle.std.specs.Prelude.{◌≡◌, ◌++◌, [], ◌∷◌, OnOk, filter};
 ghost use Rattle.cqf_relay.specs.Logs.{ByCycle, KeepsFrom, is_in};
 
 use cqf_units::Memory;
 use std::alloc::Global;
 
-/// A frame that came to the bridge.
+/// A frame that arrived at the bridge.
 #[derive(Clone, Copy, Debug, PartialEq, Eq)]
 pub(crate) struct ArrivedFrame {
-    /// The cycle in which it came.
+    /// The cycle in which it arrived.
     pub(crate) cycle: u32,
-    /// When it is whole, in nanoseconds from the cycle's beginning.
+    /// The instant at which it is whole, in nanoseconds from the cycle's beginning.
     pub(crate) at: u32,
     pub(crate) frame: u32,
     /// The number of its stream.
@@ -18,14 +18,14 @@ pub(crate) struct ArrivedFrame {
     pub(crate) octets: u32,
 }
 
-/// The frames that one source brought, cycle by cycle, in each by instant; those of early cycles may be gone.
+/// The frames that one source brought, by cycle, then instant. Those of early cycles may have been removed.
 #[derive(Debug, Drop)]
 pub(crate) struct SourceLog {
     frames: Vec<ArrivedFrame>,
 }
 
 impl SourceLog {
-    /// A log with nothing on it. It takes no memory yet.
+    /// Returns an empty log. It takes no memory yet.
     pub(crate) fn new(alloc: Global) -> SourceLog
         ensures { result.frames.items ≡ [] }
     {
@@ -34,7 +34,7 @@ impl SourceLog {
         }
     }
 
-    /// Puts a frame behind the others. `Memory` where a growth is refused.
+    /// Appends a frame. Returns `Memory` if an allocation fails.
     pub(crate) fn keep(&mut self, came: ArrivedFrame) -> Result<(), Memory>
         ensures { OnOk result (self.new.frames.items ≡ self.old.frames.items ++ came ∷ []) }
     {
@@ -42,7 +42,7 @@ impl SourceLog {
         Ok(())
     }
 
-    /// The frames of a cycle, where cycles don't go back.
+    /// Returns the frames of a cycle. The log must be in order of cycles.
     pub(crate) fn of_cycle(&self, cycle: u32) -> &[ArrivedFrame]
         ensures { ByCycle self.now.frames.items → result.now ≡ filter (is_in cycle) self.now.frames.items }
     {
@@ -53,7 +53,7 @@ impl SourceLog {
         &rest[..count]
     }
 
-    /// Lets frames go of cycles before one, where they are half of all or more.
+    /// Removes the frames of cycles before `before`, if they are at least half of all frames.
     pub(crate) fn let_go(&mut self, before: u32)
         ensures { KeepsFrom before self.old.frames.items self.new.frames.items }
     {

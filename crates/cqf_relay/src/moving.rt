@@ -3,22 +3,22 @@
 /// A frame on its way to the next bridge.
 #[derive(Clone, Copy, Debug, PartialEq, Eq)]
 pub struct Moving {
-    /// When it is whole there, in nanoseconds from the beginning of its cycle.
+    /// The instant at which it is whole there, in nanoseconds from the beginning of its cycle.
     pub at: u32,
     pub frame: u32,
     /// The number of its stream.
     pub row: u32,
     pub octets: u16,
-    /// Its cycle, from the stretch's first one.
+    /// Its cycle, counted from the stretch's first one.
     pub after: u16,
 }
 
-/// What a link sends in some cycles, behind what it sent before: its frames in order of start.
+/// What a link sends in some cycles, after what it sent before: its frames in order of start.
 #[derive(Debug, Drop)]
 pub struct Stretch {
-    /// The cycle of the first frame, where there is one.
+    /// The cycle of the first frame, if there is one.
     pub from: u32,
-    /// Up to which cycle it has sent.
+    /// The cycle up to which the link has sent, exclusive.
     pub upto: u32,
     pub frames: Vec<Moving>,
 }

@@ -16,16 +16,16 @@ use cqf_units::{Memory, Nanos, octet_ticks};
 use std::alloc::Global;
 use std::mem::replace;
 
-/// Over how many cycles a link goes on at once at most, and from the first of those with a frame that is to be handed on: so frames that can't
-/// be handed on yet are few, and a stretch's cycles can be counted in 16 bits.
+/// The greatest number of cycles that a link sends at once. If frames wait to be handed on, the cycles are counted from that of the first
+/// of them. So few frames wait, and a stretch's cycles can be counted in 16 bits.
 const STRIDE: u32 = 256;
 
-/// A link that leaves the bridge: which rows lead to it, how far it has sent, and what of that it has yet to hand on.
+/// A link that leaves the bridge: which rows lead to it, how far it has sent, and what it has sent and not yet handed on.
 #[derive(Debug, Drop)]
 pub struct Outlet {
     wire: Wire,
     leads: Leads,
-    /// Up to which cycle it has sent, and has handed on.
+    /// The cycles up to which it has sent, and has handed on, exclusive.
     sent: u32,
     told: u32,
     pending: Pending,
@@ -33,7 +33,7 @@ pub struct Outlet {
 }
 
 impl Outlet {
-    /// The link of a number, that has sent nothing. It takes no memory yet.
+    /// Returns the link of a number, which has sent nothing. It takes no memory yet.
     pub(crate) fn new(
         alloc: Global,
         cycle_time: Nanos,
@@ -59,36 +59,36 @@ impl Outlet {
         }
     }
 
-    /// The number of the link.
+    /// Returns the number of the link.
     pub fn link(&self) -> u16
         ensures { result ≡ self.now.tape.link }
     {
         self.tape.link
     }
 
-    /// Up to which cycle it has sent.
+    /// Returns the cycle up to which the link has sent, exclusive.
     pub fn sent(&self) -> u32
         ensures { result ≡ self.now.sent }
     {
         self.sent
     }
 
-    /// Up to which cycle it has handed on what it sent.
+    /// Returns the cycle up to which the link has handed on what it sent, exclusive.
     pub fn told(&self) -> u32
         ensures { result ≡ self.now.told }
     {
         self.told
     }
 
-    /// Whether it ends in another bridge.
+    /// Returns whether the link ends in another bridge.
     pub fn is_onward(&self) -> bool
         ensures { result ≡ self.now.wire.onward }
     {
         self.wire.onward
     }
 
-    /// Whether it has something to hand on that the bridge at its end may need: what it sent while a row leads to it, and in the end that
-    /// it is over.
+    /// Returns whether the link has something to hand on that the bridge at its end may need: what it sent, if a row leads to it, or, after
+    /// the last of `cycles` cycles, that it is over.
     pub fn has_news(&self, cycles: u32) -> bool
         ensures onward { result ≡ true → self.now.wire.onward ≡ true }
         ensures more { result ≡ true → self.now.told < self.now.sent }
@@ -96,7 +96,7 @@ impl Outlet {
         self.wire.onward && self.sent > self.told && (self.leads.used() || self.sent == cycles)
     }
 
-    /// Whether it has sent all of so many cycles, and has handed them on where it ends in another bridge.
+    /// Returns whether the link has sent all of `cycles` cycles, and has handed them on if it ends in another bridge.
     pub(crate) fn is_over(&self, cycles: u32) -> bool
         ensures sent { result ≡ true → cycles ≤ self.now.sent }
         ensures told { result ≡ true → self.now.wire.onward ≡ true → cycles ≤ self.now.told }
@@ -105,7 +105,7 @@ impl Outlet {
         self.sent >= cycles && (!self.wire.onward || self.told >= cycles)
     }
 
-    /// Up to which cycle it may send as yet, whatever has come.
+    /// Returns the cycle up to which the link may send now, no matter what has arrived.
     pub(crate) fn most(&self) -> u32
         ensures { result ≤ most_of self.now }
     {
@@ -116,14 +116,14 @@ impl Outlet {
         }
     }
 
-    /// Whether a row leads here from a link.
+    /// Returns whether a row leads from a link to this one.
     pub(crate) fn needs(&self, link: u16) -> bool
         ensures { result ≡ list_any (λ it. it == link) self.now.leads.needs.items }
     {
         self.leads.needs(link)
     }
 
-    /// Learns a row behind those that it knows. `Memory` where a growth is refused.
+    /// Learns a row, after those that it knows. Returns `Memory` if an allocation fails.
     pub(crate) fn learn(&mut self, row: &Row) -> Result<(), Memory>
         ensures { OnOk result (LearnsOf row.now self.old self.new) }
     {
@@ -131,7 +131,7 @@ impl Outlet {
             .learn(row.no, row.tree.as_slice(), self.tape.link)
     }
 
-    /// Sends a frame in a cycle, so long behind its beginning, where it has room there, and gives when the next one may start.
+    /// Sends a frame in a cycle, at this offset from its beginning, if there is room. Returns the offset at which the next frame may start.
     fn send_one(&mut self, cycle: u32, offset: u64, came: ArrivedFrame) -> Result<u64, Memory>
         requires { offset < 2 ^ 40 }
         ensures { IfOk result (SendsOne cycle offset came self.old self.new) }
@@ -158,7 +158,7 @@ impl Outlet {
         Ok(offset + self.wire.taken_by(came.octets))
     }
 
-    /// Sends frames in a cycle, one behind the other from its beginning.
+    /// Sends frames in a cycle, one after the other, from its beginning.
     fn send_queue(&mut self, cycle: u32, queue: &[Queued]) -> Result<(), Memory>
         ensures { OnOk result (SendsQueue cycle queue.now self.old self.new) }
     {
@@ -169,7 +169,7 @@ impl Outlet {
         Ok(())
     }
 
-    /// Sends in the next cycle what came in the one before it.
+    /// Sends in the next cycle what arrived in the cycle before it.
     fn send_cycle(
         &mut self,
         inlets: &[Inlet],
@@ -189,7 +189,8 @@ impl Outlet {
         Ok(())
     }
 
-    /// Sends up to a cycle: what came in the cycles before the last of these. `Memory` where a growth is refused.
+    /// Sends up to a cycle, exclusive: in each of these cycles what arrived in the cycle before it. Returns `Memory` if an allocation
+    /// fails.
     pub(crate) fn send_to(
         &mut self,
         until: u32,
@@ -205,7 +206,7 @@ impl Outlet {
         Ok(())
     }
 
-    /// What was sent since the last stretch, as one. It takes no memory.
+    /// Returns what was sent since the last stretch, as one stretch. It takes no memory.
     pub(crate) fn stretch(&mut self, alloc: Global) -> Stretch
         ensures { TakesPending self.old self.new result }
     {
@@ -217,7 +218,8 @@ impl Outlet {
         }
     }
 
-    /// Has the last stretch back, which couldn't be handed on: it stands as before that was asked for, when it had handed on up to a cycle.
+    /// Takes back the last stretch, which couldn't be handed on. The link is then as before that stretch was taken, when it had handed on
+    /// up to `told`.
     pub(crate) fn keep_back(&mut self, told: u32, stretch: Stretch)
         ensures { KeepsStretchBack told stretch self.old self.new }
     {
@@ -228,7 +230,7 @@ impl Outlet {
         };
     }
 
-    /// What it has sent.
+    /// Returns what the link has sent.
     pub(crate) fn into_tape(self) -> Tape
         ensures { result ≡ self.tape }
     {

@@ -1,4 +1,4 @@
-//! What a link has sent and has yet to hand on.
+//! The frames that a link has sent and not yet handed on.
 ghost use Rattle.std.specs.Prelude.{◌≡◌, [], OnOk};
 ghost use Rattle.cqf_relay.specs.Sending.{Hands};
 
@@ -6,7 +6,7 @@ use crate::moving::Moving;
 use cqf_units::Memory;
 use std::alloc::Global;
 
-/// What a link has sent and has yet to hand on, and the cycle of its first frame.
+/// The frames that a link has sent and not yet handed on, and the cycle of the first of them.
 #[derive(Debug, Drop)]
 pub(crate) struct Pending {
     pub(crate) base: u32,
@@ -14,7 +14,7 @@ pub(crate) struct Pending {
 }
 
 impl Pending {
-    /// Nothing. It takes no memory yet.
+    /// Returns no frames. It takes no memory yet.
     pub(crate) fn new(alloc: Global) -> Pending
         ensures { result.frames.items ≡ [] }
     {
@@ -24,7 +24,7 @@ impl Pending {
         }
     }
 
-    /// Puts a frame of a cycle behind the others: it counts cycles from that of the first one. `Memory` where a growth is refused.
+    /// Appends a frame of a cycle. Its cycle is counted from that of the first frame. Returns `Memory` if an allocation fails.
     pub(crate) fn hand(&mut self, cycle: u32, moving: Moving) -> Result<(), Memory>
         ensures { OnOk result (Hands cycle moving self.old self.new) }
     {

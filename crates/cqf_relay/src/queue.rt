@@ -8,31 +8,31 @@ use crate::leads::{By, Leads};
 use crate::log::{ArrivedFrame, SourceLog};
 use cqf_units::Memory;
 
-/// The place of the edge among the sources: behind all links.
+/// The source number of the edge, greater than all link numbers.
 const EDGE: u16 = 4096;
 
-/// A frame that waits for a link, with its source: the number of the link that it came by, 4096 for an offer.
+/// A frame that waits for a link, with its source: the number of the link by which it arrived, or 4096 for an offer.
 #[derive(Clone, Copy, Debug)]
 pub(crate) struct Queued {
     pub(crate) source: u16,
     pub(crate) came: ArrivedFrame,
 }
 
-/// An instant, a source and a frame in one number.
+/// Returns an instant, a source and a frame as one number.
 fn one_of(at: u32, source: u16, frame: u32) -> u128
     ensures { result ≡ (at * 8192 + source) * 16777216 + frame }
 {
     (u128::from(at) * 8192 + u128::from(source)) * 16_777_216 + u128::from(frame)
 }
 
-/// By this number a queue is put in order: by instant, then source, then frame.
+/// Returns the number that orders a queue: by instant, then source, then frame.
 pub(crate) fn key(queued: &Queued) -> u128
     ensures { result ≡ key_of_queued queued.now }
 {
     one_of(queued.came.at, queued.source, queued.came.frame)
 }
 
-/// Puts those frames of a cycle into a queue that one source brought and that go on by its link.
+/// Appends to a queue the frames that one source brought in a cycle and that go on by the queue's link.
 fn gather_from(
     leads: &Leads,
     by: By,
@@ -55,7 +55,7 @@ fn gather_from(
     Ok(())
 }
 
-/// Puts the frames of a cycle into a queue that go on by its link, source by source. `Memory` where a growth is refused.
+/// Appends to a queue the frames of a cycle that go on by the queue's link, source by source. Returns `Memory` if an allocation fails.
 pub(crate) fn gather(
     leads: &Leads,
     inlets: &[Inlet],

@@ -1,4 +1,4 @@
-//! A bridge whose links go on by themselves.
+//! A bridge whose links go on separately.
 ghost use Rattle.cqf_relay.specs.Sending.{IsTidy};
 ghost use Rattle.std.specs.Arc.{arc_value};
 ghost use Rattle.std.specs.Prelude.{◌≡◌, ◌<◌, ◌≤◌, All, IfOk, OnOk, [], length, map, true, false};
@@ -20,13 +20,14 @@ use std::alloc::Global;
 use std::mem::replace;
 use std::sync::Arc;
 
-/// How many cycles beyond that up to which all links have sent a bridge takes tables of: so cycles aren't closed far ahead of what is sent.
+/// A bridge takes tables of at most this many cycles beyond those that all its links have sent. So cycles aren't closed far ahead of what
+/// is sent.
 const AHEAD: u32 = 64;
 
-/// A bridge of a run of so many cycles: how many tables it has taken, its links by number, and its edge.
+/// A bridge of a run of `cycles` cycles: how many tables it has taken, its links by number, and its edge.
 #[derive(Drop)]
 pub struct Relay {
-    /// The relays of a run share one.
+    /// The relays of a run share one domain.
     domain: Arc<Domain>,
     number: u16,
     cycles: u32,
@@ -34,15 +35,15 @@ pub struct Relay {
     /// The links that end in the bridge.
     inlets: Vec<Inlet>,
     edge: Edge,
-    /// The links that leave it.
+    /// The links that leave the bridge.
     outlets: Vec<Outlet>,
-    /// How many rows by number are known.
+    /// One more than the number of the last known row; 0 if no row is known.
     known: u64,
-    /// Room for the frames that a link sends in a cycle.
+    /// Working memory for the frames that a link sends in a cycle.
     queue: Vec<Queued>,
 }
 
-/// Whether a node is the bridge.
+/// Returns whether a node is the bridge of this number.
 fn is_bridge(node: Node, number: u16) -> bool
     ensures { result ≡ node_is node number }
 {
@@ -52,7 +53,7 @@ fn is_bridge(node: Node, number: u16) -> bool
     }
 }
 
-/// Whether a node is a bridge.
+/// Returns whether a node is a bridge.
 fn is_some_bridge(node: Node) -> bool
     ensures { result ≡ is_bridge node }
 {
@@ -62,7 +63,7 @@ fn is_some_bridge(node: Node) -> bool
     }
 }
 
-/// The links that end in a bridge, by number, of which nothing has come.
+/// Returns the links that end in a bridge, by number, which have brought nothing yet.
 fn new_inlets(alloc: Global, domain: &Domain, number: u16) -> Result<Vec<Inlet>, Memory>
     ensures { IfOk result (λ inlets. AreNewInlets domain.now number inlets.items) }
 {
@@ -75,7 +76,7 @@ fn new_inlets(alloc: Global, domain: &Domain, number: u16) -> Result<Vec<Inlet>,
     Ok(inlets)
 }
 
-/// The links that leave a bridge, by number, that have sent nothing.
+/// Returns the links that leave a bridge, by number, which have sent nothing yet.
 fn new_outlets(alloc: Global, domain: &Domain, number: u16) -> Result<Vec<Outlet>, Memory>
     ensures { IfOk result (λ outlets. AreNewOutlets domain.now number outlets.items) }
 {
@@ -92,7 +93,7 @@ fn new_outlets(alloc: Global, domain: &Domain, number: u16) -> Result<Vec<Outlet
     Ok(outlets)
 }
 
-/// Has each link learn a row.
+/// Makes each link learn a row.
 fn learn_on_each(outlets: &mut [Outlet], row: &Row) -> Result<(), Memory>
     ensures { OnOk result (LearnOnEach row.now outlets.old outlets.new) }
 {
@@ -103,8 +104,8 @@ fn learn_on_each(outlets: &mut [Outlet], row: &Row) -> Result<(), Memory>
 }
 
 impl Relay {
-    /// A bridge of the domain, which it shares with the caller, in a run of so many cycles, which has done nothing. `Memory` where a growth
-    /// is refused.
+    /// Returns the bridge of this number in a run of `cycles` cycles, before it has done anything. It shares the domain with the caller.
+    /// Returns `Memory` if an allocation fails.
     pub fn new(
         alloc: Global,
         domain: &Arc<Domain>,
@@ -130,42 +131,42 @@ impl Relay {
         })
     }
 
-    /// The number of the bridge.
+    /// Returns the number of the bridge.
     pub fn number(&self) -> u16
         ensures { result ≡ self.now.number }
     {
         self.number
     }
 
-    /// The domain.
+    /// Returns the domain.
     pub fn domain(&self) -> &Domain
         ensures { result.now ≡ arc_value self.now.domain }
     {
         &self.domain
     }
 
-    /// How many cycles there are.
+    /// Returns the number of cycles of the run.
     pub fn cycles(&self) -> u32
         ensures { result ≡ self.now.cycles }
     {
         self.cycles
     }
 
-    /// How many tables were taken: the next is that of the cycle of this number.
+    /// Returns how many tables were taken. The next table is that of the cycle of this number.
     pub fn tables(&self) -> u32
         ensures { result ≡ self.now.tables }
     {
         self.tables
     }
 
-    /// The links that leave the bridge, by number.
+    /// Returns the links that leave the bridge, by number.
     pub fn outlets(&self) -> &[Outlet]
         ensures { result.now ≡ self.now.outlets.items }
     {
         self.outlets.as_slice()
     }
 
-    /// What a link that leaves the bridge has sent since it was last asked.
+    /// Returns what a link that leaves the bridge has sent since its last stretch was taken. `place` is the link's index among these links.
     pub fn stretch_of(&mut self, alloc: Global, place: usize) -> Stretch
         requires { place < length self.old.outlets.items }
         ensures { HandsOn place self.old self.new result }
@@ -173,7 +174,7 @@ impl Relay {
         self.outlets[place].stretch(alloc)
     }
 
-    /// Has the last stretch of a link back, which couldn't be handed on; before that it had handed on up to a cycle.
+    /// Takes back the last stretch of a link, which couldn't be handed on. `told` is the cycle up to which the link had handed on before.
     pub fn keep_back(&mut self, place: usize, told: u32, stretch: Stretch)
         requires { place < length self.old.outlets.items }
         ensures { KeepsBack place told stretch self.old self.new }
@@ -181,7 +182,7 @@ impl Relay {
         self.outlets[place].keep_back(told, stretch);
     }
 
-    /// Learns the rows of the next table that are new: by number they come behind those that are known.
+    /// Learns the new rows of the next table. By number they follow the known rows.
     fn learn_rows(&mut self, table: &Table) -> Result<(), Memory>
         ensures { OnOk result (LearnsRows table.now.rows self.old self.new) }
     {
@@ -195,7 +196,8 @@ impl Relay {
         Ok(())
     }
 
-    /// Whether it takes a table as yet: there is one more, and no link is far behind it.
+    /// Returns whether the bridge takes a table now: there is a next one, and each link has sent more than n - `AHEAD` cycles if n tables
+    /// were taken.
     pub fn wants_table(&self) -> bool
         ensures { result ≡ true → self.now.tables < self.now.cycles }
     {
@@ -206,7 +208,8 @@ impl Relay {
                 .all(|it| self.tables < it.sent().saturating_add(AHEAD))
     }
 
-    /// Takes the table of the next cycle, with the bridge's offers of the cycle, by instant, then place. `Memory` where a growth is refused.
+    /// Takes the table of the next cycle, with the bridge's offers of the cycle, by instant, then index. Returns `Memory` if an allocation
+    /// fails.
     pub fn take_table(&mut self, table: &Table, offers: &[Offered]) -> Result<(), Memory>
         requires early { self.old.tables < self.old.cycles }
         requires offers { AreOfCycle (arc_value self.old.domain) self.old.tables offers.now }
@@ -219,7 +222,7 @@ impl Relay {
         Ok(())
     }
 
-    /// Takes what came by the inlet at a place. `Memory` where a growth is refused.
+    /// Takes what the inlet at an index brought. Returns `Memory` if an allocation fails.
     pub fn take_stretch(&mut self, place: usize, stretch: &Stretch) -> Result<(), Memory>
         requires { place < length self.old.inlets.items }
         ensures { OnOk result (TakesStretch place stretch.now self.old self.new) }
@@ -227,7 +230,7 @@ impl Relay {
         self.inlets[place].take(stretch)
     }
 
-    /// Up to which cycle all has come that a link needs.
+    /// Returns the cycle up to which everything that a link needs has arrived, exclusive.
     fn has_come(&self, place: usize) -> u32
         requires { place < length self.now.outlets.items }
         ensures tables { result ≤ self.now.tables }
@@ -242,7 +245,7 @@ impl Relay {
         have
     }
 
-    /// Up to which cycle a link may send: one more than has come.
+    /// Returns the cycle up to which a link may send, exclusive: one more than has arrived, within the run and the link's own limit.
     fn reach(&self, place: usize) -> u32
         requires { place < length self.now.outlets.items }
         ensures { MayReach place result self.now }
@@ -254,7 +257,7 @@ impl Relay {
             .min(most)
     }
 
-    /// Whether a link may go on.
+    /// Returns whether some link may go on.
     pub fn may_send(&self) -> bool {
         for place in 0..self.outlets.len() {
             if self.reach(place) > self.outlets[place].sent() {
@@ -264,7 +267,7 @@ impl Relay {
         false
     }
 
-    /// Has a link go on as far as it may.
+    /// Makes a link send as far as it may.
     fn send_on(&mut self, place: usize) -> Result<(), Memory>
         requires { place < length self.old.outlets.items }
         ensures { OnOk result (SendsOn place self.old self.new) }
@@ -278,7 +281,7 @@ impl Relay {
         )
     }
 
-    /// Lets go of what came in cycles that no link needs any more.
+    /// Removes what arrived in cycles that no link needs any more.
     fn let_go(&mut self)
         ensures { LetsGo self.old self.new }
     {
@@ -292,7 +295,7 @@ impl Relay {
         self.edge.log.let_go(least);
     }
 
-    /// Has each link go on as far as it may. `Memory` where a growth is refused.
+    /// Makes each link send as far as it may. Returns `Memory` if an allocation fails.
     pub fn send(&mut self) -> Result<(), Memory>
         ensures { OnOk result (GoesOnAlone self.old self.new) }
     {
@@ -303,7 +306,7 @@ impl Relay {
         Ok(())
     }
 
-    /// Whether all is over: each table and each stretch was taken, and each link has sent all cycles and handed them on.
+    /// Returns whether all is over: each table and each stretch was taken, and each link has sent all cycles and handed them on.
     pub fn is_over(&self) -> bool
         ensures over { result ≡ true → IsOver self.now }
         ensures some { result ≡ false → 0 < self.now.cycles }
@@ -313,7 +316,7 @@ impl Relay {
             && self.inlets.iter().all(|it| it.upto >= self.cycles)
     }
 
-    /// What the bridge has sent and dropped, taken away from it. `Memory` where a growth is refused.
+    /// Returns what the bridge has sent and dropped, and removes it from the bridge. Returns `Memory` if an allocation fails.
     pub fn take_reel(&mut self, alloc: Global) -> Result<Reel, Memory>
         ensures tapes { IfOk result (λ reel. reel.tapes.items ≡ map (λ outlet. outlet.tape) self.old.outlets.items) }
         ensures drops { IfOk result (λ reel. reel.drops ≡ self.old.edge.drops) }

@@ -1,24 +1,24 @@
-//! How long a link takes for frames.
+//! The time that frames take on a link.
 ghost use Rattle.std.specs.Prelude.{◌≡◌, ◌<◌, ◌^◌, ◌*◌, ◌+◌};
 ghost use Rattle.cqf_units.specs.Timing.{slot_of};
 ghost use Rattle.cqf_relay.specs.Sending.{has_room_on, time_on};
 
 use cqf_units::time_in_ticks;
 
-/// How long a link takes for frames, in nanoseconds.
+/// The time that frames take on a link, in nanoseconds.
 #[derive(Clone, Copy, Debug, PartialEq, Eq)]
 pub struct Wire {
-    /// For an octet, in ticks of 40 picoseconds.
+    /// The time of an octet, in ticks of 40 picoseconds.
     pub octet_time: u32,
     pub delay: u32,
-    /// How long a cycle is.
+    /// The cycle time.
     pub cycle_time: u32,
-    /// Whether it ends in another bridge.
+    /// Whether the link ends in another bridge.
     pub onward: bool,
 }
 
 impl Wire {
-    /// How long a frame takes from its start until it is whole at the link's end.
+    /// Returns the time from a frame's start until it is whole at the link's end.
     pub(crate) fn time_of(&self, octets: u32) -> u64
         requires { octets < 2 ^ 16 }
         ensures { result ≡ time_on self.now octets }
@@ -26,7 +26,8 @@ impl Wire {
         time_in_ticks(u64::from(octets) + 8, u64::from(self.octet_time)) + u64::from(self.delay)
     }
 
-    /// Whether a frame is whole within a cycle, if it starts so long behind the cycle's beginning. What the gates of a run let pass always is.
+    /// Returns whether a frame is whole within a cycle if it starts at this offset from the cycle's beginning. Frames that the gates of a
+    /// run pass always are.
     pub(crate) fn has_room(&self, offset: u64, octets: u32) -> bool
         requires { offset < 2 ^ 40 }
         ensures { result ≡ has_room_on self.now offset octets }
@@ -34,7 +35,7 @@ impl Wire {
         octets <= u32::from(u16::MAX) && offset + self.time_of(octets) < u64::from(self.cycle_time)
     }
 
-    /// How long a frame and the gap behind it take.
+    /// Returns the time that a frame and the gap after it take.
     pub(crate) fn taken_by(&self, octets: u32) -> u64
         requires { octets < 2 ^ 16 }
         ensures value { result ≡ slot_of octets self.now.octet_time }

@@ -23,7 +23,7 @@ use Rattle.cqf_tape.specs.Tapes.{first_links, link_of_tape, links_of}
 use Rattle.cqf_tape.proofs.Held.{background_held, background_of, held_at, held_front, held_here, held_last, held_later, starts_held, starts_of}
 use Rattle.cqf_tape.proofs.Rows.{made_at}
 
--- the tapes of the links from a number on are taken, by number, and those of the links below it are left with the bridges
+-- the tapes of the links from a number on are taken, by link number, and the bridges keep those of the links below it
 pub record IsGathering (d : Domain) (reels : List Reel) (left : List (Vec Tape Global)) (number : ℕ) (taken : List Tape) : Type 0 where
   pub many : length left ≡ length d.bridges
   pub rows : (bridge : ℕ) → bridge < length d.bridges → links_of (row_at left bridge) ≡ each_below (with_link d bridge) number
@@ -33,7 +33,7 @@ pub record IsGathering (d : Domain) (reels : List Reel) (left : List (Vec Tape G
   pub moved : (held : Tape → List Mark) (link : ℕ) → number ≤ link → link < length d.links →
       held_at held taken link ≡ held_at held (tapes_of reels (bridge_of d link)) link
 
--- at first all are left
+-- at first the bridges have all tapes
 pub none_gathered : (d : Domain) (reels : List Reel) (left : List (Vec Tape Global)) (number : ℕ) (taken : List Tape) → AreReelsOf d reels →
     number ≡ length d.links → taken ≡ [] → length left ≡ length reels → ((bridge : ℕ) → row_at left bridge ≡ tapes_of reels bridge) →
     IsGathering d reels left number taken
@@ -64,7 +64,7 @@ other_bridge d link bridge apart = elim (slice_get_cases d.links link).1 [
   | inr w ↦ ap (λ (o : Option Link). option_map_or (λ (l : Link). l.from == bridge) o false) w.1
 ]
 
--- what is left of the links of the bridge of the greatest link left, with it, and of those of another bridge
+-- the links of the bridge of the greatest link left are those of smaller numbers and this link; another bridge's don't contain it
 own_row : (d : Domain) (bridge link : ℕ) → bridge ≡ bridge_of d link → link < length d.links →
     each_below (with_link d bridge) (suc link) ≡ each_below (with_link d bridge) link ++ link ∷ []
 own_row d bridge link is inside =
@@ -90,7 +90,7 @@ some_left d reels left number link bridge taken h is its there inside none =
 module _ (d : Domain) (reels : List Reel) (left after : List (Vec Tape Global)) (link bridge : ℕ) (tape : Tape) (taken : List Tape)
     (h : IsGathering d reels left (suc link) taken) (its : bridge ≡ bridge_of d link) (there : bridge < length d.bridges) (inside : link < length d.links)
     (takes : TakesLast bridge left after tape) where
-  -- the last tape of the bridge is that of the link, and before it stand those of the links below
+  -- the last tape of the bridge is that of the link, and the tapes before it are those of smaller links
   parted : (links_of (row_at after bridge) ≡ each_below (with_link d bridge) link) × (tape.link ≡ link)
   parted =
       same_from_push (links_of (row_at after bridge)) (each_below (with_link d bridge) link) tape.link link
@@ -119,7 +119,7 @@ module _ (d : Domain) (reels : List Reel) (left after : List (Vec Tape Global)) 
   stay_after held other l below (inr apart) =
       ap (λ (tapes : List Tape). held_at held tapes l) (takes.others other apart) ∙ h.stay held other l (omega (arith, below))
 
-  -- the link's tape has what it had
+  -- the link's tape has the same marks as before
   own_tape : (held : Tape → List Mark) → held_at held (tape ∷ taken) link ≡ held_at held (tapes_of reels (bridge_of d link)) link
   own_tape held =
       held_here held tape taken link parted.1
@@ -136,7 +136,7 @@ module _ (d : Domain) (reels : List Reel) (left after : List (Vec Tape Global)) 
       let next : suc link ≤ l = omega (arith, from, apart) in
       held_later held tape taken l (λ e. omega (arith, e, parted.1, next)) ∙ h.moved held l next within
 
-  -- with the last tape of that bridge the next is taken
+  -- with the last tape of that bridge the next tape is taken
   pub one_gathered : IsGathering d reels after link (tape ∷ taken)
   one_gathered = record {
     many = takes.many ∙ h.many;
@@ -149,7 +149,7 @@ module _ (d : Domain) (reels : List Reel) (left after : List (Vec Tape Global)) 
     moved = λ held l from within. moved_after held l from within (cases_eq l link);
   }
 
--- ---- as the code has it: links are counted from the greatest on, and tapes stand in the order in which they were taken
+-- ---- as in the code: links are counted from the greatest down, and tapes are in the order in which they were taken
 
 -- the bridge that is found is the link's
 its_bridge : (d : Domain) (link : ℕ) (found : Link) → slice_get d.links link ≡ Some found → found.from ≡ bridge_of d link
@@ -163,7 +163,7 @@ none_missing d reels left seen count behind found taken accepted all less at sam
     (accepted.links_good (count - 1 - behind) found at).from_bridge (omega (arith, all, less))
     (ap (λ (rows : List (Vec Tape Global)). row_at rows found.from) (sym same) ∙ none)
 
--- rows that are written back are what they were made
+-- rows that are written back have their new values
 written_back : (left after : List (Vec Tape Global)) (len : ℕ) → length after ≡ length left → len ≡ length left →
     take len (after ++ drop (length after) left) ≡ after
 written_back left after len many is =
@@ -200,7 +200,7 @@ next_gathered d reels left seen after count behind len found tape links more acc
     turned : reverse more ≡ tape ∷ reverse links
     turned = ap reverse pushed ∙ reverse-append links (tape ∷ [])
 
--- in the end all are
+-- in the end all tapes are taken
 pub all_gathered : (d : Domain) (reels : List Reel) (left : List (Vec Tape Global)) (number : ℕ) (taken : List Tape) (tapes : Tapes) →
     IsGathering d reels left number taken → number ≡ 0 → tapes.links.items ≡ taken → length tapes.drops.items ≡ length d.bridges →
     ((bridge : ℕ) → row_at tapes.drops.items bridge ≡ dropped_by reels bridge) → AreGatheredFrom d reels tapes

@@ -1,4 +1,4 @@
--- What the tapes of a list have of a link.
+-- The marks that a list of tapes has for a link.
 use Rattle.std.proofs.Common.{◌≡◌, ◌≢◌, ℕ, zero, suc, ◌<◌, ◌+◌, ◌∷◌, ◌++◌, [], Contains, List, length, get_or, sym, ap, ◌∙◌, arith, refl, eq-eqb, ne_eqb}
 use Rattle.std.specs.Prelude.{◌==◌, if◌then◌else◌}
 use Rattle.std.proofs.lemmas.Bool.{cond-false, cond-true}
@@ -9,7 +9,7 @@ use Rattle.cqf_tape.specs.declared.tape.Mark.{Mark}
 use Rattle.cqf_tape.specs.declared.tape.Tape.{Tape}
 use Rattle.cqf_tape.specs.Tapes.{background_at, first_links, link_of_tape, links_of, starts_at}
 
--- what is held of the first tape of a link, and nothing where there is none
+-- the value of the first tape of a link; empty if there is no such tape
 abbrev pub held_at : (Tape → List Mark) → List Tape → ℕ → List Mark
 held_at held [] link = []
 held_at held (tape ∷ tapes) link = if tape.link == link then held tape else held_at held tapes link
@@ -30,20 +30,20 @@ background_held [] link = refl
 background_held (tape ∷ tapes) link = ap (λ (rest : List Mark). if tape.link == link then tape.background.items else rest) (background_held tapes link)
 
 module _ (held : Tape → List Mark) where
-  -- of the first tape's link it is that tape's, and of another what the others have
+  -- for the first tape's link it is the value of that tape, and for another link the value among the other tapes
   pub held_here : (tape : Tape) (tapes : List Tape) (link : ℕ) → tape.link ≡ link → held_at held (tape ∷ tapes) link ≡ held tape
   held_here tape tapes link is = cond-true (tape.link == link) (held tape) (held_at held tapes link) (eq-eqb tape.link link is)
 
   pub held_later : (tape : Tape) (tapes : List Tape) (link : ℕ) → tape.link ≢ link → held_at held (tape ∷ tapes) link ≡ held_at held tapes link
   held_later tape tapes link other = cond-false (tape.link == link) (held tape) (held_at held tapes link) (ne_eqb tape.link link other)
 
-  -- a last tape changes nothing of another link
+  -- appending a tape changes nothing for another link
   pub held_front : (front : List Tape) (last : Tape) (link : ℕ) → last.link ≢ link → held_at held (front ++ last ∷ []) link ≡ held_at held front link
   held_front [] last link other = held_later last [] link other
   held_front (tape ∷ front) last link other =
       ap (λ (rest : List Mark). if tape.link == link then held tape else rest) (held_front front last link other)
 
-  -- and has what is held of its own, where none before it is of that
+  -- an appended tape gives its own value if no earlier tape is of its link
   pub held_last : (front : List Tape) (last : Tape) (link : ℕ) → last.link ≡ link → ((x : ℕ) → Contains (links_of front) x → x ≢ link) →
       held_at held (front ++ last ∷ []) link ≡ held last
   held_last [] last link is apart = held_here last [] link is
@@ -51,7 +51,7 @@ module _ (held : Tape → List Mark) where
       held_later tape (front ++ last ∷ []) link (apart tape.link (contains_here tape.link (links_of front)))
       ∙ held_last front last link is (λ x there. apart x (contains_later tape.link (links_of front) x there))
 
-  -- where tapes stand by number from some number on, each has what is held of its own
+  -- if the tapes are numbered consecutively from some number on, each gives its own value
   pub held_from : (tapes : List Tape) (first place : ℕ) (d : Tape) → ((k : ℕ) → k < length tapes → (get_or tapes k d).link ≡ first + k) →
       place < length tapes → held_at held tapes (first + place) ≡ held (get_or tapes place d)
   held_from [] first place d by inside = absurd (omega (arith, inside))
@@ -63,7 +63,7 @@ module _ (held : Tape → List Mark) where
       ∙ ap (held_at held tapes) same
       ∙ held_from tapes (suc first) place d (λ k below. by (suc k) (omega (arith, below)) ∙ further k) (omega (arith, inside))
     where
-      -- one further on
+      -- one index further
       further : (k : ℕ) → first + suc k ≡ suc first + k
       further k = omega arith
 
@@ -73,7 +73,7 @@ module _ (held : Tape → List Mark) where
       let start : link ≡ 0 + link = omega arith in
       ap (held_at held tapes) start ∙ held_from tapes 0 link d (λ k below. own k below ∙ count k) inside
     where
-      -- the link of a tape is the tape's place
+      -- the link of a tape is the tape's index
       own : (k : ℕ) → k < length tapes → (get_or tapes k d).link ≡ k
       own k below =
           sym (get_or-map link_of_tape tapes k d 0 below) ∙ ap (λ (links : List ℕ). get_or links k 0) by
@@ -82,7 +82,7 @@ module _ (held : Tape → List Mark) where
       count : (k : ℕ) → k ≡ 0 + k
       count k = omega arith
 
--- so the tape at a link's place is the link's
+-- so the tape at index `link` is the tape of that link
 pub starts_there : (tapes : List Tape) (link : ℕ) (tape : Tape) → links_of tapes ≡ first_links (length tapes) → link < length tapes →
     tape ≡ get_or tapes link tape → tape.starts.items ≡ starts_at tapes link
 starts_there tapes link tape by inside is =

@@ -11,13 +11,13 @@ use Rattle.cqf_model.specs.Domain.{Domain, bridge_of, leaves}
 use Rattle.cqf_model.proofs.LinkEnds.{leaves_inside}
 use Rattle.cqf_tape.specs.Reels.{links_leaving, with_link}
 
--- a link that leaves a bridge is among those
+-- a link that leaves a bridge is listed among the links that do
 pub leaving_listed : (d : Domain) (bridge link : ℕ) → leaves d link bridge ≡ true → Contains (links_leaving d bridge) link
 leaving_listed d bridge link here =
     contains_below (with_link d bridge) (length d.links) link link (leaves_inside d link bridge here)
     (subst (λ (links : List ℕ). Contains links link) (sym (cond-true (leaves d link bridge) (link ∷ []) [] here)) (contains_here link []))
 
--- a link leaves one bridge alone
+-- a link leaves only one bridge
 pub leaves_one : (d : Domain) (l bridge : ℕ) → leaves d l bridge ≡ true → bridge_of d l ≡ bridge
 leaves_one d l bridge here =
     elim (slice_get_cases d.links l).1 [

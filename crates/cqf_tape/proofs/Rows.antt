@@ -1,4 +1,4 @@
--- Rows of a table, one of them shortened, and what elements by number come to.
+-- Rows of a table if one of them is shortened, and values made from elements by index.
 use Rattle.std.proofs.Common.{◌≡◌, ℕ, zero, suc, ◌<◌, ◌∷◌, ◌++◌, [], List, length, get_or, map, set, sym, ap, ◌∙◌, refl}
 use Rattle.std.specs.Prelude.{Option, slice_get}
 use Rattle.std.specs.Global.{Global}
@@ -13,18 +13,18 @@ use Rattle.cqf_tape.specs.declared.reel.Reel.{Reel}
 use Rattle.cqf_tape.specs.declared.tape.Tape.{Tape}
 use Rattle.cqf_tape.specs.Reels.{TakesLast, row_at}
 
--- what is made of an element by its number, and else something else
+-- the value made from the element at an index; the given default if there is none
 pub made_at : {A B : Type 0} (f : A → B) (xs : List A) (k : ℕ) (none : B) → option_map_or f (slice_get xs k) none ≡ get_or (map f xs) k none
 made_at f [] k none = refl
 made_at f (x ∷ xs) zero none = refl
 made_at f (x ∷ xs) (suc k) none = made_at f xs k none
 
--- a row inside of a table
+-- a row inside the table
 pub row_here : {X : Type 0} (rows : List (Vec X Global)) (place : ℕ) (d : Vec X Global) → place < length rows → row_at rows place ≡ (get_or rows place d).items
 row_here {X} rows place d inside =
     ap (λ (o : Option (Vec X Global)). option_map_or (λ (row : Vec X Global). row.items) o []) (slice_get-get_or rows place d inside)
 
--- a row is shortened by its last tape
+-- a row loses its last tape
 pub taken_last : (before : List (Vec Tape Global)) (place bridge : ℕ) (old new : Vec Tape Global) (tape : Tape) → place ≡ bridge → place < length before →
     old ≡ get_or before place old → old.items ≡ new.items ++ tape ∷ [] → TakesLast bridge before (set before place new) tape
 taken_last before place bridge old new tape is inside stands parts = record {
@@ -48,7 +48,7 @@ pub nothing_there : (rows : List (Vec Tape Global)) (place bridge : ℕ) (old : 
 nothing_there rows place bridge old is inside stands none =
     ap (row_at rows) (sym is) ∙ row_here rows place old inside ∙ ap (λ (row : Vec Tape Global). row.items) (sym stands) ∙ none
 
--- ---- reels that are taken apart, the others still to come
+-- ---- reels that are taken apart, and those that remain
 
 -- what is on reels
 abbrev pub tapes_on : Reel → List Tape
@@ -57,7 +57,7 @@ tapes_on reel = reel.tapes.items
 abbrev pub drops_on : Reel → List Dropped
 drops_on reel = reel.drops.items
 
--- what rows have so far, and what is made of those to come, is what is made of all
+-- the rows so far, followed by what the remaining reels give, are what all reels give
 pub record IsTakenUpTo {X : Type 0} (made : Reel → List X) (rows : List (Vec X Global)) (rest all : List Reel) : Type 0 where
   pub parts : lists_of rows ++ map made rest ≡ map made all
 

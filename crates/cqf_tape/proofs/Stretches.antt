@@ -1,4 +1,4 @@
--- Of a list in order of a number, the elements of one number are one stretch.
+-- In a list ordered by a number, the elements with one number are consecutive.
 use Rattle.std.proofs.Common.{◌≡◌, ℕ, zero, suc, ◌<◌, ◌≤◌, ◌+◌, ◌-◌, ◌*◌, ◌∷◌, [], AllPairs, List, Bool, true, false, filter, take, drop, length, get_or, sym}
 use Rattle.std.proofs.Common.{ap, ◌∙◌, arith}
 use Rattle.std.proofs.Common.{eq-eqb, inl, inr, ne_eqb, refl, subst}
@@ -12,11 +12,11 @@ use Rattle.cqf_model.specs.Domain.{Domain, IsAccepted, cycle_of}
 use Rattle.cqf_tape.specs.declared.tape.Mark.{Mark}
 use Rattle.cqf_tape.specs.Tapes.{AreDropsByCycle, IsDropsEndBefore, IsEndBefore, IsInOrder, is_drop_in, is_in}
 
--- of no elements there is no stretch
+-- no elements have an empty stretch
 stretch_of_none : {X : Type 0} (xs : List X) (from n : ℕ) → length xs ≡ 0 → [] ≡ take n (drop from xs)
 stretch_of_none xs from n none = sym (ap (take n) (drop_all from xs (omega (arith, none))) ∙ take_all n [] (omega arith))
 
--- where the elements from a place up to another pass, and no others do, these are kept
+-- if exactly the elements from one index up to another pass the filter, the filter keeps these
 pub kept_stretch : {X : Type 0} (p : X → Bool) (xs : List X) (from end : ℕ) → from ≤ end →
     ((k : ℕ) (x : X) → slice_get xs k ≡ Some x → k < from → p x ≡ false) →
     ((k : ℕ) (x : X) → slice_get xs k ≡ Some x → from ≤ k → k < end → p x ≡ true) →
@@ -42,7 +42,7 @@ kept_stretch {X} p (x ∷ xs) (suc from) (suc end) forward before own behind =
     (λ k y at least less. own (suc k) y at (omega (arith, least)) (omega (arith, less))) (λ k y at least. behind (suc k) y at (omega (arith, least)))
     ∙ ap (λ (n : ℕ). take n (drop from xs)) (sym same)
 
--- so it is of a number, with the places where the smaller ones end, and where it does
+-- so for the elements with a number: from the index where the smaller numbers end to the index where this number ends
 kept_of_number : {X : Type 0} (key : X → ℕ) (number : ℕ) (xs : List X) (from end : ℕ) → from ≤ end →
     ((k : ℕ) (x : X) → slice_get xs k ≡ Some x → k < from → key x < number) →
     ((k : ℕ) (x : X) → slice_get xs k ≡ Some x → from ≤ k → number ≤ key x) →
@@ -55,7 +55,7 @@ kept_of_number {X} key number xs from end forward before behind own_before own_b
     (λ k x at least less. eq-eqb (key x) number (omega (arith, behind k x at least, own_before k x at less)))
     (λ k x at least. ne_eqb (key x) number (λ same. omega (arith, same, own_behind k x at least)))
 
--- the marks of a cycle, and the drops of one
+-- the same for the marks of a cycle, and for its drops
 pub kept_in_cycle : (d : Domain) (cycle : ℕ) (marks : List Mark) (from end : ℕ) → IsEndBefore d cycle marks from → IsEndBefore d (cycle + 1) marks end →
     from ≤ end → filter (is_in d cycle) marks ≡ take (end - from) (drop from marks)
 kept_in_cycle d cycle marks from end before after forward =
@@ -66,7 +66,7 @@ pub kept_drops : (cycle : ℕ) (drops : List Dropped) (from end : ℕ) → IsDro
 kept_drops cycle drops from end before after forward =
     kept_of_number (λ (x : Dropped). x.cycle.0) cycle drops from end forward before.before before.behind after.before after.behind
 
--- what holds of the elements below a place, and of that at the place, holds of those below the next
+-- what holds of the elements below an index and of the element at it, holds of those below the next index
 pub next_before : {X : Type 0} (P : X → Type 0) (xs : List X) (place : ℕ) (here : X) → slice_get xs place ≡ Some here → P here →
     ((k : ℕ) (x : X) → slice_get xs k ≡ Some x → k < place → P x) → (k : ℕ) (x : X) → slice_get xs k ≡ Some x → k < place + 1 → P x
 next_before {X} P xs place here stands holds so_far k x at less = elim (cases_lt k place) [
@@ -76,7 +76,7 @@ next_before {X} P xs place here stands holds so_far k x at less = elim (cases_lt
       subst P (same_Some here x (sym stands ∙ ap (slice_get xs) (sym same) ∙ at)) holds
 ]
 
--- in order, an element from a place on is no less than that at the place
+-- in order, an element from an index on is not less than the element at that index
 pub from_place_on : {X : Type 0} (key : X → ℕ) (xs : List X) (place k : ℕ) (here x : X) → AllPairs (λ (a b : X). key a ≤ key b) xs →
     slice_get xs place ≡ Some here → slice_get xs k ≡ Some x → place ≤ k → key here ≤ key x
 from_place_on {X} key xs place k here x order stands at least = elim (cases_lt place k) [
@@ -91,7 +91,7 @@ from_place_on {X} key xs place k here x order stands at least = elim (cases_lt p
       omega (arith, keys)
 ]
 
--- an instant before a cycle's end is of it or of one before, and another of a later one
+-- an instant before a cycle's end is in that cycle or an earlier one; another instant is in a later cycle
 pub early_instant : (d : Domain) (cycle t time end : ℕ) → 0 < d.cycle_time → time ≡ d.cycle_time → end ≡ (cycle + 1) * time → t < end → cycle_of d t < cycle + 1
 early_instant d cycle t time end some is at less =
     let bound : end ≡ (cycle + 1) * d.cycle_time = at ∙ ap (λ (n : ℕ). (cycle + 1) * n) is in
@@ -102,9 +102,9 @@ late_instant d cycle t time end some is at least =
     let bound : end ≡ (cycle + 1) * d.cycle_time = at ∙ ap (λ (n : ℕ). (cycle + 1) * n) is in
     le-div (cycle + 1) t d.cycle_time some (omega (arith, bound, least))
 
--- ---- where a cycle's marks end, going on from where those of the cycles before do
+-- ---- where a cycle's marks end, counted on from where those of the earlier cycles end
 
--- no mark before the place is of a later cycle
+-- no mark before the index is of a later cycle
 abbrev pub NoneLater : Domain → ℕ → List Mark → ℕ → Type 0
 NoneLater d cycle marks place = (k : ℕ) (m : Mark) → slice_get marks k ≡ Some m → k < place → cycle_of d m.start.0 < cycle + 1
 
@@ -141,7 +141,7 @@ all_end d cycle marks place count is all so_far = record {
   behind = λ k m at least. absurd (omega (arith, is, least, slice_get_within marks k m at));
 }
 
--- and so of drops
+-- the same for drops
 abbrev pub NoDropLater : ℕ → List Dropped → ℕ → Type 0
 NoDropLater cycle drops place = (k : ℕ) (x : Dropped) → slice_get drops k ≡ Some x → k < place → x.cycle.0 < cycle + 1
 

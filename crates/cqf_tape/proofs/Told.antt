@@ -1,4 +1,4 @@
--- Tapes that are told cycle by cycle, link by link.
+-- The book of tapes, cycle by cycle, link by link.
 use Rattle.std.proofs.Common.{◌≡◌, ◌⊎◌, ℕ, suc, ◌<◌, ◌≤◌, ◌+◌, ◌++◌, List, length, get_or, set, replicate, map, filter, sym, ap, ◌∙◌, arith, inl, inr, subst}
 use Rattle.std.proofs.Common.{append_assoc, eqb-true}
 use Rattle.std.proofs.lemmas.Bool.{cases_lt}
@@ -24,7 +24,7 @@ many_tapes d tapes may =
 pub stand_by_number : (d : Domain) (tapes : Tapes) → MayBeTold d tapes → StandByNumber tapes
 stand_by_number d tapes may = may.each_link ∙ ap first_links (sym (many_tapes d tapes may))
 
--- lists end to end, and the next behind them
+-- lists end to end, and the next one after them
 pub each_more : {X : Type 0} (f : ℕ → List X) (n : ℕ) → each_below f n ++ f n ≡ each_below f (n + 1)
 each_more f n = let next : suc n ≡ n + 1 = omega arith in ap (each_below f) next
 
@@ -36,7 +36,7 @@ told_further {X} f n before told after so_far more =
 pub all_told_further : {X : Type 0} (f : ℕ → List X) (n : ℕ) (told after : List X) → told ≡ each_below f n → after ≡ told ++ f n → after ≡ each_below f (n + 1)
 all_told_further {X} f n told after so_far more = more ∙ ap (λ (xs : List X). xs ++ f n) so_far ∙ each_more f n
 
--- the marks of one cycle, told one by one, are what the tape tells of it
+-- the entries of one cycle's marks, one by one, are those of the cycle on the tape
 pub told_stretch : (d : Domain) (cycle link : ℕ) (marks own : List Mark) → filter (is_in d cycle) marks ≡ own →
     map (started_in cycle link) own ≡ told_on d cycle link marks
 told_stretch d cycle link marks own is =
@@ -44,7 +44,7 @@ told_stretch d cycle link marks own is =
     ∙ map_same (started_in cycle link) (started_by d link) (filter (is_in d cycle) marks)
     (λ m kept. ap (λ (n : ℕ). started_in n link m) (sym (eqb-true (cycle_of d m.start.0) cycle (contains_from_filter (is_in d cycle) marks m kept).1)))
 
--- ---- places of which the first are those behind a cycle, and the others those before it
+-- ---- indices: first those after a cycle, then those before it
 
 pub record ArePlacedTo (Before After : ℕ → ℕ → Type 0) (many next : ℕ) (places : List ℕ) : Type 0 where
   pub enough : many ≤ length places
@@ -74,7 +74,7 @@ module _ (Before After : ℕ → ℕ → Type 0) (many : ℕ) where
           subst (λ (n : ℕ). After k n) (sym (ap (λ (j : ℕ). get_or (set places j end) k 0) own ∙ get_or-set_same places k end 0 (omega (arith, within, h.enough))))
           (subst (λ (n : ℕ). After n end) number here)
 
--- places by link, of which the first are those behind a cycle
+-- indices by link: the first are those after a cycle, and the others those before it
 abbrev pub AreLinksPlacedTo : Domain → TransmissionKind → Tapes → ℕ → ℕ → List ℕ → Type 0
 AreLinksPlacedTo d kind tapes cycle next places =
     ArePlacedTo (λ link place. IsEndBefore d cycle (marks_at kind tapes link) place) (λ link place. IsEndBefore d (cycle + 1) (marks_at kind tapes link) place)
@@ -99,7 +99,7 @@ pub links_placed : (d : Domain) (kind : TransmissionKind) (tapes : Tapes) (cycle
 links_placed d kind tapes cycle next places h all =
     record { many = h.enough; ends = λ link inside. h.done link (omega (arith, inside, all)) inside }
 
--- and by bridge
+-- the same by bridge
 abbrev pub AreBridgesPlacedTo : Domain → Tapes → ℕ → ℕ → List ℕ → Type 0
 AreBridgesPlacedTo d tapes cycle next places =
     ArePlacedTo (λ bridge place. IsDropsEndBefore cycle (drops_at tapes bridge) place) (λ bridge place. IsDropsEndBefore (cycle + 1) (drops_at tapes bridge) place)
@@ -123,7 +123,7 @@ pub bridges_placed : (d : Domain) (tapes : Tapes) (cycle next : ℕ) (places : L
 bridges_placed d tapes cycle next places h all =
     record { many = h.enough; ends = λ bridge inside. h.done bridge (omega (arith, inside, all)) inside }
 
--- ---- before the first cycle all places are at the front
+-- ---- before the first cycle all indices are 0
 
 front_of_marks : (d : Domain) (marks : List Mark) (place : ℕ) → place ≡ 0 → IsEndBefore d 0 marks place
 front_of_marks d marks place is = record {
@@ -139,7 +139,7 @@ front_of_drops drops place is = record {
   behind = λ k x at from. omega arith;
 }
 
--- each of the first places is 0
+-- each of the first indices is 0
 zero_there : (places : List ℕ) (count k : ℕ) → places ≡ replicate {A = ℕ} count 0 → k < count → get_or places k 0 ≡ 0
 zero_there places count k are inside = ap (λ (ps : List ℕ). get_or ps k 0) are ∙ get_or-replicate count k 0 0 inside
 

@@ -1,4 +1,4 @@
 pub mod Tapes
 pub mod Reels
--- what the inner functions say
+-- contracts of the inner functions
 pub mod Telling

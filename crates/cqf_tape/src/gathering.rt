@@ -1,4 +1,4 @@
-//! The tapes of all links, from the reels of all bridges.
+//! Gathers the reels of all bridges into the tapes of all links.
 ghost use Rattle.std.specs.Prelude.{◌≡◌, ◌<◌, ℕ, [], IfNone, IfOk, IfSome, length};
 ghost use Rattle.cqf_tape.specs.Reels.{AreGatheredFrom, AreReelsOf, TakesLast, dropped_by, row_at, tapes_of};
 
@@ -10,7 +10,7 @@ use cqf_topology::Domain;
 use cqf_units::Memory;
 use std::alloc::Global;
 
-/// The tapes of each bridge, and the drops of each.
+/// Returns the tapes of each bridge and the drops of each bridge.
 fn taken_apart(
     alloc: Global,
     reels: Vec<Reel>,
@@ -33,7 +33,7 @@ fn taken_apart(
     Ok((tapes, drops))
 }
 
-/// The last tape of a bridge, taken from among its tapes.
+/// Removes and returns the last tape of a bridge. Returns `None` if the bridge has no tape left.
 fn take_last(tapes: &mut [Vec<Tape>], bridge: u16) -> Option<Tape>
     requires { bridge < length tapes.old }
     ensures some { IfSome result (TakesLast bridge tapes.old tapes.new) }
@@ -42,8 +42,8 @@ fn take_last(tapes: &mut [Vec<Tape>], bridge: u16) -> Option<Tape>
     tapes[usize::from(bridge)].pop()
 }
 
-/// The tapes of all links of a domain, by number, from the reels of its bridges, by number: each tape is moved, and what stands on it
-/// isn't looked at. `Memory` where a growth is refused; then the reels are gone.
+/// Returns the tapes of all links of a domain by link number, and the drops of each bridge, from the reels of its bridges by bridge number.
+/// Each tape is moved; its marks are not read. Returns `Memory` if an allocation fails; the reels are lost then.
 pub fn gather(alloc: Global, domain: &Domain, reels: Vec<Reel>) -> Result<Tapes, Memory>
     requires { AreReelsOf domain.now reels.items }
     ensures { IfOk result (AreGatheredFrom domain.now reels.items) }
@@ -52,7 +52,7 @@ pub fn gather(alloc: Global, domain: &Domain, reels: Vec<Reel>) -> Result<Tapes,
     let (mut left, drops) = taken_apart(alloc, reels)?;
     let mut links = Vec::new(alloc);
     let count = domain.links();
-    // each bridge has the tapes of its links by number, so the last one is that of the greatest
+    // each bridge has the tapes of its links by number, so its last tape is that of its greatest link
     for behind in 0..count {
         let bridge = domain.link(count - 1 - behind).from;
         match take_last(left.as_mut_slice(), bridge) {

@@ -1,17 +1,17 @@
-//! What the links of a run send and its bridges drop, each transmission once.
+//! The transmissions of a run's links and the drops of its bridges, each stored once.
 //!
-//! - A [`Tape`] is one link's: a [`Mark`] of 16 octets for each transmission, in order of instant. The link is the tape's, and the cycle
-//!   that of the instant.
-//! - A [`Reel`] is one bridge's, as long as a run goes on: the tapes of the links that leave it, and what it dropped.
-//! - [`Tapes`] are those of all links by number, and what each bridge dropped: [`gather`] makes them of the reels of all bridges.
-//! - [`end_of`] finds where the transmissions of a cycle end on a tape, so that a book is told cycle by cycle and link by link with nothing
-//!   sorted; [`book_of`] makes the book so.
+//! - A [`Tape`] belongs to one link. It has a [`Mark`] of 16 octets for each transmission, in order of instant. The link is stored once, on
+//!   the tape, and the instant determines the cycle.
+//! - A [`Reel`] belongs to one bridge while a run goes on. It has the tapes of the links that leave the bridge, and the bridge's drops.
+//! - [`Tapes`] are the tapes of all links by number, and the drops of each bridge. [`gather`] makes them from the reels of all bridges.
+//! - [`end_of`] finds where the transmissions of a cycle end on a tape. So a book can be written cycle by cycle and link by link, and nothing
+//!   has to be sorted. [`book_of`] makes the book in this way.
 //!
-//! `specs/Tapes.antt` says whose tapes they are (`AreTapesOf`), and what they tell (`told_from`).
+//! `specs/Tapes.antt` defines which tapes belong to a book (`AreTapesOf`), and which book tapes report (`told_from`).
 //!
 //! ```text
 //! gather(alloc, &domain, reels)           the tape of a>s, by its number, from the reel of bridge a
-//! book_of(alloc, &domain, 2, &tapes)      start,1,a>s,1,64,125000 where the tape of a>s has (125000, 1, 64)
+//! book_of(alloc, &domain, 2, &tapes)      start,1,a>s,1,64,125000 if the tape of a>s has the mark (125000, 1, 64)
 //! ```
 #![tactic(auto)]
 

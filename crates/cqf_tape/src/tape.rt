@@ -1,14 +1,14 @@
-//! What one link sends.
+//! The transmissions of one link.
 ghost use Rattle.std.specs.Prelude.{◌≡◌, ◌++◌, [], ◌∷◌, OnOk};
 
 use cqf_units::{Memory, Nanos};
 use std::alloc::Global;
 
-/// A transmission, as its link's tape has it.
+/// A transmission as stored on its link's tape.
 #[derive(Clone, Copy, Debug, PartialEq, Eq)]
 pub struct Mark {
     pub start: Nanos,
-    /// The place of its offer among the offers, or of its background frame among those, from 1.
+    /// The position of the frame's offer among the offers, or of the background frame among the background frames, from 1.
     pub frame: u32,
     pub octets: u32,
 }
@@ -16,16 +16,16 @@ pub struct Mark {
 /// The transmissions of a link, in order of instant.
 #[derive(Debug, Drop)]
 pub struct Tape {
-    /// The number of the link, by the domain, from 0.
+    /// The link's number in the domain, from 0.
     pub link: u16,
-    /// Those of streams' frames.
+    /// The transmissions of streams' frames.
     pub starts: Vec<Mark>,
-    /// Those of background frames.
+    /// The transmissions of background frames.
     pub background: Vec<Mark>,
 }
 
 impl Tape {
-    /// A link's tape with nothing on it. It takes no memory yet.
+    /// Returns an empty tape for a link. It takes no memory yet.
     pub fn new(alloc: Global, link: u16) -> Tape
         ensures link { result.link ≡ link }
         ensures starts { result.starts.items ≡ [] }
@@ -38,7 +38,7 @@ impl Tape {
         }
     }
 
-    /// Puts a stream's frame behind the others. `Memory` where a growth is refused.
+    /// Appends the transmission of a stream's frame. Returns `Memory` if an allocation fails.
     pub fn keep(&mut self, mark: Mark) -> Result<(), Memory>
         ensures link { self.new.link ≡ self.old.link }
         ensures starts { OnOk result (self.new.starts.items ≡ self.old.starts.items ++ mark ∷ []) }

@@ -1,30 +1,30 @@
-//! What all links of a run send.
+//! The transmissions of all links of a run.
 ghost use Rattle.std.specs.Prelude.{◌≡◌, ◌<◌, length};
 ghost use Rattle.cqf_tape.specs.Tapes.{StandByNumber, drops_at, marks_at};
 
 use crate::tape::{Mark, Tape};
 use cqf_model::Dropped;
 
-/// Which of the transmissions on a tape.
+/// The two kinds of transmissions on a tape.
 #[derive(Clone, Copy, Debug, PartialEq, Eq)]
 pub enum TransmissionKind {
-    /// Those of streams' frames.
+    /// Transmissions of streams' frames.
     Stream,
-    /// Those of background frames.
+    /// Transmissions of background frames.
     Background,
 }
 
-/// The tapes of all links of a domain, by number, and what each bridge dropped, by cycle, then frame: all that a run did, with each
-/// transmission once.
+/// The tapes of all links of a domain, by link number, and the drops of each bridge, by cycle, then frame. They hold everything that a run
+/// did, each transmission once.
 #[derive(Debug, Drop)]
 pub struct Tapes {
     pub links: Vec<Tape>,
-    /// By bridge.
+    /// The drops of each bridge, by bridge number.
     pub drops: Vec<Vec<Dropped>>,
 }
 
 impl Tapes {
-    /// The transmissions of a kind on a link, in order of instant.
+    /// Returns the transmissions of one kind on a link, as its tape has them. The tapes must be in order of their links' numbers.
     pub fn marks(&self, kind: TransmissionKind, link: u16) -> &[Mark]
         requires inside { link < length self.now.links.items }
         requires by_number { StandByNumber self.now }
@@ -37,7 +37,7 @@ impl Tapes {
         }
     }
 
-    /// What a bridge dropped, by cycle, then frame; nothing of a bridge that there isn't.
+    /// Returns the drops of a bridge, as they are kept. Returns an empty slice if there is no such bridge.
     pub fn drops(&self, bridge: u16) -> &[Dropped]
         ensures { result.now ≡ drops_at self.now bridge }
     {

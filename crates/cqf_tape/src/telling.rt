@@ -1,4 +1,4 @@
-//! Tapes told cycle by cycle.
+//! Reads tapes cycle by cycle.
 ghost use Rattle.std.specs.Prelude.{◌≡◌, ◌+◌, ◌-◌, ◌≤◌, ◌<◌, ◌++◌, IfOk, OnOk, drop, filter, length, take};
 ghost use Rattle.cqf_model.specs.Book.{contents_of};
 ghost use Rattle.cqf_model.specs.Limits.{most_cycles};
@@ -13,7 +13,7 @@ use cqf_topology::Domain;
 use cqf_units::{Cycle, Memory};
 use std::alloc::Global;
 
-/// Where the marks of a cycle end, of a tape on which those of the cycles before end at a place.
+/// Returns the index where the marks of a cycle end on a tape. `from` is the index where the marks of the earlier cycles end.
 pub fn end_of(domain: &Domain, cycle: Cycle, marks: &[Mark], from: usize) -> usize
     requires early { cycle.0 < most_cycles }
     requires order { IsInOrder marks.now }
@@ -31,7 +31,7 @@ pub fn end_of(domain: &Domain, cycle: Cycle, marks: &[Mark], from: usize) -> usi
     marks.len()
 }
 
-/// Where the drops of a cycle end, where those of the cycles before end at a place.
+/// Returns the index where the drops of a cycle end. `from` is the index where the drops of the earlier cycles end.
 pub fn drops_end_of(cycle: Cycle, drops: &[Dropped], from: usize) -> usize
     requires order { AreDropsByCycle drops.now }
     requires before { IsDropsEndBefore cycle.0 drops.now from }
@@ -47,7 +47,7 @@ pub fn drops_end_of(cycle: Cycle, drops: &[Dropped], from: usize) -> usize
     drops.len()
 }
 
-/// A mark of a cycle on a link's tape, as a book has it.
+/// Returns the book's entry for a mark of a cycle on a link's tape.
 pub fn started_on(cycle: Cycle, link: u16, mark: Mark) -> Started
     ensures { result ≡ started_in cycle.0 link mark }
 {
@@ -60,7 +60,7 @@ pub fn started_on(cycle: Cycle, link: u16, mark: Mark) -> Started
     }
 }
 
-/// Puts the marks of a cycle on a link's tape behind what is told, and gives the place where they end.
+/// Appends the entries of a link's marks in a cycle, and returns the index where these marks end.
 fn add_on_link(
     domain: &Domain,
     cycle: Cycle,
@@ -83,7 +83,8 @@ fn add_on_link(
     Ok(end)
 }
 
-/// Puts the marks of a kind and a cycle behind what is told, link by link. The places are those where the cycles before end.
+/// Appends the entries of one kind in a cycle, link by link. `places` are the indices where the marks of the earlier cycles end; they
+/// become those where the marks of this cycle end.
 fn add_cycle(
     domain: &Domain,
     tapes: &Tapes,
@@ -106,7 +107,7 @@ fn add_cycle(
     Ok(())
 }
 
-/// The transmissions of a kind, cycle by cycle, then link by link.
+/// Returns the transmissions of one kind, cycle by cycle, then link by link.
 fn starts_of_kind(
     alloc: Global,
     domain: &Domain,
@@ -133,7 +134,8 @@ fn starts_of_kind(
     Ok(starts)
 }
 
-/// Puts the drops of a cycle behind what is told, bridge by bridge. The places are those where the cycles before end.
+/// Appends the drops of a cycle, bridge by bridge. `places` are the indices where the drops of the earlier cycles end; they become those
+/// where the drops of this cycle end.
 fn add_drops(
     domain: &Domain,
     tapes: &Tapes,
@@ -157,7 +159,7 @@ fn add_drops(
     Ok(())
 }
 
-/// The drops, cycle by cycle, then bridge by bridge.
+/// Returns the drops, cycle by cycle, then bridge by bridge.
 fn all_drops(
     alloc: Global,
     domain: &Domain,
@@ -182,8 +184,9 @@ fn all_drops(
     Ok(drops)
 }
 
-/// The book that tapes tell over so many cycles, at most 100,000: its starts by cycle, then link, then instant, and its drops by cycle, then
-/// bridge, then frame. Nothing is sorted. `Memory` where a growth is refused.
+/// Returns the book that tapes report over the given number of cycles, at most 100,000. Its starts are ordered by cycle, then link, then
+/// instant; its drops by cycle, then bridge, then position among the bridge's drops. Nothing is sorted. Returns `Memory` if an allocation
+/// fails.
 pub fn book_of(alloc: Global, domain: &Domain, tapes: &Tapes, cycles: u32) -> Result<Book, Memory>
     requires few { cycles ≤ most_cycles }
     requires tapes { MayBeTold domain.now tapes.now }

@@ -1,4 +1,4 @@
-//! Calls of a bridge that meet what it asks of its callers.
+//! Calls of a bridge that satisfy their preconditions.
 ghost use Rattle.std.specs.Prelude.{◌≡◌, ◌<◌, ℕ, length, true};
 ghost use Rattle.cqf_model.specs.Domain.{leaves};
 ghost use Rattle.cqf_bridge.specs.BridgeState.{IsBackedOf};
@@ -11,7 +11,7 @@ use cqf_topology::Domain;
 use cqf_units::Cycle;
 use std::alloc::Global;
 
-/// Receives a cycle with the bridge's of these offers.
+/// Receives a cycle at a bridge with those of these offers that are at the bridge.
 pub(crate) fn receive(
     alloc: Global,
     bridge: &mut Bridge,
@@ -32,7 +32,7 @@ pub(crate) fn receive(
     bridge.receive(alloc, cycle, table, batches, own.as_slice())
 }
 
-/// Whether a link of the domain leaves a bridge.
+/// Returns whether a link of the domain leaves a bridge.
 fn is_from(domain: &Domain, link: u16, bridge: u16) -> bool
     ensures inside { result ≡ true → link < length domain.now.links }
     ensures leaves { result ≡ true → leaves domain.now link bridge ≡ true }
@@ -43,7 +43,7 @@ fn is_from(domain: &Domain, link: u16, bridge: u16) -> bool
     domain.link(link).from == bridge
 }
 
-/// Whether a background frame may be handed to a bridge with a cycle.
+/// Returns whether a background frame may be given to a bridge with a cycle.
 fn is_backed_of(domain: &Domain, bridge: u16, cycle: Cycle, frame: &Background) -> bool
     ensures { result ≡ true → (number : ℕ) → IsBackedOf domain.now bridge cycle.0 (record { frame = number; background = frame.now }) }
 {
@@ -54,7 +54,7 @@ fn is_backed_of(domain: &Domain, bridge: u16, cycle: Cycle, frame: &Background) 
     here && fits && early && then
 }
 
-/// Sends a cycle with the background frame 1, where that is the bridge's and of the cycle.
+/// Sends a cycle with the background frame 1, if it is the bridge's and of the cycle.
 pub(crate) fn send(
     alloc: Global,
     bridge: &mut Bridge,

@@ -4,7 +4,7 @@ use cqf_gates::{
 };
 use std::alloc::Global;
 
-/// Texts, and the entries that they are, and as which text these are written.
+/// Texts, their entries, and the texts as which these are written.
 const READ: &[(&[u8], &[(u8, u32)], &[u8])] = &[
     (b"80 120000", &[(0x80, 120_000)], b"80 120000\n"),
     // lower case and leading zeros
@@ -36,7 +36,7 @@ const REFUSED: &[(&[u8], TextFault)] = &[
     (b"80 4294967296", TextFault::BadLine(1)),
 ];
 
-/// Whether the list is written so.
+/// Returns whether the list is written as `wanted`.
 fn is_written(alloc: Global, list: &TxList, wanted: &[u8]) -> bool {
     match write_tx(alloc, list) {
         Ok(text) => text.as_slice() == wanted,
@@ -44,7 +44,7 @@ fn is_written(alloc: Global, list: &TxList, wanted: &[u8]) -> bool {
     }
 }
 
-/// Whether the text is read as these entries, which are written so.
+/// Returns whether the text is read as these entries, which are written as `wanted`.
 fn is_read(alloc: Global, text: &[u8], entries: &[(u8, u32)], wanted: &[u8]) -> bool {
     match read_tx(text) {
         Ok(list) => list.entries() == entries && is_written(alloc, &list, wanted),
@@ -52,7 +52,7 @@ fn is_read(alloc: Global, text: &[u8], entries: &[(u8, u32)], wanted: &[u8]) -> 
     }
 }
 
-/// Whether the text is refused so.
+/// Returns whether the text is refused with this fault.
 fn is_refused(text: &[u8], fault: TextFault) -> bool {
     read_tx(text).err() == Some(fault)
 }
@@ -81,7 +81,7 @@ const LIMITED_AND_NOT: &[StreamEntry] = &[
     },
 ];
 
-/// Whether the list of these entries is written so.
+/// Returns whether the list of these entries is written as `wanted`.
 fn stream_is_written(alloc: Global, entries: &[StreamEntry], wanted: &[u8]) -> bool {
     match StreamList::new(entries) {
         Ok(list) => { matches!(write_stream(alloc, &list), Ok(text) if text.as_slice() == wanted) }

@@ -1,4 +1,4 @@
-//! Which frames gates let pass, by hand-worked values.
+//! The frames that gates pass, with values worked out by hand.
 use cqf_bridge::StreamGates;
 use cqf_gates::Passed;
 use cqf_model::{Hop, Pace, Row, Tree};
@@ -7,20 +7,20 @@ use cqf_topology::Domain;
 use cqf_units::{Cycle, Name, Nanos, Octets};
 use std::alloc::Global;
 
-/// A frame that comes to the gates: the link that it came by, none at the edge; the cycle in which it comes; its octets; and the
-/// class that it gets, none where it doesn't pass.
+/// A frame that arrives at the gates: the link by which it arrived, `None` at the edge; the cycle in which it arrives; its octets; and the
+/// class that it gets, `None` if it doesn't pass.
 type Frame = (Option<u16>, u64, u32, Option<u8>);
 
 /// The stream is offered in each cycle.
 const EACH: Pace = Pace { pause: 0, phase: 0 };
 
-/// In cycles 1, 5, 9 and so on.
+/// The stream is offered in cycles 1, 5, 9 and so on.
 const SECOND_OF_FOUR: Pace = Pace { pause: 3, phase: 1 };
 
-/// In cycles 4, 9, 14 and so on.
+/// The stream is offered in cycles 4, 9, 14 and so on.
 const LAST_OF_FIVE: Pace = Pace { pause: 4, phase: 4 };
 
-/// The row of a stream with 1,500 octets that goes by links 0, 1 and 2.
+/// Returns the row of a stream with 1,500 octets that goes by links 0, 1 and 2.
 fn row_of(alloc: Global, no: u32, pace: Pace) -> Option<Row> {
     let hops = [
         Hop {
@@ -56,7 +56,7 @@ fn row_of(alloc: Global, no: u32, pace: Pace) -> Option<Row> {
     }
 }
 
-/// Whether a frame of a row's stream goes by the gates so, where it comes in the middle of its cycle.
+/// Returns whether the gates give the expected class to a frame of a row's stream that arrives in the middle of its cycle.
 fn passes_so(domain: &Domain, row: &Row, gates: &mut StreamGates, frame: Frame) -> bool {
     let at = Nanos(frame.1.saturating_mul(125_000).saturating_add(60_000));
     let wanted = match frame.3 {
@@ -66,7 +66,7 @@ fn passes_so(domain: &Domain, row: &Row, gates: &mut StreamGates, frame: Frame) 
     gates.pass(domain, row, frame.0, at, Octets(frame.2)) == Ok(wanted)
 }
 
-/// Whether the frames of a stream of a pace go by gates that have seen none so, one after the other.
+/// Returns whether new gates give the expected classes to the frames of a stream of a pace, one after the other.
 fn all_pass_so(alloc: Global, pace: Pace, frames: &[Frame]) -> bool {
     let Ok(domain) = Domain::read(alloc, line().as_bytes()) else {
         return false;
@@ -83,7 +83,7 @@ fn all_pass_so(alloc: Global, pace: Pace, frames: &[Frame]) -> bool {
     true
 }
 
-/// Whether frames of the stream of a number go so by rows of two paces, behind one another.
+/// Returns whether new gates give the expected classes to frames of a stream's number, by rows of two paces, one after the other.
 fn both_pass_so(alloc: Global, first: (Pace, &[Frame]), then: (Pace, &[Frame])) -> bool {
     let Ok(domain) = Domain::read(alloc, line().as_bytes()) else {
         return false;
@@ -124,7 +124,7 @@ fn a_stream_passes_at_the_edge_in_its_own_cycles_alone(rt: HostRuntime) {
     assert!(rt; all_pass_so(rt.alloc(), SECOND_OF_FOUR, AT_EDGE));
 }
 
-/// Behind link 0, which is 1 deep.
+/// After link 0, of hop number 1.
 const BEHIND_THE_FIRST: &[Frame] = &[
     (Some(0), 1, 1500, None),
     (Some(0), 2, 1500, Some(6)),
@@ -135,7 +135,7 @@ const BEHIND_THE_FIRST: &[Frame] = &[
     (Some(0), 7, 1500, None),
 ];
 
-/// Behind link 1, which is 2 deep.
+/// After link 1, of hop number 2.
 const BEHIND_THE_SECOND: &[Frame] = &[
     (Some(1), 2, 1500, None),
     (Some(1), 3, 1500, Some(7)),
@@ -150,7 +150,7 @@ fn behind_links_it_passes_as_many_cycles_later_as_they_are_deep(rt: HostRuntime)
     assert!(rt; all_pass_so(rt.alloc(), SECOND_OF_FOUR, BEHIND_THE_SECOND));
 }
 
-/// The phase and the depth together are a whole period, so behind link 0 it is cycles 0, 5 and 10.
+/// Phase and hop number together are a whole period, so after link 0 the own cycles are 0, 5 and 10.
 const ROUND_A_PERIOD: &[Frame] = &[
     (Some(0), 0, 1500, Some(6)),
     (Some(0), 4, 1500, None),
@@ -165,7 +165,7 @@ fn classes_take_turns_where_a_period_is_odd(rt: HostRuntime) {
     assert!(rt; all_pass_so(rt.alloc(), LAST_OF_FIVE, ROUND_A_PERIOD));
 }
 
-/// Of 1,500 octets 600 and 900 are the whole, and a frame that is over them takes nothing.
+/// 600 and 900 octets are all of the 1,500, and a frame that exceeds the rest uses no octets.
 const IN_ONE_CYCLE: &[Frame] = &[
     (None, 1, 600, Some(7)),
     (None, 1, 901, None),
@@ -194,7 +194,7 @@ fn a_stream_of_each_cycle_passes_in_each_however_deep(rt: HostRuntime) {
     assert!(rt; all_pass_so(rt.alloc(), EACH, frames));
 }
 
-/// What passed by a row counts by another of the number, in the same cycle; the next cycle begins anew.
+/// What passed by one row counts for another row of the number in the same cycle; the next cycle is counted anew.
 #[test]
 fn another_pace_behind_one_counts_on_in_the_cycle_and_begins_anew_in_the_next(rt: HostRuntime) {
     let first: &[Frame] = &[(None, 1, 1000, Some(7))];

@@ -1,18 +1,17 @@
-//! What no clause shows: that each kernel runs as its plain form does at every length of a tail, and rows with values
-//! from outside.
+//! Properties that no contract states: each kernel agrees with its plain form at every length of a tail, and on rows of concrete values.
 use cqf_lanes::{
     eligible, eligible_plain, highest, highest_plain, masked_sum, masked_sum_plain, octet_sum,
     octet_sum_plain, open_run, open_run_plain,
 };
 use std::alloc::Global;
 
-/// The longest of the lists that are tried.
+/// The longest list that is tried.
 const LONGEST: usize = 70;
 
 /// The first and last bits of the two halves of a mask.
 const BITS: &[u32] = &[0, 31, 32, 63];
 
-/// Appends costs and masks that are spread over their ranges, and gate states that are open but for class 3 at place 70.
+/// Appends costs and masks that are spread over their ranges, and gate states that are open except for class 3 at index 70.
 fn spread(costs: &mut Vec<u32>, masks: &mut Vec<u64>, states: &mut Vec<u8>) -> bool {
     let mut number: u64 = 1;
     for place in 0..2 * LONGEST + 1 {
@@ -30,7 +29,7 @@ fn spread(costs: &mut Vec<u32>, masks: &mut Vec<u64>, states: &mut Vec<u8>) -> b
     true
 }
 
-/// Whether the sums are those of their plain forms.
+/// Returns whether the sums are those of their plain forms.
 fn sums_agree(costs: &[u32], masks: &[u64]) -> bool {
     if costs.len() != masks.len() || costs.len() > LONGEST {
         return false;
@@ -43,7 +42,7 @@ fn sums_agree(costs: &[u32], masks: &[u64]) -> bool {
     octet_sum(costs) == octet_sum_plain(costs)
 }
 
-/// Whether the run among so many states, of which the one at this place is closed, is that of its plain form.
+/// Returns whether the run among `many` states, with the state at index `closed` closed, is that of its plain form.
 fn runs_agree(states: &[u8], many: usize, closed: usize) -> bool {
     let from = LONGEST.saturating_sub(closed);
     match states.get(from..from.saturating_add(many)) {
@@ -52,7 +51,7 @@ fn runs_agree(states: &[u8], many: usize, closed: usize) -> bool {
     }
 }
 
-/// Whether each kernel agrees with its plain form on the first of these, so many.
+/// Returns whether each kernel agrees with its plain form on the first `many` of these.
 fn tail_agrees(costs: &[u32], masks: &[u64], states: &[u8], many: usize) -> bool {
     for closed in 0..=many {
         if !runs_agree(states, many, closed) {
@@ -65,7 +64,8 @@ fn tail_agrees(costs: &[u32], masks: &[u64], states: &[u8], many: usize) -> bool
     }
 }
 
-/// The first length at which a kernel doesn't agree with its plain form, where there is one; the longest and one more where memory lacks.
+/// Returns the first length at which a kernel doesn't agree with its plain form, if there is one. Returns the longest length plus one if
+/// memory is refused.
 fn first_wrong_tail(alloc: Global) -> Option<usize> {
     let mut costs = Vec::new(alloc);
     let mut masks = Vec::new(alloc);
@@ -86,12 +86,12 @@ fn every_tail(rt: HostRuntime) {
     assert!(rt; first_wrong_tail(rt.alloc()) == None);
 }
 
-/// What each class needs, and of what is left the numbers that are tried.
+/// The need of each class, and the numbers tried as what is left.
 const NEED: [u32; 8] = [1, 2, 3, 4, 5, 6, 7, u32::MAX];
 
 const LEFT: &[u32] = &[0, 3, 4, 7, u32::MAX];
 
-/// Whether the classes of these gates are chosen as by the plain forms.
+/// Returns whether the classes of these gates are chosen as by the plain forms.
 fn choices_agree(gates: u8) -> bool {
     for most in LEFT {
         let left = [*most; 8];
@@ -125,7 +125,7 @@ fn octets_and_costs_are_summed(rt: HostRuntime) {
     assert!(rt; masked_sum(&COSTS, &MASKS, 1) == 20);
 }
 
-/// Gate states, and how many from the first on open class 7.
+/// Gate states, and how many of them, from the first on, open class 7.
 const RUNS: &[(&[u8], usize)] = &[
     (&[0x80, 0xC0, 0x40], 2),
     (
@@ -144,7 +144,7 @@ fn a_run_ends_where_the_class_is_closed(rt: HostRuntime) {
     }
 }
 
-/// What each class needs, and what is left to it: a nanosecond too little for class 7, and enough.
+/// The need of each class, and what is left to it: one nanosecond too little for class 7, and enough.
 const NEEDED: [u32; 8] = [0, 0, 0, 0, 0, 0, 576, 12_240];
 
 const ONE_SHORT: [u32; 8] = [0, 0, 0, 0, 0, 0, 1000, 12_239];

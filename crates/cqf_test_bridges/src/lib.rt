@@ -1,5 +1,5 @@
-//! Tests of bridges driven one by one, and of units, texts, lanes, gate lists and ports, with values from outside. A crate that has tests is
-//! proved twice, so these stand in one of their own.
+//! Tests of bridges driven one by one, and of units, texts, lanes, gate lists and ports, with concrete values. A crate with tests is proved
+//! twice, so these tests have a crate of their own.
 #![tactic(auto)]
 
 #[cfg(test)]

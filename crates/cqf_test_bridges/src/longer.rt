@@ -1,5 +1,5 @@
-//! A thousand cycles of the line's bridges, in each of which a frame is offered that its stream covers: it goes one link on in each
-//! further cycle, and nothing is dropped.
+//! A thousand cycles of the line's bridges. In each cycle a frame is offered that its stream covers. The frame goes one link further in
+//! each later cycle, and nothing is dropped.
 use crate::runs::{Start, Traffic, Written, bridges_of, go_through};
 use crate::tables::{ONE_BRANCH, admit, plan_of};
 use cqf_admission::{Admission, Table};
@@ -9,8 +9,8 @@ use cqf_test_fixtures::{line, offers_of};
 use cqf_units::Memory;
 use std::alloc::Global;
 
-/// What the links start in a cycle: each the frame that was offered as many cycles before as it has come by links, the only one of its
-/// list.
+/// Returns the expected starts in a cycle. Each link that frames have reached starts the frame that was offered as many cycles before as
+/// the link's hop number. The frame's number is 1, since it is the only offer of its list.
 fn told_in(alloc: Global, cycle: u32) -> Result<Vec<Start>, Memory> {
     let mut told = Vec::new(alloc);
     for link in 0..3u16 {
@@ -21,7 +21,7 @@ fn told_in(alloc: Global, cycle: u32) -> Result<Vec<Start>, Memory> {
     Ok(told)
 }
 
-/// Whether the bridges go through the cycle of a table so.
+/// Returns whether the bridges go through the cycle of a table with these starts and no drops.
 fn go_on(alloc: Global, bridges: &mut Vec<Bridge>, table: &Table) -> bool {
     let cycle = table.cycle().0;
     let Ok(told) = told_in(alloc, cycle) else {
@@ -47,7 +47,7 @@ fn go_on(alloc: Global, bridges: &mut Vec<Bridge>, table: &Table) -> bool {
         && written.drops.is_empty()
 }
 
-/// Whether they go through a thousand, which an admission closes in turn.
+/// Returns whether they go through a thousand cycles, which an admission closes one by one.
 fn go_on_and_on(alloc: Global, bridges: &mut Vec<Bridge>, asked: &mut Admission) -> bool {
     for _cycle in 0..1000 {
         match asked.seal(0) {
@@ -62,7 +62,7 @@ fn go_on_and_on(alloc: Global, bridges: &mut Vec<Bridge>, asked: &mut Admission)
     true
 }
 
-/// Whether they do over a plan, where the stream is held.
+/// Returns whether they do with a plan in which the stream is held.
 fn go_on_over(alloc: Global, plan: &Plan) -> bool {
     let Ok(mut bridges) = bridges_of(alloc, plan) else {
         return false;
@@ -76,7 +76,7 @@ fn go_on_over(alloc: Global, plan: &Plan) -> bool {
     }
 }
 
-/// Whether they do over the line.
+/// Returns whether they do with the line.
 fn go_on_over_line(alloc: Global) -> bool {
     match plan_of(alloc, line()) {
         Some(plan) => go_on_over(alloc, &plan),

@@ -1,17 +1,17 @@
-//! Ports, asked one thing after the other.
+//! Ports, called step by step.
 use cqf_gates::TxList;
 use cqf_port::{Arrival, Port, PortFault, Start};
 use cqf_units::{Nanos, Rate};
 use std::alloc::Global;
 
-/// A frame: the instant at which it comes or starts, its class, and its octets. Its number is its class.
+/// A frame: the instant at which it arrives or starts, its class, and its octets. Its number is its class.
 type Frame = (u64, u8, u32);
 
-/// What a port is asked, and its answer.
+/// A call of a port, and its expected result.
 enum Step {
-    /// A frame comes, and is taken or refused.
+    /// A frame arrives, and is taken or refused.
     Offer(Frame, Option<PortFault>),
-    /// The port goes on to an instant, and hands out the starts up to it.
+    /// The port advances to an instant, and returns the starts up to it.
     Advance(u64, &'static [Frame]),
     NextStart(Option<u64>),
     Waiting(u8, usize),
@@ -113,10 +113,10 @@ const CASES: &[Case] = &[
     ),
 ];
 
-/// Later than all that happens here.
+/// An instant later than all in these cases.
 const LATEST: u64 = 100_000_000;
 
-/// Whether a frame that comes is taken, or refused so.
+/// Returns whether an arriving frame is taken, or refused with this fault.
 fn is_taken(port: &mut Port, frame: Frame, fault: Option<PortFault>) -> bool {
     let (at, class, octets) = frame;
     if class > 7 || at > LATEST {
@@ -131,7 +131,7 @@ fn is_taken(port: &mut Port, frame: Frame, fault: Option<PortFault>) -> bool {
     port.offer(arrival).err() == fault
 }
 
-/// Whether starts are these.
+/// Returns whether the starts are these.
 fn are_starts(starts: &[Start], frames: &[Frame]) -> bool {
     starts.len() == frames.len()
         && starts.iter().zip(frames).all(|(start, frame)| {
@@ -140,7 +140,7 @@ fn are_starts(starts: &[Start], frames: &[Frame]) -> bool {
         })
 }
 
-/// Whether the port goes on to an instant, and hands out these starts.
+/// Returns whether the port advances to an instant and returns these starts.
 fn is_advanced(alloc: Global, port: &mut Port, until: u64, frames: &[Frame]) -> bool {
     if until > LATEST {
         return false;
@@ -149,7 +149,7 @@ fn is_advanced(alloc: Global, port: &mut Port, until: u64, frames: &[Frame]) -> 
     port.advance(Nanos(until), &mut given).is_ok() && are_starts(given.as_slice(), frames)
 }
 
-/// Whether the port answers so.
+/// Returns whether the port gives the expected result of a step.
 fn answers(alloc: Global, port: &mut Port, step: &Step) -> bool {
     match *step {
         Step::Offer(frame, fault) => is_taken(port, frame, fault),
@@ -160,7 +160,7 @@ fn answers(alloc: Global, port: &mut Port, step: &Step) -> bool {
     }
 }
 
-/// Whether the port answers so to each step.
+/// Returns whether the port gives the expected result of each step.
 fn answers_all(alloc: Global, port: &mut Port, steps: &[Step]) -> bool {
     for step in steps {
         if !answers(alloc, port, step) {
@@ -170,7 +170,7 @@ fn answers_all(alloc: Global, port: &mut Port, steps: &[Step]) -> bool {
     true
 }
 
-/// Whether a port with this gate list at 1,000 Mb/s answers so.
+/// Returns whether a port with this gate list at 1,000 Mb/s gives the expected results.
 fn goes_so(alloc: Global, list: &[(u8, u32)], steps: &[Step]) -> bool {
     match TxList::new(list) {
         Ok(list) => answers_all(alloc, &mut Port::new(alloc, list, Rate::Mb1000), steps),

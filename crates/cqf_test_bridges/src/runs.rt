@@ -1,4 +1,4 @@
-//! Bridges side by side, cycle by cycle: the books of runs, worked out by hand, and each batch's octets beside its book's.
+//! Bridges side by side, cycle by cycle: the books of runs, worked out by hand, and each batch's octets compared with the book's.
 ghost use Rattle.std.specs.Prelude.{◌<◌};
 
 use crate::calls::{receive, send};
@@ -17,21 +17,21 @@ pub(crate) type Start = (u32, u16, u32, u32, u64);
 /// A drop: its cycle, bridge, frame, octets and reason.
 pub(crate) type Drop = (u32, u16, u32, u32, Reason);
 
-/// What is asked for and offered in a run, with at most one background frame.
+/// The calls, the offers and at most one background frame of a run.
 struct Run {
     calls: &'static [Call],
     offers: &'static [Offering],
     background: Option<Background>,
 }
 
-/// The traffic of a run: what is offered, and at most one background frame.
+/// The traffic of a run: offers, and at most one background frame.
 #[derive(Clone, Copy)]
 pub(crate) struct Traffic<'a> {
     pub(crate) offers: &'a [Offer],
     pub(crate) background: Option<Background>,
 }
 
-/// The book of a run: starts of streams' frames and of background frames by cycle, then bridge, then link, and drops.
+/// The expected book of a run: starts of streams' frames and of background frames by cycle, then bridge, then link, and drops.
 struct Told {
     starts: &'static [Start],
     others: &'static [Start],
@@ -47,7 +47,7 @@ pub(crate) struct Written {
 }
 
 impl Written {
-    /// One in which nothing is written.
+    /// Returns a book in which nothing is written.
     pub(crate) fn new(alloc: Global) -> Written {
         Written {
             starts: Vec::new(alloc),
@@ -57,7 +57,7 @@ impl Written {
     }
 }
 
-/// The octets that start on a batch's link in its cycle, in a book.
+/// Returns the octets that start on a batch's link in its cycle, in a book.
 fn octets_told(starts: &[Start], batch: &Batch) -> u64 {
     let mut sum: u64 = 0;
     for start in starts {
@@ -83,7 +83,7 @@ fn write_batch(batch: &Batch, starts: &mut Vec<Start>) -> Result<(), Memory> {
     Ok(())
 }
 
-/// Writes the frames of the batches of a cycle, where each batch has the octets that the book has.
+/// Writes the frames of the batches of a cycle. Returns whether each batch has the octets of the expected book.
 fn write_batches(batches: &[Batch], told: &[Start], starts: &mut Vec<Start>) -> bool {
     for batch in batches {
         if batch.octets() != octets_told(told, batch) || write_batch(batch, starts).is_err() {
@@ -122,7 +122,7 @@ fn send_all(
     true
 }
 
-/// The batches for a bridge. The bridges stand in a row, and each sends first on the link to the next one.
+/// Returns the batches for a bridge. The bridges are in a row, and each sends first on the link to the next one.
 fn batches_for(batches: &[Batch], number: u16) -> &[Batch] {
     let end = usize::from(number);
     if end == 0 || end > batches.len() {
@@ -225,7 +225,7 @@ fn go_through_all(
     true
 }
 
-/// The bridges of a plan.
+/// Returns the bridges of a plan.
 pub(crate) fn bridges_of(alloc: Global, plan: &Plan) -> Result<Vec<Bridge>, Memory> {
     let mut bridges = Vec::new(alloc);
     for number in 0..plan.domain().bridges() {
@@ -234,7 +234,7 @@ pub(crate) fn bridges_of(alloc: Global, plan: &Plan) -> Result<Vec<Bridge>, Memo
     Ok(bridges)
 }
 
-/// Whether a run with these tables and this traffic has the book that is told.
+/// Returns whether a run with these tables and this traffic has the expected book.
 fn has_book(
     alloc: Global,
     bridges: &mut Vec<Bridge>,
@@ -249,7 +249,7 @@ fn has_book(
         && written.drops.as_slice() == told.drops
 }
 
-/// Whether a run over a plan has the book that is told.
+/// Returns whether a run of a plan has the expected book.
 fn gives_on(alloc: Global, plan: &Plan, run: &Run, told: &Told) -> bool {
     let mut tables = Vec::new(alloc);
     if !add_tables(alloc, plan, run.calls, &mut tables) {
@@ -268,7 +268,7 @@ fn gives_on(alloc: Global, plan: &Plan, run: &Run, told: &Told) -> bool {
     }
 }
 
-/// Whether a run over a domain's text has the book that is told.
+/// Returns whether a run of a domain's text has the expected book.
 fn gives(alloc: Global, text: &str, run: &Run, told: &Told) -> bool {
     match plan_of(alloc, text) {
         Some(plan) => gives_on(alloc, &plan, run, told),
@@ -297,7 +297,7 @@ const WITHDRAWN: Run = Run {
     background: None,
 };
 
-/// A link more each cycle, and a drop for each reason but want of octets.
+/// One more link each cycle, and a drop for each reason but `Octets`.
 const WITHDRAWN_BOOK: Told = Told {
     starts: &[
         (1, 0, 1, 64, 125_000),
@@ -336,7 +336,7 @@ const BRANCHING: Run = Run {
     }),
 };
 
-/// The frame leaves the second bridge on both of its links at once, and the background frame is on one alone.
+/// The frame leaves the second bridge on both of its links at once, and the background frame leaves on one only.
 const BRANCHING_BOOK: Told = Told {
     starts: &[
         (1, 1, 1, 64, 125_000),
@@ -353,7 +353,7 @@ fn a_frame_of_a_tree_leaves_on_two_links(rt: HostRuntime) {
     assert!(rt; gives(rt.alloc(), fork(), &BRANCHING, &BRANCHING_BOOK));
 }
 
-/// 1,500 octets are reserved. A background frame comes within the guard time.
+/// 1,500 octets are reserved. A background frame arrives within the guard band.
 const SPARING: Run = Run {
     calls: &[Call::Admit(1500, &[&["a", "s"]]), Call::Seal, Call::Seal],
     offers: &[(0, 0, "x", 1000), (10, 0, "x", 600), (20, 0, "x", 500)],

@@ -17,7 +17,7 @@ const LAST: Pace = Pace {
     phase: 79,
 };
 
-/// Whether the gate of 1,500 octets, in cycles of so many nanoseconds, is written so.
+/// Returns whether the gate of 1,500 octets, with this cycle time in nanoseconds, is written as `wanted`.
 fn is_written(alloc: Global, cycle_time: u64, pace: Pace, depth: u8, wanted: &[u8]) -> bool
     requires some { 0 < cycle_time }
     requires short { (pace.pause + 1) * cycle_time < 2 ^ 32 }
@@ -38,7 +38,7 @@ fn a_stream_of_each_cycle_has_two_open_entries(rt: HostRuntime) {
 fn one_own_cycle_stands_between_closed_spans(rt: HostRuntime) {
     let first = b"closed 125000\nopen 7 125000 1500\nclosed 250000\n";
     assert!(rt; is_written(rt.alloc(), 125_000, QUARTER, 0, first));
-    // a cycle later behind one link
+    // a cycle later after one link
     let second = b"closed 250000\nopen 6 125000 1500\nclosed 125000\n";
     assert!(rt; is_written(rt.alloc(), 125_000, QUARTER, 1, second));
 }

@@ -4,14 +4,14 @@ ghost use Rattle.std.specs.Prelude.{◌≤◌};
 use cqf_gates::{ListFault, Passed, StreamEntry, StreamGate, StreamList};
 use cqf_units::{Nanos, Octets};
 
-/// Class 6, 125 microseconds, and 1,500 octets at most.
+/// Class 6, 125 microseconds, and at most 1,500 octets.
 const SIX: StreamEntry = StreamEntry {
     ipv: 6,
     interval: 125_000,
     octet_max: Some(1500),
 };
 
-/// The same of class 7, and of class 5, which is no class of CQF.
+/// The same with class 7, and with class 5, which isn't a class of CQF.
 const SEVEN: StreamEntry = StreamEntry { ipv: 7, ..SIX };
 
 const FIVE: StreamEntry = StreamEntry { ipv: 5, ..SIX };
@@ -21,7 +21,7 @@ const NO_TIME: StreamEntry = StreamEntry { interval: 0, ..SIX };
 
 const SEVENTEEN: [StreamEntry; 17] = [SIX; 17];
 
-/// Entries that make no list, and why.
+/// Entries that make no list, and the fault.
 const FAULTS: &[(&[StreamEntry], ListFault)] = &[
     (&[], ListFault::Empty),
     (&SEVENTEEN, ListFault::TooMany),
@@ -30,7 +30,7 @@ const FAULTS: &[(&[StreamEntry], ListFault)] = &[
     (&[FIVE], ListFault::BadIpv),
 ];
 
-/// Whether the entries are refused so.
+/// Returns whether the entries are refused with this fault.
 fn is_refused(entries: &[StreamEntry], fault: ListFault) -> bool {
     StreamList::new(entries).err() == Some(fault)
 }
@@ -42,7 +42,7 @@ fn each_fault_is_told(rt: HostRuntime) {
     }
 }
 
-/// Whether a gate passes four frames so: a smaller one passes behind one that is over.
+/// Returns whether a gate passes a smaller frame after one that is over.
 fn passes_smaller(gate: &mut StreamGate) -> bool
     requires { gate.old.last ≤ 0 }
 {
@@ -52,7 +52,7 @@ fn passes_smaller(gate: &mut StreamGate) -> bool
         && gate.pass(Nanos(125_000), Octets(1500)) == Passed::Class(7)
 }
 
-/// Whether a list keeps the two entries, and its gate passes frames so.
+/// Returns whether a list keeps the two entries, and its gate passes a smaller frame after one that is over.
 fn keeps_and_passes(entries: &[StreamEntry]) -> bool {
     match StreamList::new(entries) {
         Ok(list) => list.entries() == entries && passes_smaller(&mut StreamGate::new(list)),

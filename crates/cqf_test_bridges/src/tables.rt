@@ -1,25 +1,24 @@
-//! What the tests hand to a bridge of a plan: the plan, and the tables of an admission.
+//! The tests' input for a bridge of a plan: the plan, and the tables of an admission.
 use cqf_admission::{Admission, Table};
 use cqf_compile::{Plan, compile};
 use cqf_test_fixtures::request;
 use cqf_topology::Domain;
 use std::alloc::Global;
 
-/// The branches of a stream by the names of their nodes.
+/// The branches of a stream, as the names of their nodes.
 pub(crate) type Branches = &'static [&'static [&'static str]];
 
 /// The line's one branch.
 pub(crate) const ONE_BRANCH: Branches = &[&["a", "b", "c", "s"]];
 
-/// A call of an administrator: the stream `x` is admitted with so many octets over these branches, or is withdrawn, or a
-/// cycle is closed.
+/// A call of an administrator: the stream `x` is admitted with this many octets over these branches, or is withdrawn, or a cycle is closed.
 pub(crate) enum Call {
     Admit(u32, Branches),
     Withdraw,
     Seal,
 }
 
-/// The plan of a domain's text.
+/// Returns the plan of a domain's text.
 pub(crate) fn plan_of(alloc: Global, text: &str) -> Option<Plan> {
     let Ok(domain) = Domain::read(alloc, text.as_bytes()) else {
         return None;
@@ -30,7 +29,7 @@ pub(crate) fn plan_of(alloc: Global, text: &str) -> Option<Plan> {
     }
 }
 
-/// Whether a request for the stream `x` is granted.
+/// Returns whether a request for the stream `x` is granted.
 pub(crate) fn admit(alloc: Global, asked: &mut Admission, octets: u32, branches: Branches) -> bool {
     match request(alloc, &("x", octets, branches)) {
         Ok(request) => asked.admit(0, &request).is_ok(),
@@ -38,7 +37,7 @@ pub(crate) fn admit(alloc: Global, asked: &mut Admission, octets: u32, branches:
     }
 }
 
-/// Closes a cycle, and puts its table behind those before it.
+/// Closes a cycle, and appends its table.
 fn seal(asked: &mut Admission, tables: &mut Vec<Table>) -> bool {
     match asked.seal(0) {
         Ok(table) => tables.push(table).is_ok(),
@@ -46,7 +45,7 @@ fn seal(asked: &mut Admission, tables: &mut Vec<Table>) -> bool {
     }
 }
 
-/// Makes calls one after the other, which are granted.
+/// Makes calls one after the other. Returns whether all are granted.
 fn make_all(alloc: Global, asked: &mut Admission, calls: &[Call], tables: &mut Vec<Table>) -> bool {
     for call in calls {
         let made = match call {
@@ -61,7 +60,7 @@ fn make_all(alloc: Global, asked: &mut Admission, calls: &[Call], tables: &mut V
     true
 }
 
-/// Appends the tables of the Seals among these calls of an admission over a plan's domain.
+/// Appends the tables of the Seals among these calls of an admission over a plan's domain. Returns whether all calls are granted.
 pub(crate) fn add_tables(
     alloc: Global,
     plan: &Plan,

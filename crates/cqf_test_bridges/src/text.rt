@@ -37,7 +37,7 @@ const PARTS: &[(&[u8], &[&[u8]])] = &[
     (b"%%\n%%\n", &[b"", b"", b""]),
     (b"a\n%%", &[b"a\n", b""]),
     (b"", &[b""]),
-    // other lines are none
+    // other lines aren't
     (b"a\n%%%\nb", &[b"a\n%%%\nb"]),
     (b"%%\r\nb", &[b"%%\r\nb"]),
     (b" %%\n", &[b" %%\n"]),
@@ -45,12 +45,12 @@ const PARTS: &[(&[u8], &[&[u8]])] = &[
     (b"a%%", &[b"a%%"]),
 ];
 
-/// Whether some texts are the wanted ones.
+/// Returns whether some texts are the wanted ones.
 fn are_texts(texts: &[&[u8]], wanted: &[&[u8]]) -> bool {
     texts.len() == wanted.len() && texts.iter().zip(wanted).all(|(one, other)| *one == *other)
 }
 
-/// Whether the input is divided into these parts.
+/// Returns whether the input is divided into these parts.
 fn is_divided(alloc: Global, input: &[u8], wanted: &[&[u8]]) -> bool {
     match parts(alloc, input) {
         Ok(found) => are_texts(found.as_slice(), wanted),
@@ -65,13 +65,13 @@ fn dividers_are_lines_of_two_percent_signs(rt: HostRuntime) {
     }
 }
 
-/// Texts, and their lines: an empty piece behind the last line feed is none.
+/// Texts, and their lines. An empty piece after the last line feed isn't a line.
 const LINES: &[(&[u8], &[&[u8]])] = &[
     (b"80 1000\n\n40 1000", &[b"80 1000", b"", b"40 1000"]),
     (b"seal\n", &[b"seal"]),
 ];
 
-/// Whether the text has these lines.
+/// Returns whether the text has these lines.
 fn has_lines(text: &[u8], wanted: &[&[u8]]) -> bool {
     let mut rest = text;
     for line in wanted {

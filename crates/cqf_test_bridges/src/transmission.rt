@@ -2,18 +2,18 @@
 use cqf_gates::{ListFault, OpenFor, TxList};
 use cqf_units::Nanos;
 
-/// What a gate list is asked of an instant, and its answer.
+/// A query of a gate list for an instant, and its expected result.
 enum Ask {
-    /// For how long a class is open.
+    /// How long a class is open.
     OpenFor(u64, u8, OpenFor),
-    /// The entry in force by its place, and how long it has been.
+    /// The index of the entry in force, and how long it has been in force.
     EntryAt(u64, (usize, u32)),
     MaskAt(u64, u8),
 }
 
-/// Gate lists, and what they answer.
+/// Gate lists, and their expected results.
 const CASES: &[(&[(u8, u32)], &[Ask])] = &[
-    // a boundary between two open entries is no close
+    // a class doesn't close between two entries in which it is open
     (
         &[(0xC0, 1000), (0x80, 1000)],
         &[
@@ -39,7 +39,7 @@ const CASES: &[(&[(u8, u32)], &[Ask])] = &[
     ),
 ];
 
-/// Whether the list answers so.
+/// Returns whether the list gives the expected result.
 fn answers(list: &TxList, ask: &Ask) -> bool {
     match *ask {
         Ask::OpenFor(at, class, wanted) => {
@@ -50,14 +50,14 @@ fn answers(list: &TxList, ask: &Ask) -> bool {
     }
 }
 
-/// Whether the list and its copy have these entries, and it answers so.
+/// Returns whether the list and its copy have these entries, and it gives the expected results.
 fn answers_all(list: &TxList, entries: &[(u8, u32)], asks: &[Ask]) -> bool {
     list.entries() == entries
         && list.copied().entries() == entries
         && asks.iter().all(|ask| answers(list, ask))
 }
 
-/// Whether a list of these entries answers so.
+/// Returns whether a list of these entries gives the expected results.
 fn list_answers(entries: &[(u8, u32)], asks: &[Ask]) -> bool {
     match TxList::new(entries) {
         Ok(list) => answers_all(&list, entries, asks),
@@ -74,14 +74,14 @@ fn a_list_tells_what_is_open_and_for_how_long(rt: HostRuntime) {
 
 const SEVENTEEN: [(u8, u32); 17] = [(0xFF, 1); 17];
 
-/// Entries that make no list, and why.
+/// Entries that make no list, and the fault.
 const FAULTS: &[(&[(u8, u32)], ListFault)] = &[
     (&[], ListFault::Empty),
     (&SEVENTEEN, ListFault::TooMany),
     (&[(0x80, 0)], ListFault::ZeroInterval),
 ];
 
-/// Whether the entries are refused so.
+/// Returns whether the entries are refused with this fault.
 fn is_refused(entries: &[(u8, u32)], fault: ListFault) -> bool {
     TxList::new(entries).err() == Some(fault)
 }

@@ -1,4 +1,4 @@
-//! Cycles in turn: what a bridge refuses, and what stands after it.
+//! Cycles in turn: what a bridge refuses, and its state afterwards.
 ghost use Rattle.std.specs.Prelude.{◌≡◌, ◌<◌, length};
 
 use crate::calls::receive;
@@ -10,7 +10,7 @@ use cqf_test_fixtures::{line, offers_of};
 use cqf_units::Cycle;
 use std::alloc::Global;
 
-/// Whether a bridge sends a cycle, with one batch, of a link, that has no frame.
+/// Returns whether a bridge sends a cycle with exactly one batch, of this link and without frames.
 fn sends_an_empty_batch(alloc: Global, bridge: &mut Bridge, cycle: Cycle, link: u16) -> bool
     requires { cycle.0 < 100000 }
 {
@@ -22,7 +22,7 @@ fn sends_an_empty_batch(alloc: Global, bridge: &mut Bridge, cycle: Cycle, link: 
     batch.link() == link && batch.cycle() == cycle && batch.len() == 0 && batch.octets() == 0
 }
 
-/// Whether a bridge refuses to send a cycle for this cause, and gives no batch.
+/// Returns whether a bridge refuses to send a cycle with this fault, and returns no batch.
 fn refuses_to_send(alloc: Global, bridge: &mut Bridge, cycle: Cycle, fault: BridgeFault) -> bool
     requires { cycle.0 < 100000 }
 {
@@ -30,7 +30,7 @@ fn refuses_to_send(alloc: Global, bridge: &mut Bridge, cycle: Cycle, fault: Brid
     bridge.send(alloc, cycle, &[], &mut batches) == Err(fault) && batches.is_empty()
 }
 
-/// Whether a bridge receives the cycle of a table, and drops nothing.
+/// Returns whether a bridge receives the cycle of a table, and drops nothing.
 fn receives(
     alloc: Global,
     bridge: &mut Bridge,
@@ -48,7 +48,7 @@ fn receives(
     }
 }
 
-/// Whether a bridge refuses to receive the cycle of a table for this cause.
+/// Returns whether a bridge refuses to receive the cycle of a table with this fault.
 fn refuses(
     alloc: Global,
     bridge: &mut Bridge,
@@ -66,7 +66,7 @@ fn refuses(
     }
 }
 
-/// Whether a bridge takes turns: it sends cycle 0, and nothing before it and behind it until it has received it.
+/// Returns whether a bridge takes turns: it sends cycle 0, and no other cycle before it, or after it until it has received it.
 fn takes_turns(alloc: Global, bridge: &mut Bridge) -> bool {
     let wrong = BridgeFault::WrongCycle;
     refuses_to_send(alloc, bridge, Cycle(1), wrong)
@@ -75,7 +75,7 @@ fn takes_turns(alloc: Global, bridge: &mut Bridge) -> bool {
         && refuses_to_send(alloc, bridge, Cycle(1), wrong)
 }
 
-/// Whether a bridge that has sent cycle 0 wants a batch of link 0 to receive it, and receives it then.
+/// Returns whether a bridge that has sent cycle 0 needs a batch of link 0 to receive it, and then receives it.
 fn wants_its_batch(alloc: Global, first: &mut Bridge, bridge: &mut Bridge, table: &Table) -> bool {
     let mut batches = Vec::new(alloc);
     first.send(alloc, Cycle(0), &[], &mut batches).is_ok()
@@ -84,14 +84,14 @@ fn wants_its_batch(alloc: Global, first: &mut Bridge, bridge: &mut Bridge, table
         && sends_an_empty_batch(alloc, bridge, Cycle(1), 1)
 }
 
-/// Admissions of two cycles each: one that holds 1,500 octets for `x`, one that holds 64, and one that holds no stream.
+/// Admissions of two cycles each: one holds 1,500 octets for `x`, one holds 64, and one holds no stream.
 const ADMISSIONS: &[&[Call]] = &[
     &[Call::Admit(1500, ONE_BRANCH), Call::Seal, Call::Seal],
     &[Call::Admit(64, ONE_BRANCH), Call::Seal, Call::Seal],
     &[Call::Seal, Call::Seal],
 ];
 
-/// Whether a bridge goes through cycle 0 with these offers, and appends what it sends in it and in the next one.
+/// Returns whether a bridge goes through cycle 0 with these offers; appends what it sends in it and in the next one.
 fn sends_twice(
     alloc: Global,
     first: &mut Bridge,
@@ -105,8 +105,8 @@ fn sends_twice(
         && first.send(alloc, Cycle(1), &[], full).is_ok()
 }
 
-/// Whether a bridge refuses the batch of cycle 1 where no row is of its frame, and is spent by it where the frame exceeds
-/// its gate.
+/// Returns whether a bridge refuses the batch of cycle 1 if the table has no row for its frame, and is spent by it if the frame exceeds its
+/// gate.
 fn is_spent_by(
     alloc: Global,
     bridge: &mut Bridge,
@@ -124,8 +124,7 @@ fn is_spent_by(
         && refuses_to_send(alloc, bridge, Cycle(2), BridgeFault::Spent)
 }
 
-/// Whether the second bridge is spent by what the first one sends, which goes by the first admission, where it goes by the
-/// second itself.
+/// Returns whether the second bridge, with the second admission, is spent by what the first one sends with the first admission.
 fn spends_the_next(
     alloc: Global,
     first: &mut Bridge,
@@ -141,16 +140,16 @@ fn spends_the_next(
         && is_spent_by(alloc, bridge, tables, empty.as_slice(), full.as_slice())
 }
 
-/// What is tried with the first two bridges of the line.
+/// A trial with the first two bridges of the line.
 #[derive(Clone, Copy)]
 enum Trial {
-    /// The second one goes in turn, where no stream is held.
+    /// The second bridge goes in turn, and no stream is held.
     InTurn,
-    /// It is spent by what the first one sends.
+    /// The second bridge is spent by what the first one sends.
     Spent,
 }
 
-/// Whether it goes so with the two.
+/// Returns whether a trial with the two bridges succeeds.
 fn goes_so(
     alloc: Global,
     first: &mut Bridge,
@@ -169,7 +168,7 @@ fn goes_so(
     }
 }
 
-/// Whether it does on a plan, with two new bridges.
+/// Returns whether it does on a plan, with two new bridges.
 fn goes_so_on(
     alloc: Global,
     plan: &Plan,
@@ -199,7 +198,7 @@ fn add_each(alloc: Global, plan: &Plan, tables: &mut Vec<Table>) -> bool {
     true
 }
 
-/// Whether it does on a plan by the tables of the admissions, where 1,500 octets are offered.
+/// Returns whether it does on a plan with the tables of the admissions, if 1,500 octets are offered.
 fn goes_so_by(alloc: Global, plan: &Plan, trial: Trial) -> bool {
     let mut tables = Vec::new(alloc);
     if !add_each(alloc, plan, &mut tables) {
@@ -211,7 +210,7 @@ fn goes_so_by(alloc: Global, plan: &Plan, trial: Trial) -> bool {
     }
 }
 
-/// Whether it does on the line.
+/// Returns whether it does on the line.
 fn line_goes_so(alloc: Global, trial: Trial) -> bool {
     match plan_of(alloc, line()) {
         Some(plan) => goes_so_by(alloc, &plan, trial),

@@ -12,7 +12,7 @@ const NAMES: &[&str] = &[
     "abcdefghijklmnopqrstuvwxyz01234-",
 ];
 
-/// Bytes of another form.
+/// Bytes that aren't names.
 const NO_NAMES: &[&[u8]] = &[
     b"",
     b"abcdefghijklmnopqrstuvwxyz01234-_",
@@ -21,7 +21,7 @@ const NO_NAMES: &[&[u8]] = &[
     b"\xff",
 ];
 
-/// Whether a name prints as its text, also for debugging.
+/// Returns whether a name prints as its text, also for debugging.
 fn prints_as(alloc: Global, name: &Name, text: &str) -> bool {
     match format!(in alloc; "{name} {name:?}") {
         Ok(printed) => match format!(in alloc; "{text} {text}") {
@@ -32,7 +32,7 @@ fn prints_as(alloc: Global, name: &Name, text: &str) -> bool {
     }
 }
 
-/// Whether a name has this text, and so have its copies.
+/// Returns whether a name and its copies have this text.
 fn is_name(alloc: Global, name: &Name, text: &str) -> bool {
     name.as_bytes() == text.as_bytes()
         && name.as_str() == text
@@ -41,7 +41,7 @@ fn is_name(alloc: Global, name: &Name, text: &str) -> bool {
         && prints_as(alloc, name, text)
 }
 
-/// Whether the text is a name.
+/// Returns whether the text is a name.
 fn is_taken(alloc: Global, text: &str) -> bool {
     match Name::new(text.as_bytes()) {
         Some(name) => is_name(alloc, &name, text),
@@ -59,10 +59,10 @@ fn a_name_has_1_to_32_bytes_of_the_set(rt: HostRuntime) {
     }
 }
 
-/// Octets that are reserved, and what they cost: 20 more for each frame of 64.
+/// Reserved octets, and their cost: 20 more for each frame of 64.
 const COSTS: &[(u32, u32)] = &[(64, 84), (1500, 1960), (11_440, 15_000), (60_000, 78_740)];
 
-/// Rates, the ticks of 40 ps of an octet, and the budget of a cycle of 125,000 ns with a guard time of 5,000 ns.
+/// Rates, the ticks of 40 ps of an octet, and the budget of a cycle of 125,000 ns with a guard band of 5,000 ns.
 const RATES: &[(Rate, u64, u32)] = &[
     (Rate::Mb10, 20_000, 150),
     (Rate::Mb100, 2000, 1500),

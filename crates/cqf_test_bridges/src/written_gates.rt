@@ -60,7 +60,7 @@ const HOPS: &[Hop] = &[
     },
 ];
 
-/// A stream of 1,500 octets along the line, which is offered in one cycle of four, in cycle 1 first.
+/// Returns a stream of 1,500 octets along the line, which is offered in one cycle of four, first in cycle 1.
 fn quarter(alloc: Global) -> Option<Row>
     ensures { IfSome result (λ row. IsGoodPace row.pace) }
 {
@@ -79,7 +79,7 @@ fn quarter(alloc: Global) -> Option<Row>
     })
 }
 
-/// Whether the stream's gates at the three bridges are these.
+/// Returns whether the stream's gates at the three bridges are these.
 fn are_gates(
     plan: &Plan,
     row: &Row,

@@ -6,7 +6,7 @@ use Rattle.cqf_lists.proofs.Numbered.{one_kept, one_passed}
 use Rattle.cqf_bridge.proofs.picking.listed_background.Goals as goal
 use Rattle.cqf_bridge.proofs.picking.listed_background.Goals.{then-is_from+in_ok-push, else-is_from}
 
--- a frame of the bridge is listed, and another one passed by
+-- a frame of the bridge is listed, and another one is skipped
 pub loop-place-preserved : goal.loop-place-preserved
 loop-place-preserved c =
     let named : ℕ × Background → Backed = λ x. record { frame = x.0; background = x.1 } in

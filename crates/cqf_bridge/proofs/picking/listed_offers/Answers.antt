@@ -7,7 +7,7 @@ use Rattle.cqf_lists.proofs.Numbered.{one_kept, one_passed}
 use Rattle.cqf_bridge.proofs.picking.listed_offers.Goals as goal
 use Rattle.cqf_bridge.proofs.picking.listed_offers.Goals.{then-offer-bridge+in_ok-push, else-offer-bridge}
 
--- an offer at the bridge is listed, and another one passed by
+-- an offer at the bridge is listed, and another one is skipped
 pub loop-place-preserved : goal.loop-place-preserved
 loop-place-preserved c =
     let named : ℕ × Offer → Offered = λ x. record { frame = x.0; offer = x.1 } in

@@ -3,6 +3,6 @@ use Rattle.cqf_model.specs.Traffic.{numbered}
 use Rattle.cqf_bridge.specs.Picking.{is_offered_to}
 use Rattle.cqf_bridge.proofs.picking.listed_offers.Given as goal
 
--- of the first those at the bridge are listed
+-- of the first offers those at the bridge are listed
 abbrev pub invariant-loop-place : goal.invariant-loop-place
 invariant-loop-place l = l.list.items ≡ filter (is_offered_to l.bridge) (numbered (take l.place l.offers))

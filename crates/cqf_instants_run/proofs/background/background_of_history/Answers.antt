@@ -41,7 +41,7 @@ tell_links-requires-clause-taken c =
     (subst (λ k. AreFed c.as_slice.result.now c.args.starts.now k (lists_of c.in_ok-lists.lists.items)) c.links-links.ensures c.in_ok-lists.ensures))
     l (omega (arith, inside, length-map c.in_ok-lists.lists.items (λ (v : Vec Arrival Global). v.items)))
 
--- sorted by cycle they are the background of each history of which the starts are
+-- sorted by cycle they are the background starts of each history with these starts
 pub returns : goal.returns
 returns c =
     background_is c.gate_gives_class.ensures c.port_starts_the_background.ensures c.args.domain.now c.args.cycles _ c.links-links.result c.args.starts.now

@@ -1,4 +1,4 @@
--- There are so many columns, in which nothing is counted.
+-- The columns so far, in which nothing is counted.
 use Rattle.cqf_instants_run.specs.Columns.{AreEmptyColumns}
 use Rattle.cqf_instants_run.proofs.counted.empty_columns.Given as goal
 

@@ -11,13 +11,13 @@ pub put_arrival-requires : goal.put_arrival-requires
 put_arrival-requires c =
     frame_there c.args.links c.args.frames.now c.loop-frame.frame-index _ c.loop-frame-test.true c.loop-frame.lists.items c.requires c.loop-frame.invariant
 
--- it is put there
+-- it is appended there
 pub loop-frame-preserved : goal.loop-frame-preserved
 loop-frame-preserved c =
     frame_put c.args.links c.args.frames.now c.loop-frame.frame-index _ c.loop-frame-test.true c.arrival_of_frame.result (lists_of c.loop-frame.lists.items)
     (lists_of c.put_arrival.new.lists.items) c.arrival_of_frame.ensures c.in_ok-put_arrival.ensures c.loop-frame.invariant
 
--- in the end all are
+-- in the end all are in the lists
 pub returns : goal.returns
 returns c =
     let all : take c.loop-frame.frame-index c.args.frames.now ≡ c.args.frames.now =

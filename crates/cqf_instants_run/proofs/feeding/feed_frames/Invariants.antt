@@ -1,4 +1,4 @@
--- The first background frames are put to their links.
+-- The first background frames are in the lists of their links.
 use Rattle.std.proofs.Common.{take, []}
 use Rattle.cqf_lists.specs.ByNumber.{lists_of}
 use Rattle.cqf_instants_run.specs.Feeding.{AreFed}

@@ -12,14 +12,14 @@ put_start-requires c =
     start_there c.args.links c.args.frames.now c.args.starts.now c.loop-start.start-index _ c.loop-start.lists.items c.loop-start-test.true c.requires.starts
     c.loop-start.invariant
 
--- it is put there
+-- it is appended there
 pub loop-start-preserved : goal.loop-start-preserved
 loop-start-preserved c =
     AreFed-start c.args.links c.args.frames.now (take c.loop-start.start-index c.args.starts.now) _ _ (lists_of c.loop-start.lists.items)
     (lists_of c.put_start.new.lists.items) (take_more c.args.starts.now c.loop-start.start-index _ c.loop-start-test.true) c.in_ok-put_start.ensures
     c.loop-start.invariant
 
--- in the end all are
+-- in the end all are in the lists
 pub returns : goal.returns
 returns c =
     let all : take c.loop-start.start-index c.args.starts.now ≡ c.args.starts.now =

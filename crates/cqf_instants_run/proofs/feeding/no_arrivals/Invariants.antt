@@ -1,4 +1,4 @@
--- There are so many lists with nothing in them.
+-- The lists so far, all empty.
 use Rattle.std.proofs.Common.{[]}
 use Rattle.cqf_lists.specs.ByNumber.{lists_of}
 use Rattle.cqf_instants_run.specs.Feeding.{AreFed}

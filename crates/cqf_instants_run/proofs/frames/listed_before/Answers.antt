@@ -6,7 +6,7 @@ use Rattle.cqf_instants_run.specs.Frames.{is_early}
 use Rattle.cqf_instants_run.proofs.frames.listed_before.Goals as goal
 use Rattle.cqf_instants_run.proofs.frames.listed_before.Goals.{then-is_early+in_ok-push, else-is_early}
 
--- a frame that comes before the end is listed, and another one passed by
+-- a frame that arrives before the end is listed, and another one is skipped
 pub loop-place-preserved : goal.loop-place-preserved
 loop-place-preserved c =
     let named : ℕ × Background → Backed = λ x. record { frame = x.0; background = x.1 } in

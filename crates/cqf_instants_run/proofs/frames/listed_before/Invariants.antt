@@ -1,4 +1,4 @@
--- Of the first those that come before the end are listed.
+-- Of the first frames those that arrive before the end are listed.
 use Rattle.std.specs.Prelude.{◌≡◌, filter, take}
 use Rattle.cqf_model.specs.Network.{numbered_background}
 use Rattle.cqf_instants_run.specs.Frames.{is_early}

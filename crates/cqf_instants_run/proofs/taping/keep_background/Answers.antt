@@ -14,7 +14,7 @@ feed_frames-requires c =
     on_some_link c.args.domain.now c.args.end.0 c.args.background.now c.args.tapes.now c.requires.run c.as_slice.result.now
     (c.as_slice.ensures.value ∙ c.in_ok-frames.ensures) c.links-links.result c.links-links.ensures
 
--- the tapes stand by number
+-- the tapes are in order of link number
 pub keep_on_each-requires-clause-links : goal.keep_on_each-requires-clause-links
 keep_on_each-requires-clause-links c = c.requires.run.is.links
 

@@ -9,7 +9,7 @@ use Rattle.cqf_instants_run.proofs.Tapes.{HasBesides, all_taken, given_behind, n
 use Rattle.cqf_instants_run.proofs.taping.keep_on.Goals as goal
 use Rattle.cqf_instants_run.proofs.taping.keep_on.Goals.{then-is_low+in_ok-push, else-is_low}
 
--- what it is given its port may take
+-- its port may take what it is given
 pub starts_of_port-requires-clause-taken : goal.starts_of_port-requires-clause-taken
 starts_of_port-requires-clause-taken c =
     let some : 0 < length c.args.frames.items =
@@ -19,11 +19,11 @@ starts_of_port-requires-clause-taken c =
     c.in_ok-put_marks.ensures c.as_slice.ensures.value))
     c.requires.taken
 
--- at first none is put there
+-- at first none is appended
 pub loop-start-init : goal.loop-start-init
 loop-start-init c = none_besides c.args.tape.now
 
--- a start of a background frame is put there, and another one passed by
+-- a start of a background frame is appended, and another one is skipped
 pub loop-start-preserved : goal.loop-start-preserved
 loop-start-preserved c =
     let made = c.as_slice-start-items.result.now in
@@ -38,13 +38,13 @@ loop-start-preserved c =
           (sym c.is_low.ensures ∙ w.if-is_low.false))
     ]
 
--- where nothing is given none starts
+-- if nothing is given, none starts
 pub returns-then-is_empty : goal.returns-then-is_empty
 returns-then-is_empty c =
     nothing_taken c.args.domain.now c.args.end.0 c.args.frames.items c.args.tape.now
     (omega (arith, c.args.frames.ok.0, eqb-true c.args.frames.len 0 (sym c.is_empty.ensures ∙ c.if-is_empty.true)))
 
--- in the end all are put there
+-- in the end all are appended
 pub returns : goal.returns
 returns c =
     let some : 0 < length c.args.frames.items =

@@ -1,4 +1,4 @@
--- Of the first starts those of background frames stand on the tape.
+-- Of the first starts those of background frames are on the tape.
 use Rattle.std.proofs.Common.{take}
 use Rattle.cqf_instants_run.proofs.Tapes.{HasBesides}
 use Rattle.cqf_instants_run.proofs.taping.keep_on.Given as goal

@@ -11,7 +11,7 @@ use Rattle.cqf_instants_run.proofs.Tapes.{all_take, as_many_tapes, next_has, nex
 use Rattle.cqf_instants_run.proofs.Tellings.{below_all, list_there}
 use Rattle.cqf_instants_run.proofs.taping.keep_on_each.Goals as goal
 
--- at first no tape has
+-- at first no tape has its background frames
 pub loop-frames-init : goal.loop-frames-init
 loop-frames-init c = (
   c.into_iter-frames-iterator.ensures.into_iter_gives.0,
@@ -30,7 +30,7 @@ bounds-tapes-place c =
     next_there c.args.domain.now c.args.end.0 (λ k. get_or (lists_of c.args.lists.items) k []) c.args.tapes.now c.loop-frames.tapes c.loop-frames.place
     c.loop-frames.invariant.2 c.requires.links is_link
 
--- and not far
+-- and its offset fits
 pub offset_bounds-tapes-place : goal.offset_bounds-tapes-place
 offset_bounds-tapes-place c =
     let all : c.loop-frames.yielded ++ c.in-Some.frames ∷ into_iter_items c.next.new.self ≡ c.args.lists.items =
@@ -70,7 +70,7 @@ keep_on-requires-clause-taken c =
     c.requires.links is_link _)))
     (c.requires.taken place within)
 
--- one more tape has
+-- one more tape has its background frames
 pub loop-frames-preserved : goal.loop-frames-preserved
 loop-frames-preserved c =
     let d = c.args.domain.now in
@@ -88,7 +88,7 @@ loop-frames-preserved c =
           (list_there front c.in-Some.frames rest c.args.lists.items place all c.loop-frames.invariant.1) c.in_ok-keep_on.ensures,
     )
 
--- in the end all have
+-- in the end all have them
 pub returns : goal.returns
 returns c =
     let none = sym c.loop-frames.frames-iterator.rest.ok.0 ∙ c.in-None.ensures.steps.0 in

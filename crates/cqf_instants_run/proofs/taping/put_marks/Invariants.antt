@@ -1,4 +1,4 @@
--- The first marks are put there.
+-- The first marks are appended.
 use Rattle.std.proofs.Common.{◌≡◌, ◌++◌, map, take}
 use Rattle.cqf_instants_run.specs.Taping.{arrival_of_mark}
 use Rattle.cqf_instants_run.proofs.taping.put_marks.Given as goal

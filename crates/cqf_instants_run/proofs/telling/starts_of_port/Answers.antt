@@ -1,7 +1,7 @@
 use Rattle.cqf_instants_run.proofs.Tellings.{hands}
 use Rattle.cqf_instants_run.proofs.telling.starts_of_port.Goals as goal
 
--- it hands out what is legal
+-- it returns what is legal
 pub returns : goal.returns
 returns c =
     hands c.args.domain.now c.args.end.0 c.args.link c.args.arrivals.items _ c.link.result _ _ _ c.advance.new.given.items

@@ -12,7 +12,7 @@ tell_starts-requires-clause-fits c =
     (hands_fit c.args.domain.now c.args.end.0 c.args.link c.cycle_time.result.0 c.args.arrivals.items c.in_ok-made.made.items c.cycle_time.ensures.value
     (omega (arith, c.cycle_time.ensures.accepted.cycle_least)) c.requires.fits c.in_ok-made.ensures)
 
--- what the port starts is told
+-- the entries of what the port starts are appended
 pub returns : goal.returns
 returns c =
     tells c.args.domain.now c.args.end.0 c.args.link c.cycle_time.result.0 c.args.arrivals.items c.in_ok-made.made.items c.args.starts.now.items _

@@ -4,7 +4,7 @@ use Rattle.std.proofs.lemmas.List.{length-append}
 use Rattle.cqf_instants_run.proofs.Tellings.{all_told, below_all, link_told, taken_there}
 use Rattle.cqf_instants_run.proofs.telling.tell_links.Goals as goal
 
--- at first none is told
+-- at first there is no entry
 pub loop-arrivals-init : goal.loop-arrivals-init
 loop-arrivals-init c = (c.into_iter-arrivals-iterator.ensures.into_iter_gives.0, refl, λ backed each. c.new-starts.ensures.items)
 
@@ -19,14 +19,14 @@ tell_link-requires-clause-link c =
       c.requires.one_each,
     )
 
--- what it is given may be taken
+-- it may take what it is given
 pub tell_link-requires-clause-taken : goal.tell_link-requires-clause-taken
 tell_link-requires-clause-taken c =
     let all : c.loop-arrivals.yielded ++ c.in-Some.arrivals ∷ into_iter_items c.next.new.self ≡ c.args.lists.items =
     ap (λ xs. c.loop-arrivals.yielded ++ xs) (sym c.in-Some.ensures.steps.0) ∙ c.loop-arrivals.invariant.0 in
     taken_there c.loop-arrivals.yielded c.in-Some.arrivals _ c.args.lists.items c.loop-arrivals.link all c.loop-arrivals.invariant.1 c.requires.taken
 
--- the next link is told
+-- the entries of the next link are appended
 pub loop-arrivals-preserved : goal.loop-arrivals-preserved
 loop-arrivals-preserved c =
     let front = c.loop-arrivals.yielded in
@@ -39,7 +39,7 @@ loop-arrivals-preserved c =
           c.loop-arrivals.invariant.2 c.in_ok-tell_link.ensures,
     )
 
--- in the end all are
+-- in the end those of all links are
 pub returns : goal.returns
 returns c =
     all_told c.args.domain.now c.args.end.0 c.loop-arrivals.yielded (into_iter_items c.loop-arrivals.arrivals-iterator) c.args.lists.items c.loop-arrivals.link

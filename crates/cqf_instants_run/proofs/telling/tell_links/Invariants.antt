@@ -1,4 +1,4 @@
--- The first links are told.
+-- The entries of the first links are appended.
 use Rattle.std.proofs.Common.{◌≡◌, ◌++◌, [], get_or, length}
 use Rattle.std.specs.Vec.Iter.{into_iter_items}
 use Rattle.cqf_lists.specs.ByNumber.{lists_of}

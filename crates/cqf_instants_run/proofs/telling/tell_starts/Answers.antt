@@ -7,11 +7,11 @@ use Rattle.cqf_instants_run.proofs.Tellings.{one_passed, one_told}
 use Rattle.cqf_instants_run.proofs.telling.tell_starts.Goals as goal
 use Rattle.cqf_instants_run.proofs.telling.tell_starts.Goals.{then-is_low+in_ok-push, else-is_low}
 
--- at first none is told
+-- at first there is no entry
 pub loop-start-init : goal.loop-start-init
 loop-start-init c = sym (append-nil c.args.starts.now.items)
 
--- a start of a background frame is told, and another one passed by
+-- the entry of a background frame's start is appended, and another start is skipped
 pub loop-start-preserved : goal.loop-start-preserved
 loop-start-preserved c =
     let made = c.args.made.now in

@@ -1,4 +1,4 @@
--- Of the first those of background frames are told.
+-- The entries of the background frames among the first starts are appended.
 use Rattle.std.specs.Prelude.{◌≡◌, ◌++◌, filter, map, take}
 use Rattle.cqf_instants_run.specs.Sending.{is_low, told}
 use Rattle.cqf_instants_run.proofs.telling.tell_starts.Given as goal

@@ -4,7 +4,7 @@ use Rattle.cqf_plain.specs.Due.{Moment}
 use Rattle.cqf_plain.proofs.Noted.{none_noted, one_noted}
 use Rattle.cqf_plain.proofs.due.note.Goals as goal
 
--- one more is noted
+-- one more is recorded
 pub returns-in_ok-insert-in-Some : goal.returns-in_ok-insert-in-Some
 returns-in_ok-insert-in-Some c = λ ports r so next.
     one_noted c.in-Some.moment c.args.bridge c.args.due.now c.insert.new.self c.in_ok-insert-in-Some.ensures.updates ports r so

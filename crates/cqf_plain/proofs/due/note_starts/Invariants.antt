@@ -3,6 +3,6 @@ use Rattle.cqf_bridge.specs.PortRecord.{PortRecord}
 use Rattle.cqf_plain.specs.Due.{AreNextStarts}
 use Rattle.cqf_plain.proofs.due.note_starts.Given as goal
 
--- the first ports are noted
+-- the next starts of the first ports are recorded
 abbrev pub invariant-loop-place : goal.invariant-loop-place
 invariant-loop-place l = (ports : List PortRecord) → AreNextStarts l.fn.due.entries ports → AreNextStarts l.due.entries (ports ++ take l.place l.bridge.ports)

@@ -6,13 +6,13 @@ use Rattle.cqf_plain.proofs.handing.hand_out.Goals as goal
 pub loop-batch-init : goal.loop-batch-init
 loop-batch-init c = none_handed c.args.domain.now c.args.bridges.now.items
 
--- one of a link that ends in no bridge
+-- a batch of a link that ends in no bridge
 pub loop-batch-preserved : goal.loop-batch-preserved
 loop-batch-preserved c =
     passed_by c.args.domain.now c.loop-batch.yielded c.args.bridges.now.items c.loop-batch.bridges.items c.in-Some.batch
     (λ bridge. ap (λ (l : ℕ). enters c.args.domain.now l bridge) (sym c.link.ensures) ∙ c.in_default.ensures.none bridge) c.loop-batch.invariant
 
--- and one of a link that ends in one
+-- and a batch of a link that ends in one
 pub loop-batch-preserved-in-Continue-1 : goal.loop-batch-preserved-in-Continue-1
 loop-batch-preserved-in-Continue-1 c =
     let d = c.args.domain.now in

@@ -10,7 +10,7 @@ loop-place-init c = record {
   received = λ run net of is_table all. none_received run net c.args.table.now of is_table c.args.bridges.now.items c.args.drops.now.items all;
 }
 
--- the next bridge stands halfway through the cycle
+-- the next bridge is halfway through the cycle
 pub receive_one-requires-clause-part : goal.receive_one-requires-clause-part
 receive_one-requires-clause-part c =
     let p = c.requires.part in

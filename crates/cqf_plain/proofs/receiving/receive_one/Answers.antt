@@ -4,7 +4,7 @@ use Rattle.cqf_bridge.specs.Agenda.{offers_listed_at}
 use Rattle.cqf_plain.proofs.Received.{come_so, lost_so, received_so, run_so}
 use Rattle.cqf_plain.proofs.receiving.receive_one.Goals as goal
 
--- what the run has for the bridge
+-- the run's input for the bridge
 pub receive-requires : goal.receive-requires
 receive-requires c =
     let p = c.requires.part in

@@ -3,7 +3,7 @@ use Rattle.cqf_laws_cycle.specs.BridgeCycle.{policed_of}
 use Rattle.cqf_plain.specs.Losing.{IsLossFound}
 use Rattle.cqf_plain.proofs.receiving.why_lost.Goals as goal
 
--- none lost is what isn't so
+-- it can't be that none is lost
 pub unreachable-requires : goal.unreachable-requires
 unreachable-requires c =
     let p = c.requires.part in

@@ -38,7 +38,7 @@ loop-place-preserved c = λ run net over at.
     (may_go_on c.args.domain.now c.args.tables.now run net over c.requires.numbered c.loop-place.place c.index-tables-place.result c.loop-place.so_far
     c.loop-place-test.true c.index-tables-place.is (c.loop-place.invariant run net over at)))
 
--- in the end it is behind its last table
+-- in the end it is after its last table
 pub returns-clause-goes : goal.returns-clause-goes
 returns-clause-goes c = λ run net over at.
     subst (λ (n : ℕ). IsAt run net n c.loop-place.so_far) (omega (arith, c.loop-place-test.false, c.loop-place.auto.place-end))

@@ -1,4 +1,4 @@
--- There are as many counters as were counted to, and as much is used of each row as before.
+-- There are as many counters as were counted to, and the same is used of each row as before.
 use Rattle.std.proofs.Common.{◌≤◌, vec_len}
 use Rattle.cqf_relay.proofs.Offers.{AreUsedAlike}
 use Rattle.cqf_relay.proofs.edge.count.Given as goal

@@ -2,7 +2,7 @@ use Rattle.std.proofs.Common.{◌∙◌, ◌-◌, arith, ap, length, reverse}
 use Rattle.cqf_tape.proofs.Gathered.{all_gathered, next_gathered, none_gathered, none_missing}
 use Rattle.cqf_tape.proofs.gathering.gather.Goals as goal
 
--- at first all are left
+-- at first the bridges have all tapes
 pub loop-behind-init : goal.loop-behind-init
 loop-behind-init c =
     none_gathered c.args.domain.now c.args.reels.items c.in_ok-left.left.items (length c.args.domain.now.links - 0) (reverse c.new-links.result.items)

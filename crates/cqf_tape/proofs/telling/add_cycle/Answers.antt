@@ -11,7 +11,7 @@ marks-marks-requires-clause-inside c =
 pub marks-marks-requires-clause-by_number : goal.marks-marks-requires-clause-by_number
 marks-marks-requires-clause-by_number c = stand_by_number c.args.domain.now c.args.tapes.now c.requires.tapes
 
--- one more link is told
+-- one more link is done
 pub loop-link-preserved : goal.loop-link-preserved
 loop-link-preserved c =
     let d = c.args.domain.now in

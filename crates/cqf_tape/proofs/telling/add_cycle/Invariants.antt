@@ -3,7 +3,7 @@ use Rattle.cqf_tape.specs.Tapes.{told_on_links}
 use Rattle.cqf_tape.proofs.Told.{AreLinksPlacedTo}
 use Rattle.cqf_tape.proofs.telling.add_cycle.Given as goal
 
--- the links so far are told, and their places are those behind the cycle
+-- the entries of the links so far are appended, and their indices are those after the cycle
 abbrev pub invariant-loop-link : goal.invariant-loop-link
 invariant-loop-link l =
     (AreLinksPlacedTo l.domain l.kind l.tapes l.cycle.0 l.link l.places)

@@ -4,7 +4,7 @@ use Rattle.cqf_tape.specs.Tapes.{IsDropsEndBefore, drops_at, is_drop_in}
 use Rattle.cqf_tape.proofs.Told.{bridge_placed, told_further}
 use Rattle.cqf_tape.proofs.telling.add_drops.Goals as goal
 
--- one more bridge is told
+-- one more bridge is done
 pub loop-bridge-preserved : goal.loop-bridge-preserved
 loop-bridge-preserved c =
     let tapes = c.args.tapes.now in

@@ -9,7 +9,7 @@ pub loop-place-preserved : goal.loop-place-preserved
 loop-place-preserved c =
     no_drop_later_yet c.args.cycle.0 c.args.drops.now c.loop-place.place _ c.loop-place-test.true c.if-drops-place.false c.loop-place.invariant
 
--- with one of a later cycle the cycle's drops end
+-- the cycle's drops end at the first one of a later cycle
 pub returns-then-drops-place-clause-behind : goal.returns-then-drops-place-clause-behind
 returns-then-drops-place-clause-behind c =
     drops_end_here c.args.cycle.0 c.args.drops.now c.loop-place.place _ c.requires.order c.loop-place-test.true c.if-drops-place.true c.loop-place.invariant
@@ -19,7 +19,7 @@ returns-then-drops-place-clause-of_cycle c =
     kept_drops c.args.cycle.0 c.args.drops.now c.args.from c.loop-place.place c.requires.before (returns-then-drops-place-clause-behind c)
     c.loop-place.auto.place
 
--- and with none they end with the list
+-- if there is none, they end with the list
 pub returns-clause-behind : goal.returns-clause-behind
 returns-clause-behind c =
     all_drops_end c.args.cycle.0 c.args.drops.now c.loop-place.place (length c.args.drops.now) refl c.loop-place-test.false c.loop-place.invariant

@@ -12,7 +12,7 @@ loop-place-preserved c =
     c.cycle_time.ensures.accepted c.cycle_time.ensures.value (ap (λ (n : ℕ). (n + 1) * c.cycle_time.result.0) c.from.ensures) c.loop-place-test.true
     c.if-marks-place.false c.loop-place.invariant
 
--- with one at the end or behind it the cycle's marks end
+-- the cycle's marks end at the first one at or after the cycle's end
 pub returns-then-marks-place-clause-behind : goal.returns-then-marks-place-clause-behind
 returns-then-marks-place-clause-behind c =
     ends_here c.args.domain.now c.args.cycle.0 c.args.marks.now c.loop-place.place c.cycle_time.result.0 ((c.from.result + 1) * c.cycle_time.result.0) _
@@ -24,7 +24,7 @@ returns-then-marks-place-clause-of_cycle c =
     kept_in_cycle c.args.domain.now c.args.cycle.0 c.args.marks.now c.args.from c.loop-place.place c.requires.before
     (returns-then-marks-place-clause-behind c) c.loop-place.auto.place
 
--- and with none they end with the tape
+-- if there is none, they end with the tape
 pub returns-clause-behind : goal.returns-clause-behind
 returns-clause-behind c =
     all_end c.args.domain.now c.args.cycle.0 c.args.marks.now c.loop-place.place (length c.args.marks.now) refl c.loop-place-test.false c.loop-place.invariant

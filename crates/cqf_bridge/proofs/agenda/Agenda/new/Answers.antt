@@ -2,7 +2,7 @@ use Rattle.std.proofs.Common.{arith}
 use Rattle.cqf_bridge.proofs.InCycles.{is_agenda}
 use Rattle.cqf_bridge.proofs.agenda.Agenda.new.Goals as goal
 
--- what is the bridge's is its agenda
+-- the bridge's part is its agenda
 pub returns : goal.returns
 returns c =
     is_agenda c.args.domain.now c.args.offers.now c.args.background.now c.args.bridge _ c.frames_are_taken_in_order.ensures.offers

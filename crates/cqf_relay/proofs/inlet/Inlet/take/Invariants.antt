@@ -2,7 +2,7 @@ use Rattle.std.proofs.Common.{◌≡◌, ◌++◌, map, take}
 use Rattle.cqf_relay.specs.Logs.{came_by_stretch}
 use Rattle.cqf_relay.proofs.inlet.Inlet.take.Given as goal
 
--- the frames so far stand behind those that came before
+-- the frames so far follow those that arrived before
 abbrev pub invariant-loop-moving : goal.invariant-loop-moving
 invariant-loop-moving l =
     (l.self.link ≡ l.fn.self.link)

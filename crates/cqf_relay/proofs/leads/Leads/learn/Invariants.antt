@@ -2,7 +2,7 @@ use Rattle.std.proofs.Common.{◌-◌, ◌≤◌, length}
 use Rattle.cqf_relay.proofs.Sources.{HasNothingMore}
 use Rattle.cqf_relay.proofs.leads.Leads.learn.Given as goal
 
--- so many rows are known behind those of before, and none of them leads to the link
+-- this many rows are known in addition to those before, and none of them leads to the link
 abbrev pub invariant-loop-between : goal.invariant-loop-between
 invariant-loop-between l =
     HasNothingMore (l._between - length l.fn.self.rows.items) l.fn.self l.self

@@ -3,7 +3,7 @@ use Rattle.std.proofs.lemmas.Option.{slice_get_read}
 use Rattle.cqf_relay.proofs.Handing.{relay_keeps_back}
 use Rattle.cqf_relay.proofs.relay.Relay.keep_back.Goals as goal
 
--- one link has back what it handed on
+-- one link takes back what it handed on
 pub returns : goal.returns
 returns c =
     let was = slice_get_read c.args.self.now.outlets.items _ c.args.place c.index_mut.result.now refl c.requires c.index_mut.ensures.value in

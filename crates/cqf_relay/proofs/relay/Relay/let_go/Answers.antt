@@ -6,7 +6,7 @@ use Rattle.cqf_relay.specs.Logs.{KeepsFrom}
 use Rattle.cqf_relay.proofs.LettingGo.{HaveLetGo, all_taken, lets_go, many_kept, one_let_go}
 use Rattle.cqf_relay.proofs.relay.Relay.let_go.Goals as goal
 
--- one more inlet has let go
+-- one more inlet has removed them
 pub loop-place-preserved : goal.loop-place-preserved
 loop-place-preserved c =
     let so_far = c.loop-place.invariant in
