@@ -28,6 +28,7 @@ pub struct ScenarioOutcome {
 /// the cycles that are still open are closed, by the seat of the Seals; no table is kept. Everything that its orders name is among its
 /// requests and in its script. Its offers are at bridges of its domain, in order of instant, and its background frames on links of the
 /// domain, at most 16,777,215 each. Its calls are at most `cycles` Seals, and at most 100,000 others.
+///
 /// # Errors
 /// If an allocation fails.
 pub fn outcome_of(alloc: Global, cycles: u32, given: &RunInput) -> Result<ScenarioOutcome, Memory>
