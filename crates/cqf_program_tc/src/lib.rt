@@ -1,8 +1,7 @@
 //! The commands `compile --format tc` and `compile --format env`: the compiled gates as scripts for Linux, by `tc`, and the variables that
 //! such a script requires of a bridge.
 //!
-//! - [`tc_output`]: a POSIX shell script that sets the compiled gates on each bridge by `tc` ([`TcOutput`]), in the hardware of its
-//! interfaces
+//! - [`tc_output`]: a POSIX shell script that sets the compiled gates on each bridge by `tc` ([`TcOutput`]), in the hardware of its interfaces
 //!   or in software. `put_tx_words` and `write_gate_words` write gate lists as words of `tc`. [`scripts_hold_the_lists`] proves that the words of
 //!   each script are read as the compiled lists. [`scripts_call_what_is_due`] reads the script's lines back: each bridge sets these lists at each
 //!   of its links, and the gate of each stream with its index and its octets, and no others.
