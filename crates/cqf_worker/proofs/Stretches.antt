@@ -1,4 +1,4 @@
--- Consecutive stretches of which a prefix was taken.
+-- Consecutive stretches; a prefix of them was taken.
 use Rattle.std.proofs.Common.{ℕ, ◌≡◌, ◌<◌, ◌≤◌, ◌==◌, ◌∷◌, ◌++◌, [], List, All, AllPairs, Contains, length, map, refl, sym, ap, ◌∙◌}
 use Rattle.std.proofs.Common.{append-nil, arith, inl, inr, subst, eq-eqb, ne_eqb}
 use Rattle.std.proofs.lemmas.Bool.{cases_Bool, cond-false, cond-true}

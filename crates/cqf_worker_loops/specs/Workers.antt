@@ -153,7 +153,7 @@ pub record HasGoneThrough (t : Offering) (number cycles : ℕ) (done : Worker) :
   pub links : links_of done.reel.tapes.items ≡ links_from t.domain number
   pub sent : MayHaveComeTo t done → HasSentAll t number cycles done
 
--- what a worker promises: it keeps its pipes, and its bridge did its part for all traffic of which it is a worker
+-- what a worker promises: it keeps its pipes, and its bridge did its part, for any traffic whose worker it is
 pub record Works (cycles : ℕ) (worker done : Worker) : Type 0 where
   pub tables : done.tables.pipe ≡ worker.tables.pipe
   pub ins : wires_of done.ins.items ≡ wires_of worker.ins.items
