@@ -27,7 +27,7 @@ use Rattle.cqf_text.specs.Decimal.{decimal_value}
 number_read : (byte n : ℕ) (rest : List ℕ) → byte < 45 → n < 2 ^ 64 → number_up_to byte (decimal n ++ byte ∷ rest) ≡ Some n
 number_read byte n rest low small = ap decimal_value (up_to_end byte (decimal n) rest low (decimal_plain n)) ∙ decimal_read n small
 
--- and where it comes behind another on the line
+-- and after another number on the line
 behind_number : (n : ℕ) (rest : List ℕ) → past 44 (decimal n ++ 44 ∷ rest) ≡ rest
 behind_number n rest = past_end 44 (decimal n) rest (omega arith) (decimal_plain n)
 
@@ -37,7 +37,7 @@ only found = option_map_or (λ item. item ∷ []) found []
 
 -- ---- ports
 
--- an entry of a port's list, by its numbers and what stands behind them
+-- an entry of a port's list, by its numbers and what follows them
 abbrev opens_by : Option ℕ → List ℕ → Option Item
 opens_by states at = next states (λ s. next (behind (codes " \"timeIntervalValue\": ") at) (λ at_interval. option_map (λ i. Opens (s, i)) (number_up_to 32 at_interval)))
 
@@ -50,7 +50,7 @@ opens_line states interval end small short =
     ∙ ap (λ (at : List ℕ). only (option_or (opens_by (Some states) at) None)) (behind_number states more)
     ∙ ap (λ (found : Option ℕ). only (option_or (option_map (λ (i : ℕ). Opens (states, i)) found) None)) (number_read 32 interval end (omega arith) short)
 
--- a number stands within a line
+-- a number is within a line
 pub number_within : (n : ℕ) → IsWithin (decimal n)
 number_within n = plain_within (decimal n) (decimal_plain n)
 
@@ -89,7 +89,7 @@ most_read n small =
     ap (λ (b : Bool). if b then Some None else option_map (λ (m : ℕ). Some m) (decimal_value (decimal n))) (not_null (decimal n) (digits_decimal own n small))
     ∙ ap (option_map (λ (m : ℕ). Some m)) (decimal_read n small)
 
--- an entry in which frames may pass, by its numbers and what stands behind them
+-- an entry in which frames may pass, by its numbers and what follows them
 abbrev at_most : ℕ → ℕ → List ℕ → Option Item
 at_most ipv interval at =
     next (behind (codes " \"IntervalOctetMax\": ") at) (λ rest.
@@ -125,7 +125,7 @@ end_of_three : (front v mid w tail x last end : List ℕ) →
     (front ++ (v ++ (mid ++ (w ++ (tail ++ (x ++ last)))))) ++ end ≡ front ++ (v ++ (mid ++ (w ++ (tail ++ (x ++ (last ++ end))))))
 end_of_three front v mid w tail x last end = simp append_assoc
 
--- an entry of an octet maximum
+-- an entry with an octet maximum
 abbrev limited : ℕ → ℕ → ℕ → StreamEntry
 limited ipv interval most = record { ipv = ipv; interval = interval; octet_max = Some most }
 
@@ -157,7 +157,7 @@ shut_tells interval short =
     (λ end. ap items_in (append_assoc front (decimal interval ++ tail) end ∙ ap (λ (z : List ℕ). front ++ z) (append_assoc (decimal interval) tail end))
     ∙ shut_line interval (codes " \"IntervalOctetMax\": null }" ++ end) short)
 
--- what an entry's numbers have to be: in range, and class 6 where none may pass
+-- the requirements on an entry's numbers: they are in range, and the class is 6 if none may pass
 pub record IsReadable (entry : StreamEntry) : Type 0 where
   pub most : ℕ
   pub is : entry ≡ limited entry.ipv entry.interval most

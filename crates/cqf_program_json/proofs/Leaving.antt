@@ -1,4 +1,4 @@
--- The rows whose streams leave a bridge, by their places.
+-- The rows whose streams leave a bridge, by their indices.
 use Rattle.std.proofs.Common.{ℕ, zero, suc, ◌≡◌, ◌<◌, ◌≤◌, ◌+◌, ◌++◌, ◌∙◌, Bool, true, false, List, [], ◌∷◌, Option, Some, None, Contains, inl, inr, ap, append-nil, arith}
 use Rattle.std.proofs.Common.{add-one, cond, get_or, length, map, refl, subst, sym, take}
 use Rattle.std.specs.Prelude.{filter, slice_get}
@@ -12,25 +12,25 @@ use Rattle.cqf_model.specs.declared.topology.Row.{Row}
 use Rattle.cqf_model.specs.Domain.{Domain}
 use Rattle.cqf_program_tc.specs.Rows.{leaves_bridge, place_of_leaving, places_at, places_below}
 
--- what is told of the row at a place
+-- the text of the row at an index
 abbrev pub told_at : (Row → List ℕ) → List Row → ℕ → List ℕ
 told_at text rows place = option_map_or text (slice_get rows place) []
 
--- a place of a stream that leaves the bridge is one of the rows'
+-- the index of a stream that leaves the bridge is one of the rows'
 pub place_inside : (d : Domain) (bridge : ℕ) (rows : List Row) (places : List ℕ) (i : ℕ) → places ≡ places_at d rows bridge → i < length places →
     get_or places i 0 < length rows
 place_inside d bridge rows places i are inside =
     (kept_number (λ k. option_map_or (leaves_bridge d bridge) (slice_get rows k) false) (length rows) (get_or places i 0)
     (subst (λ (l : List ℕ). Contains l (get_or places i 0)) are (Contains-get_or places i 0 inside))).0
 
--- there stands the row that is read
+-- the row there is the row that is read
 pub told_of : (text : Row → List ℕ) (rows : List Row) (place : ℕ) (row : Row) → place < length rows → row ≡ get_or rows place row →
     told_at text rows place ≡ text row
 told_of text rows place row inside is =
     ap (λ (found : Option Row). option_map_or text found []) (slice_get_read rows (length rows) place row refl inside is)
 
 module _ (d : Domain) (bridge : ℕ) (rows : List Row) (text : Row → List ℕ) where
-  -- at the places below a number stand the rows before it whose streams leave the bridge
+  -- at the indices below a number are the rows before it whose streams leave the bridge
   told_below : (k : ℕ) → k ≤ length rows →
       map (told_at text rows) (places_below d rows bridge k) ≡ map text (filter (leaves_bridge d bridge) (take k rows))
   told_below zero within = refl
@@ -57,6 +57,6 @@ module _ (d : Domain) (bridge : ℕ) (rows : List Row) (text : Row → List ℕ)
           by true e = ap (λ (z : List ℕ). z ∷ []) e
           by false e = refl
 
-  -- and so at all of its places
+  -- and so at all of the bridge's indices
   pub told_all : map (told_at text rows) (places_at d rows bridge) ≡ map text (filter (leaves_bridge d bridge) rows)
   told_all = told_below (length rows) (omega arith) ∙ ap (λ (z : List Row). map text (filter (leaves_bridge d bridge) z)) (take_all (length rows) rows (omega arith))

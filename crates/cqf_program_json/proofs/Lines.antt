@@ -21,27 +21,27 @@ first_line line rest within =
     ap without_empty_last (slice_split_at is_line_feed line 10 rest none refl)
     ∙ without_empty_last-cons line (slice_split is_line_feed rest) (slice_split-some rest)
 
--- what it tells comes before what the others do
+-- its items come before those of the other lines
 pub line_tells : (line rest : List ℕ) → IsWithin line → items_of (line ++ 10 ∷ rest) ≡ items_in line ++ items_of rest
 line_tells line rest within = ap (flat_map items_in) (first_line line rest within)
 
--- a line of a front, a value and what stands behind it
+-- a line of a prefix, a value and what follows it
 pub value_line : (front value tail rest : List ℕ) → IsWithin front → IsWithin value → IsWithin tail →
     items_of (front ++ (value ++ (tail ++ 10 ∷ rest))) ≡ items_in (front ++ (value ++ tail)) ++ items_of rest
 value_line front value tail rest of_front of_value of_tail =
     let joined : front ++ (value ++ (tail ++ 10 ∷ rest)) ≡ (front ++ (value ++ tail)) ++ 10 ∷ rest = simp append_assoc in
     ap items_of joined ∙ line_tells (front ++ (value ++ tail)) rest (within_then front (value ++ tail) of_front (within_then value tail of_value of_tail))
 
--- a text that ends within a line: the line ends behind it, with a comma or without
+-- a text that ends within a line: the line ends after it, with a comma or without
 abbrev pub close : Bool → List ℕ → List ℕ
 close false rest = 10 ∷ rest
 close true rest = 44 ∷ 10 ∷ rest
 
--- its lines tell some items
+-- its lines give these items
 abbrev pub Tells : List ℕ → List Item → Type 0
 Tells text items = (comma : Bool) (rest : List ℕ) → items_of (text ++ close comma rest) ≡ items ++ items_of rest
 
--- a line that tells nothing, whatever stands behind its front
+-- a line that gives nothing, for any text after its prefix
 abbrev pub IsSilent : List ℕ → Type 0
 IsSilent front = (rest : List ℕ) → items_in (front ++ rest) ≡ []
 
@@ -49,7 +49,7 @@ pub silent_line : (line rest : List ℕ) → IsWithin line → IsSilent line →
 silent_line line rest within silent =
     line_tells line rest within ∙ ap (λ (items : List Item). items ++ items_of rest) (ap items_in (sym (append-nil line)) ∙ silent [])
 
--- a line that tells the same with a comma behind it
+-- a line that gives the same with a comma after it
 pub line_end : (line : List ℕ) (items : List Item) → IsWithin line → ((end : List ℕ) → items_in (line ++ end) ≡ items) → Tells line items
 line_end line items within each false rest =
     line_tells line rest within ∙ ap (λ (z : List Item). z ++ items_of rest) (ap items_in (sym (append-nil line)) ∙ each [])
@@ -61,14 +61,14 @@ line_end line items within each true rest =
 pub silent_end : (line : List ℕ) → IsWithin line → IsSilent line → Tells line []
 silent_end line within silent = line_end line [] within silent
 
--- a silent line with a value
+-- a line with a value that gives nothing
 pub silent_value : (front value tail rest : List ℕ) → IsWithin front → IsWithin value → IsWithin tail → IsSilent front →
     items_of (front ++ (value ++ (tail ++ 10 ∷ rest))) ≡ items_of rest
 silent_value front value tail rest of_front of_value of_tail silent =
     value_line front value tail rest of_front of_value of_tail ∙ ap (λ (items : List Item). items ++ items_of rest) (silent (value ++ tail))
 
 module _ {A : Type 0} (text : A → List ℕ) (items : A → List Item) where
-  -- each of some elements tells its items
+  -- each of these elements gives its items
   abbrev pub EachTells : List A → Type 0
   EachTells [] = Unit {0}
   EachTells (x ∷ xs) = Tells (text x) (items x) × EachTells xs

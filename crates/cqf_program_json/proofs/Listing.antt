@@ -1,4 +1,4 @@
--- Elements of an array, one more with each step.
+-- Elements of an array, one more at each step.
 use Rattle.std.proofs.Common.{ℕ, zero, suc, ◌≡◌, ◌<◌, ◌+◌, ◌++◌, ◌==◌, ◌∙◌, ◌&&◌, Bool, true, false, not, List, [], ◌∷◌, ap, append-nil, append_assoc, arith}
 use Rattle.std.proofs.Common.{add-one, cond, get_or, length, map, refl, sym, take}
 use Rattle.std.proofs.lemmas.Bool.Decides.{nat_tests}
@@ -20,7 +20,7 @@ never_true false = refl
 not_zero : (n : ℕ) → (suc n == 0) ≡ false
 not_zero n = grind (arith, nat_tests)
 
--- one element behind others
+-- one element after others
 listed_behind : (first : Bool) (texts : List (List ℕ)) (text : List ℕ) →
     listed first (texts ++ text ∷ []) ≡ listed first texts ++ (front_text (first && is_nil texts) ++ text)
 listed_behind first [] text =
@@ -36,12 +36,12 @@ module _ {A : Type 0} (f : A → List ℕ) where
   nil_map [] = refl
   nil_map (x ∷ xs) = refl
 
-  -- whether there are none is whether their number is 0
+  -- there are none if and only if their number is 0
   pub nil_length : (xs : List A) → (length xs == 0) ≡ is_nil (map f xs)
   nil_length [] = refl
   nil_length (x ∷ xs) = not_zero (length xs)
 
-  -- one more element behind some
+  -- one more element after some others
   pub listed_next : (xs : List A) (x : A) →
       listed true (map f (xs ++ x ∷ [])) ≡ listed true (map f xs) ++ (front_text (is_nil xs) ++ f x)
   listed_next xs x =
@@ -53,7 +53,7 @@ module _ {A : Type 0} (f : A → List ℕ) where
   nil_at (x ∷ xs) zero inside = refl
   nil_at (x ∷ xs) (suc k) inside = sym (not_zero k)
 
-  -- the element at a place behind those before it
+  -- the element at an index, after those before it
   pub listed_more : (xs : List A) (k : ℕ) (x : A) → k < length xs → x ≡ get_or xs k x →
       listed true (map f (take (k + 1) xs)) ≡ listed true (map f (take k xs)) ++ (front_text (k == 0) ++ f x)
   listed_more xs k x inside at =
@@ -65,7 +65,7 @@ module _ {A : Type 0} (f : A → List ℕ) where
       listed true (map f (take (k + 1) xs)) ≡ listed true (map f (take k xs)) ++ (front_text (k == 0) ++ f (get_or xs k d))
   listed_at xs k d inside = listed_more xs k (get_or xs k d) inside (get_or_default xs k d (get_or xs k d) inside)
 
--- numbers below another
+-- the numbers below a bound
 nil_numbers : (k : ℕ) → is_nil (numbers_below k) ≡ (k == 0)
 nil_numbers zero = refl
 nil_numbers (suc k) = by (numbers_below k) ∙ sym (not_zero k)
@@ -93,7 +93,7 @@ module _ (text : ℕ → List ℕ) (d : Domain) (bridge count : ℕ) where
   left_next : left_below d bridge (count + 1) ≡ left_below d bridge count ++ cond (leaves d count bridge) (count ∷ []) []
   left_next = ap (left_below d bridge) (add-one count)
 
-  -- one more link: its port is put where it leaves the bridge
+  -- one more link: its port is put if the link leaves the bridge
   pub ports_more :
       listed true (map text (left_below d bridge (count + 1)))
       ≡ listed true (map text (left_below d bridge count))

@@ -1,4 +1,4 @@
--- What the lines of an object tell: its ports, its streams, its bridges, and all of it.
+-- The items that the lines of an object give: of its ports, its streams, its bridges, and all of it.
 use Rattle.std.proofs.Common.{ℕ, zero, suc, ◌≡◌, ◌<◌, ◌≤◌, ◌^◌, ◌-◌, ◌++◌, ◌∙◌, Bool, true, false, List, [], ◌∷◌, Option, Some, None, All, ap, append_assoc, arith}
 use Rattle.std.proofs.Common.{append-nil, codes, cond, decimal, length, map, refl, sym}
 use Rattle.std.specs.Prelude.{filter, option_map}
@@ -39,7 +39,7 @@ use Rattle.cqf_text.specs.Decimal.{decimal_value}
 use Rattle.cqf_topology.specs.DomainText.{IsDomain}
 use Rattle.cqf_topology.specs.NodeNames.{name_of_bridge, name_of_link}
 
--- ---- texts before others, for any parts
+-- ---- texts before others, for arbitrary parts
 
 before_two : (a v b w c more : List ℕ) → (a ++ (v ++ (b ++ (w ++ c)))) ++ more ≡ a ++ (v ++ (b ++ (w ++ (c ++ more))))
 before_two a v b w c more = simp append_assoc
@@ -106,7 +106,7 @@ before_parts : (a b c e : List ℕ) (comma : List ℕ) → (a ++ (b ++ (comma ++
 before_parts a b c e comma = simp append_assoc
 
 module _ (d : Domain) (links : List LinkInterfaces) (domain : IsDomain d) (named : AreNamed links) where
-  -- each entry of a port's list tells itself
+  -- each entry of a port's list gives itself
   ports_entries : (link : ℕ) → EachTells port_entry (λ (entry : Entry). Opens entry ∷ []) (compiled_lists d link)
   ports_entries link = by (guard_of d link) (guard_within d link domain.accepted)
     where
@@ -119,7 +119,7 @@ module _ (d : Domain) (links : List LinkInterfaces) (domain : IsDomain d) (named
           (port_entry_tells (0x7F, d.cycle_time - guard) (omega arith) small, last) in
           (port_entry_tells (0xBF, d.cycle_time - guard) (omega arith) small, (port_entry_tells (0x00, guard) (omega arith) short, second))
 
-  -- what a port tells
+  -- the items of a port
   abbrev items_at_port : ℕ → List Item
   items_at_port link = AtPort (name_of_link d link) ∷ map Opens (compiled_lists d link)
 
@@ -190,7 +190,7 @@ gate_begins gate more small =
     (ap decimal_value (up_to_end 44 index [] (omega arith) (decimal_plain gate)) ∙ decimal_read gate small)
     ∙ ap (λ (items : List Item). AtGate gate ∷ items) told
 
--- how its frames are known
+-- how its frames are identified
 mac_within : (mac : Option (List ℕ)) → IsWithin (mac_or_null mac)
 mac_within None = refl
 mac_within (Some mac) = text_within (mac_text mac) (mac_plain mac)
@@ -228,7 +228,7 @@ gate_tells gate entries small good comma rest =
     (gate_list_tells entries more good ∙ ap (λ (items : List Item). map Passes entries ++ items) (gate_round_tells entries comma rest))
 
 module _ (d : Domain) (addresses : List StreamAddress) (links : List LinkInterfaces) (domain : IsDomain d) (named : AreNamed links) where
-  -- the way by which a stream comes stands within a line
+  -- the way by which a stream arrives is within a line
   way_within : (way : Option ℕ) → IsWithin (way_name d way)
   way_within None = refl
   way_within (Some link) = text_within (name_of_link d link) (link_plain d domain link)
@@ -256,7 +256,7 @@ module _ (d : Domain) (addresses : List StreamAddress) (links : List LinkInterfa
       ∙ ap (λ (text : List ℕ). AtStream text ∷ items_of third) (name_up_to row.name (44 ∷ []) plain)
       ∙ ap (λ (items : List Item). AtStream row.name ∷ items) told
 
-  -- what a stream tells at a bridge
+  -- the items of a stream at a bridge
   abbrev items_at_stream : ℕ → Row → List Item
   items_at_stream bridge row = AtStream row.name ∷ (AtGate (gate_index addresses row.no) ∷ map Passes (gate_at d row bridge))
 
@@ -335,7 +335,7 @@ module _ (d : Domain) (addresses : List StreamAddress) (links : List LinkInterfa
       ∙ ap (λ (text : List ℕ). AtBridge text ∷ items_of third) (name_up_to name (44 ∷ []) (bridge_plain d domain bridge))
       ∙ ap (λ (items : List Item). AtBridge name ∷ items) of_both
 
--- of numbers below another, end to end
+-- lists for the numbers below a bound, concatenated
 of_numbers : {A : Type 0} (f : ℕ → List A) (count : ℕ) → flat_map f (numbers_below count) ≡ each_below f count
 of_numbers f zero = refl
 of_numbers {A} f (suc count) =

@@ -1,4 +1,4 @@
--- The parts of a line, read one behind the other.
+-- The parts of a line, read one after the other.
 use Rattle.std.proofs.Common.{ℕ, zero, suc, ◌≡◌, ◌<◌, ◌≤◌, ◌^◌, ◌%◌, ◌/◌, ◌++◌, ◌==◌, ◌∙◌, ◌&&◌, ◌||◌, Bool, true, false, not, List, [], ◌∷◌, Option, Some, None}
 use Rattle.std.proofs.Common.{All, IsTrue, ap, append_assoc, arith, cond, decimal, eq-eqb, get_or, inl, inr, leb, length, refl, slice_get, sym}
 use Rattle.std.specs.Prelude.{nat_le}
@@ -31,14 +31,14 @@ pub both_true : (a b : Bool) → (a && b) ≡ true → (a ≡ true) × (b ≡ tr
 both_true true b h = (refl, h)
 both_true false b h = absurd cc
 
--- a byte that ends no line and no value: no line feed, blank, quotation mark or comma
+-- a byte that ends neither a line nor a value: no line feed, blank, quotation mark or comma
 abbrev pub is_plain : ℕ → Bool
 is_plain byte = nat_le 45 byte
 
 abbrev pub IsPlain : List ℕ → Type 0
 IsPlain text = list_all is_plain text ≡ true
 
--- a text in which no line ends
+-- a text without a line feed
 abbrev pub is_within : ℕ → Bool
 is_within byte = not (is_line_feed byte)
 
@@ -64,7 +64,7 @@ plain_within (x ∷ text) plain =
 differs : (x byte : ℕ) → is_plain x ≡ true → byte < 45 → (x == byte) ≡ false
 differs x byte plain low = grind (arith, nat_tests)
 
--- a value is read up to its end, and what stands behind it is read next
+-- a value is read up to its end, and what follows it is read next
 pub up_to_end : (byte : ℕ) (text rest : List ℕ) → byte < 45 → IsPlain text → up_to byte (text ++ byte ∷ rest) ≡ text
 up_to_end byte [] rest low plain = ap (λ (b : Bool). cond b [] (byte ∷ up_to byte rest)) (eq-eqb byte byte refl)
 up_to_end byte (x ∷ text) rest low plain =
@@ -118,7 +118,7 @@ decimal_read n small =
     let form : is_decimal (decimal n) ≡ true = rw (one, twenty, digits) in
     rw (form, value)
 
--- a text whose bytes pass a test that only plain ones pass
+-- a text whose bytes pass a test that only plain bytes pass
 all_plain : (test : ℕ → Bool) → ((byte : ℕ) → test byte ≡ true → is_plain byte ≡ true) → (text : List ℕ) → list_all test text ≡ true → IsPlain text
 all_plain test each [] all = refl
 all_plain test each (x ∷ text) all =

@@ -1,4 +1,4 @@
--- What the command `compile --format json` gives for its input: the object, or the line of the input's first fault.
+-- The result of the command `compile --format json` for its input: the object, or the line of the input's first fault.
 use Rattle.std.specs.Prelude.{ℕ, List, [], Result, Ok}
 use Rattle.cqf_lists.specs.Results.{and_then}
 use Rattle.cqf_addressing.specs.declared.links.LinkInterfaces.{LinkInterfaces}
@@ -29,28 +29,28 @@ pub record AddressedPlan : Type 0 where
 abbrev pub text_of_json : AddressedPlan → List ℕ
 text_of_json plan = json_text plan.domain plan.addresses plan.links plan.rows
 
--- the interfaces of the links of a domain's text, and the addresses of a streams text, or the line of the first fault
+-- the interfaces of links in a domain's text, and the addresses of streams in a streams text, or the line of the first fault
 abbrev pub addressing_of : Limits → List ℕ → List ℕ → Result (List LinkInterfaces × List StreamAddress) (List ℕ)
 addressing_of limits domain_text streams_text =
     and_then (or_line interfaces_line (interfaces_of_text domain_text)) (λ links.
     and_then (or_line stream_addresses_line (addresses_of_text limits streams_text)) (λ addresses.
     Ok (links, addresses)))
 
--- the object of a domain with all of these streams admitted before cycle 0 and the addressing of the texts of both, or the line of the first fault
+-- the object of a domain with all of these streams admitted before cycle 0 and the addressing of both texts, or the line of the first fault
 abbrev pub json_of : Limits → Domain → List Asked → List ℕ → List ℕ → Result (List ℕ) (List ℕ)
 json_of limits d streams domain_text streams_text =
     and_then (admitted_from d [] 1 streams) (λ entries.
     and_then (addressing_of limits domain_text streams_text) (λ addressing.
     Ok (json_text d addressing.1 addressing.0 (held_in d entries 0))))
 
--- the object of an input, or the line of its first fault: as `compile` has it, and then of its interfaces and addresses
+-- the object of an input, or the line of its first fault: first those that `compile` finds, then those of its interfaces and addresses
 abbrev pub json_of_input : Limits → List ℕ → Result (List ℕ) (List ℕ)
 json_of_input limits input =
     and_then (two_parts (parts_of input)) (λ parts.
     and_then (compile_input limits input) (λ found.
     json_of limits found.0 found.1 parts.0 parts.1))
 
--- the object can be told: the rows' paces are good, and it is known which of them leave a bridge
+-- the object can be written: the rows' paces are good, and it is known which of them leave each bridge
 pub record IsReadyObject (d : Domain) (rows : List Row) (places : List (List ℕ)) : Type 0 where
   pub paced : AreOfGoodPaces rows
   pub by_bridge : AreByBridge d rows places

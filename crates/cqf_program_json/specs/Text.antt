@@ -1,5 +1,5 @@
--- The object of a domain and its streams. Its names are those of the managed objects of IEEE Std 802.1Q-2018, 12.29.1 for ports
--- and 12.31 for stream filters and gates, and of IEEE Std 802.1CB-2017, clause 9, for how the frames of streams are known.
+-- The object of a domain and its streams. Its names are those of the managed objects of IEEE Std 802.1Q-2018, 12.29.1 for ports and 12.31
+-- for stream filters and gates, and of IEEE Std 802.1CB-2017, clause 9, for the identification of streams' frames.
 use Rattle.std.specs.Prelude.{ℕ, ◌++◌, List, [], ◌∷◌, Option, Some, None, codes, decimal, filter, if◌then◌else◌, length, map, true}
 use Rattle.cqf_lists.specs.Lists.{each_below}
 use Rattle.cqf_addressing.specs.declared.links.LinkInterfaces.{LinkInterfaces}
@@ -21,7 +21,7 @@ use Rattle.cqf_topology.specs.NodeNames.{name_of_bridge, name_of_link}
 
 -- ---- a port
 
--- an entry of its list: states, where bit k is class k, and an interval in nanoseconds
+-- an entry of its list: states, in which bit k is class k, and an interval in nanoseconds
 abbrev pub port_entry : Entry → List ℕ
 port_entry entry =
     codes "            { \"operationName\": \"SetGateStates\", \"gateStatesValue\": "
@@ -44,7 +44,7 @@ port_round entries =
     ++ (codes ", \"denominator\": 1000000000 },\n"
     ++ codes "          \"AdminBaseTime\": { \"seconds\": 0, \"nanoseconds\": 0 }\n        }"))
 
--- its link, its interface where the domain's text names it, and its states before its list begins: classes 6 and 7 are closed
+-- its link, its interface if the domain's text names it, and its states before its list begins: classes 6 and 7 are closed
 abbrev pub port_head : Domain → List LinkInterfaces → ℕ → List ℕ
 port_head d links link =
     codes "        {\n          \"link\": \""
@@ -59,7 +59,7 @@ port_with d links link entries = port_head d links link ++ (port_list_text entri
 abbrev pub port_text : Domain → List LinkInterfaces → ℕ → List ℕ
 port_text d links link = port_with d links link (compiled_lists d link)
 
--- the links that leave a bridge, by number, of those below a number, and of all; and its ports
+-- the links that leave a bridge, among those below a number; and the ports of a bridge, by link number
 abbrev pub left_below : Domain → ℕ → ℕ → List ℕ
 left_below d bridge count = each_below (λ link. if leaves d link bridge then link ∷ [] else []) count
 
@@ -68,7 +68,7 @@ ports_text d links bridge = array (codes "      ") (map (port_text d links) (lef
 
 -- ---- a stream at a bridge
 
--- an entry of its gate's list in which frames may pass, with their class as the internal priority value, and one in which none may
+-- an entry of its gate's list in which frames may pass, with their class as the internal priority value; and an entry in which none may
 abbrev pub open_entry : StreamEntry → List ℕ
 open_entry entry =
     codes "            { \"operationName\": \"SetGateAndIPV\", \"StreamGateState\": \"open\", \"IPV\": "
@@ -92,7 +92,7 @@ gate_list_text entries =
     codes "          \"PSFPAdminControlListLength\": "
     ++ (decimal (length entries) ++ (codes ",\n          \"PSFPAdminControlList\": [" ++ elements (codes "          ") (map gate_entry entries)))
 
--- its cycle time and its base time, as those of a port
+-- its cycle time and its base time, like those of a port
 abbrev pub gate_round_text : List StreamEntry → List ℕ
 gate_round_text entries =
     codes "          \"PSFPAdminCycleTime\": { \"numerator\": "
@@ -100,7 +100,7 @@ gate_round_text entries =
     ++ (codes ", \"denominator\": 1000000000 },\n"
     ++ codes "          \"PSFPAdminBaseTime\": { \"seconds\": 0, \"nanoseconds\": 0 }\n        }"))
 
--- the link and the interface by which the stream comes to the bridge: none where it comes from its talker
+-- the link and the interface over which the stream arrives at the bridge; `null` if it arrives from its talker
 abbrev pub way_name : Domain → Option ℕ → List ℕ
 way_name d None = codes "null"
 way_name d (Some link) = quoted (name_of_link d link)
@@ -115,7 +115,7 @@ stream_head d links row way =
     ++ (row.name
     ++ (codes "\",\n          \"from\": " ++ (way_name d way ++ (codes ",\n          \"interface\": " ++ (way_interface links way ++ codes ",\n")))))
 
--- how its frames are known, where the streams' text says it: by their destination address and their VLAN (null stream identification)
+-- how its frames are identified, if the streams' text says so: by their destination address and their VLAN (null stream identification)
 abbrev pub mac_or_null : Option (List ℕ) → List ℕ
 mac_or_null None = codes "null"
 mac_or_null (Some mac) = quoted (mac_text mac)
@@ -129,7 +129,7 @@ address_text addresses number =
     ++ (codes ",\n          \"tsnCpeNullDownTagged\": \"tagged\",\n          \"tsnCpeNullDownVlan\": "
     ++ (number_or_null (vlan_of_stream addresses number) ++ codes ",\n")))))
 
--- its filter, which leads its frames to its gate, whatever their priority. Handle, filter and gate have one number
+-- its filter, which leads its frames to its gate for every priority. Handle, filter and gate have the same number
 abbrev pub filter_text : ℕ → List ℕ
 filter_text gate =
     codes "          \"StreamFilterInstance\": "
@@ -150,7 +150,7 @@ abbrev pub stream_text : Domain → List StreamAddress → List LinkInterfaces �
 stream_text d addresses links bridge row =
     stream_head d links row (way_to d bridge row) ++ (address_text addresses row.no ++ gate_text (gate_index addresses row.no) (gate_at d row bridge))
 
--- the streams that leave a bridge, in their order
+-- the streams that leave a bridge, in order
 abbrev pub streams_text : Domain → List StreamAddress → List LinkInterfaces → List Row → ℕ → List ℕ
 streams_text d addresses links rows bridge =
     array (codes "      ") (map (stream_text d addresses links bridge) (filter (leaves_bridge d bridge) rows))
@@ -171,7 +171,7 @@ numbers_below count = each_below (λ number. number ∷ []) count
 abbrev pub bridges_text : Domain → List StreamAddress → List LinkInterfaces → List Row → List ℕ
 bridges_text d addresses links rows = array (codes "  ") (map (bridge_text d addresses links rows) (numbers_below (length d.bridges)))
 
--- the cycle time and the guard time in nanoseconds, and the bridges
+-- the cycle time and the guard band in nanoseconds, and the bridges
 abbrev pub json_text : Domain → List StreamAddress → List LinkInterfaces → List Row → List ℕ
 json_text d addresses links rows =
     codes "{\n  \"cycle\": "

@@ -1,4 +1,4 @@
-//! The pieces of which arrays and members are put.
+//! The pieces from which arrays and members are written.
 ghost use Rattle.std.specs.Prelude.{◌≡◌, option_map};
 ghost use Rattle.cqf_press.specs.Press.{Puts};
 ghost use Rattle.cqf_program_json.specs.Arrays.{end_text, front_text, name_or_null, number_or_null, quoted};
@@ -6,7 +6,7 @@ ghost use Rattle.cqf_program_json.specs.Arrays.{end_text, front_text, name_or_nu
 use cqf_addressing::{InterfaceName, put_interface};
 use cqf_press::{Press, Sink};
 
-/// Puts what stands before an element: the end of the line before, and a comma where that is another element's.
+/// Puts what precedes an element: the end of the line before, and a comma if that line ends another element.
 pub(crate) fn put_front<W: Sink>(press: &mut Press<'_, W>, is_first: bool)
     ensures { Puts W.contents press.old press.new (front_text is_first) }
 {
@@ -17,7 +17,7 @@ pub(crate) fn put_front<W: Sink>(press: &mut Press<'_, W>, is_first: bool)
     }
 }
 
-/// Puts the end of an array, behind so many blanks on a line of its own where the array has elements.
+/// Puts the end of an array; if the array has elements, on a line of its own after these blanks.
 pub(crate) fn put_end<W: Sink>(press: &mut Press<'_, W>, is_empty: bool, blanks: &[u8])
     ensures { Puts W.contents press.old press.new (end_text blanks.now is_empty) }
 {
@@ -39,7 +39,7 @@ fn put_quoted<W: Sink>(press: &mut Press<'_, W>, name: &InterfaceName)
     press.put(b"\"");
 }
 
-/// Puts the name of an interface, or `null` where there is none.
+/// Puts the name of an interface, or `null` if there is none.
 pub(crate) fn put_name_or_null<W: Sink>(press: &mut Press<'_, W>, name: Option<&InterfaceName>)
     ensures { Puts W.contents press.old press.new (name_or_null (option_map (λ name. name.now) name.entry)) }
 {
@@ -49,7 +49,7 @@ pub(crate) fn put_name_or_null<W: Sink>(press: &mut Press<'_, W>, name: Option<&
     }
 }
 
-/// Puts a number, or `null` where there is none.
+/// Puts a number, or `null` if there is none.
 pub(crate) fn put_number_or_null<W: Sink>(press: &mut Press<'_, W>, number: Option<u32>)
     ensures { Puts W.contents press.old press.new (number_or_null number) }
 {

@@ -13,7 +13,7 @@ use cqf_model::Row;
 use cqf_press::{Press, Sink};
 use cqf_topology::put_bridge;
 
-/// Puts what is told of a bridge: its ports, and the streams that leave it, by the places of their rows.
+/// Puts the object of a bridge: its ports, and the streams that leave it, by the indices of their rows.
 fn put_bridge_object<W: Sink>(
     press: &mut Press<'_, W>,
     wired: Wired<'_>,
@@ -35,7 +35,7 @@ fn put_bridge_object<W: Sink>(
     press.put(b"\n    }");
 }
 
-/// Puts the bridges, by number, where it is known which rows' streams leave each.
+/// Puts the bridges, by number. It is known which rows' streams leave each bridge.
 fn put_bridges<W: Sink>(
     press: &mut Press<'_, W>,
     wired: Wired<'_>,
@@ -56,7 +56,7 @@ fn put_bridges<W: Sink>(
     put_end(press, wired.domain.bridges() == 0, b"  ");
 }
 
-/// Puts the object: the cycle time and the guard time of the domain, and its bridges.
+/// Puts the object: the cycle time and the guard band of the domain, and its bridges.
 pub(crate) fn put_object<W: Sink>(
     press: &mut Press<'_, W>,
     wired: Wired<'_>,

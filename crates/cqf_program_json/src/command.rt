@@ -16,7 +16,7 @@ use cqf_topology::{Domain, PacedRequest};
 use cqf_units::Memory;
 use std::alloc::Global;
 
-/// The interfaces of the links and the addresses of the streams of an input's parts.
+/// Reads the interfaces of the links and the addresses of the streams from an input's parts.
 fn read_addressing(
     alloc: Global,
     limits: Limits,
@@ -31,7 +31,7 @@ fn read_addressing(
     Ok((links, addresses))
 }
 
-/// The object of a domain with the streams of these rows, ready to be told.
+/// Returns the object of a domain with the streams of these rows, ready to be written.
 fn object_ready(
     alloc: Global,
     domain: Domain,
@@ -54,7 +54,7 @@ fn object_ready(
     })
 }
 
-/// The object of a domain with these streams, ready to be told, with the addressing of these texts.
+/// Returns the object of a domain with these streams, ready to be written, with the addressing of these texts.
 fn object_of(
     alloc: Global,
     limits: Limits,
@@ -75,13 +75,13 @@ fn object_of(
     }
 }
 
-/// The output of `compile --format json` for an input that is read within some limits, ready to be told: the object for the domain and its
-/// streams.
+/// Returns the output of `compile --format json` for an input that is read within some limits, ready to be written: the object for the
+/// domain and its streams.
 ///
 /// # Errors
-/// With status 1 and the line of the first fault: those of `cqf_program_plans::compile_output`, then those of the interfaces of the domain's
-/// links (`cqf_addressing::read_link_interfaces`), then those of the addresses of the streams (`cqf_addressing::read_stream_addresses`); and with
-/// status 3 for want of memory.
+/// With status 1 and the line of the first fault: first the faults of `cqf_program_plans::compile_output`, then those of the interfaces of the
+/// domain's links (`cqf_addressing::read_link_interfaces`), then those of the addresses of the streams
+/// (`cqf_addressing::read_stream_addresses`). With status 3 if an allocation fails.
 pub fn json_output(alloc: Global, limits: Limits, input: &[u8]) -> Result<JsonOutput, Stop>
     ensures ok { IfOk result (λ output. json_of_input limits input.now ≡ Ok (text_of_json output)) }
     ensures err { IfErr result (IsRefused (json_of_input limits input.now)) }

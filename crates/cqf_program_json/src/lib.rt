@@ -1,17 +1,17 @@
 //! The command `compile --format json`: the compiled gates as one JSON object, for controllers and for bridges of other makers.
 //!
 //! - [`json_output`]: for each bridge of the domain, each port with its gate list and each stream gate with its filter, under the names of
-//!   the managed objects of IEEE Std 802.1Q-2018, 12.29.1 and 12.31, and how the stream's frames are known, under those of IEEE Std
-//!   802.1CB-2017, clause 9 ([`JsonOutput`]). [`json_holds_the_lists`] says that the lines of each output, read one by one, tell just the lists
-//!   that are compiled, bridge by bridge.
+//!   the managed objects of IEEE Std 802.1Q-2018, 12.29.1 and 12.31, and how the stream's frames are identified, under those of IEEE Std
+//!   802.1CB-2017, clause 9 ([`JsonOutput`]). [`json_holds_the_lists`] proves that the lines of each output, read one by one, give exactly the
+//!   compiled lists, bridge by bridge.
 //!
-//! `specs/` has the value of an input (`Output`), what an output tells (`Text` with `Arrays`), and what its lines are read as (`Items`).
+//! `specs/` defines the value of an input (`Output`), the text of an output (`Text` with `Arrays`), and how its lines are read (`Items`).
 //!
-//! Of `b"..\nlinks = [{ from = \"a\", to = \"s\", rate = 1000, delay = 500 }]\n%%\nstreams = []\n"`, where a cycle is 125,000 ns
-//! and the guard 5,000:
+//! For `b"..\nlinks = [{ from = \"a\", to = \"s\", rate = 1000, delay = 500 }]\n%%\nstreams = []\n"`, with a cycle of 125,000 ns and a
+//! guard band of 5,000 ns:
 //!
 //! ```text
-//! json_output tells an object with the lines
+//! json_output writes an object with the lines
 //!           "link": "a>s",
 //!           "interface": null,
 //!           "AdminControlListLength": 4,

@@ -1,4 +1,4 @@
-//! The output of `compile --format json`, before it is told.
+//! The output of `compile --format json`, before it is written.
 
 use cqf_addressing::{LinkInterfaces, StreamAddress};
 use cqf_model::Row;
@@ -6,8 +6,8 @@ use cqf_press::Sheet;
 use cqf_topology::Domain;
 use std::marker::Model;
 
-/// What the output of `compile --format json` is told from: a domain, the rows of its streams by number, for each bridge the places of the
-/// rows whose streams leave it, the addresses of streams and the interfaces of links by number, and a sheet.
+/// The output of `compile --format json` before it is written: a domain, the rows of its streams by number, for each bridge the indices of
+/// the rows whose streams leave it, the addresses of streams and the interfaces of links by number, and a sheet.
 #[derive(Drop)]
 pub struct JsonOutput {
     pub(crate) domain: Domain,

@@ -1,4 +1,4 @@
-//! The ports of a bridge: the gate parameter table of each (IEEE Std 802.1Q-2018, 12.29.1).
+//! The ports of a bridge: the gate parameter table of each port (IEEE Std 802.1Q-2018, 12.29.1).
 ghost use Rattle.std.specs.Prelude.{◌≡◌, ◌<◌, ◌&&◌, ◌++◌, [], if◌then◌else◌, length, not};
 ghost use Rattle.cqf_model.specs.Domain.{leaves};
 ghost use Rattle.cqf_press.specs.Press.{Puts};
@@ -24,7 +24,7 @@ fn put_port_entry<W: Sink>(press: &mut Press<'_, W>, states: u8, interval: u32)
     press.put(b" }");
 }
 
-/// Puts the entries of a list, each behind the front of an element.
+/// Puts the entries of a list, each after what precedes an element.
 fn put_port_entries<W: Sink>(press: &mut Press<'_, W>, entries: &[(u8, u32)])
     ensures { Puts W.contents press.old press.new (port_entries entries.now) }
 {
@@ -46,7 +46,7 @@ fn put_port_list<W: Sink>(press: &mut Press<'_, W>, entries: &[(u8, u32)])
     put_end(press, count == 0, b"          ");
 }
 
-/// Puts the cycle time of a port's list, and the instant from which it begins.
+/// Puts the cycle time of a port's list, and the instant at which the list begins.
 fn put_port_round<W: Sink>(press: &mut Press<'_, W>, list: &TxList)
     ensures { Puts W.contents press.old press.new (port_round list.now) }
 {
@@ -56,7 +56,7 @@ fn put_port_round<W: Sink>(press: &mut Press<'_, W>, list: &TxList)
     press.put(b"          \"AdminBaseTime\": { \"seconds\": 0, \"nanoseconds\": 0 }\n        }");
 }
 
-/// Puts what a port is known by, and its states before its list begins.
+/// Puts the link and the interface of a port, and its states before its list begins.
 fn put_port_head<W: Sink>(press: &mut Press<'_, W>, wired: Wired<'_>, link: u16)
     ensures { Puts W.contents press.old press.new (port_head wired.entry.domain.now wired.entry.links.now link) }
 {
@@ -79,7 +79,8 @@ fn put_port<W: Sink>(press: &mut Press<'_, W>, wired: Wired<'_>, link: u16)
     put_port_round(press, &list);
 }
 
-/// Puts the port of a link, behind the front of an element, where the link leaves the bridge; and whether the next one is the first still.
+/// Puts the port of a link, after what precedes an element, if the link leaves the bridge. Returns whether the next port is still the first
+/// one.
 fn put_port_of_link<W: Sink>(
     press: &mut Press<'_, W>,
     wired: Wired<'_>,

@@ -1,5 +1,5 @@
-//! The streams of a bridge: how the frames of each are known (IEEE Std 802.1CB-2017, clause 9), its filter and its gate (IEEE Std
-//! 802.1Q-2018, 12.31.2 and 12.31.3).
+//! The streams of a bridge: how the frames of each stream are identified (IEEE Std 802.1CB-2017, clause 9), and its filter and its gate
+//! (IEEE Std 802.1Q-2018, 12.31.2 and 12.31.3).
 ghost use Rattle.std.specs.Prelude.{◌≡◌, ◌≤◌, length, option_map};
 ghost use Rattle.cqf_addressing.specs.Mac.{mac_text};
 ghost use Rattle.cqf_admission.specs.Turns.{AreOfGoodPaces, IsGoodPace};
@@ -39,7 +39,7 @@ fn put_open_entry<W: Sink>(press: &mut Press<'_, W>, entry: StreamEntry)
     press.put(b" }");
 }
 
-/// Puts one in which none passes.
+/// Puts an entry in which no frames may pass.
 fn put_closed_entry<W: Sink>(press: &mut Press<'_, W>, interval: u32)
     ensures { Puts W.contents press.old press.new (closed_entry interval) }
 {
@@ -61,7 +61,7 @@ fn put_gate_entry<W: Sink>(press: &mut Press<'_, W>, entry: StreamEntry)
     }
 }
 
-/// Puts the entries of a list, each behind the front of an element.
+/// Puts the entries of a list, each after what precedes an element.
 fn put_gate_entries<W: Sink>(press: &mut Press<'_, W>, entries: &[StreamEntry])
     ensures { Puts W.contents press.old press.new (gate_entries entries.now) }
 {
@@ -71,7 +71,7 @@ fn put_gate_entries<W: Sink>(press: &mut Press<'_, W>, entries: &[StreamEntry])
     }
 }
 
-/// How long the entries take together, in nanoseconds.
+/// Returns how long the entries take together, in nanoseconds.
 fn round_of(entries: &[StreamEntry]) -> u64
     requires { length entries.now ≤ 16 }
     ensures { result ≡ gate_round entries.now }
@@ -95,7 +95,7 @@ fn put_gate_list<W: Sink>(press: &mut Press<'_, W>, entries: &[StreamEntry])
     put_end(press, count == 0, b"          ");
 }
 
-/// Puts the cycle time of a gate's list, and the instant from which it begins.
+/// Puts the cycle time of a gate's list, and the instant at which the list begins.
 fn put_gate_round<W: Sink>(press: &mut Press<'_, W>, entries: &[StreamEntry])
     requires { length entries.now ≤ 16 }
     ensures { Puts W.contents press.old press.new (gate_round_text entries.now) }
@@ -108,7 +108,7 @@ fn put_gate_round<W: Sink>(press: &mut Press<'_, W>, entries: &[StreamEntry])
     );
 }
 
-/// The link by which a stream comes to a bridge that it leaves, or `None` where it comes from its talker.
+/// Returns the link over which a stream arrives at a bridge that it leaves, or `None` if it arrives from its talker.
 fn way_to(domain: &Domain, row: &Row, bridge: u16) -> Option<u16>
     ensures { result ≡ way_to domain.now bridge row.now }
 {
@@ -118,7 +118,7 @@ fn way_to(domain: &Domain, row: &Row, bridge: u16) -> Option<u16>
     }
 }
 
-/// Puts the link by which a stream comes, or `null` where it comes from its talker.
+/// Puts the link over which a stream arrives, or `null` if it arrives from its talker.
 fn put_way_name<W: Sink>(press: &mut Press<'_, W>, domain: &Domain, way: Option<u16>)
     ensures { Puts W.contents press.old press.new (way_name domain.now way) }
 {
@@ -132,7 +132,7 @@ fn put_way_name<W: Sink>(press: &mut Press<'_, W>, domain: &Domain, way: Option<
     }
 }
 
-/// Puts the interface by which it comes, or `null` where the domain's text doesn't name it.
+/// Puts the interface over which it arrives, or `null` if it arrives from its talker or the domain's text doesn't name the interface.
 fn put_way_interface<W: Sink>(press: &mut Press<'_, W>, wired: Wired<'_>, way: Option<u16>)
     ensures { Puts W.contents press.old press.new (way_interface wired.entry.links.now way) }
 {
@@ -142,7 +142,7 @@ fn put_way_interface<W: Sink>(press: &mut Press<'_, W>, wired: Wired<'_>, way: O
     }
 }
 
-/// Puts the stream's name, and by which way it comes.
+/// Puts the stream's name, and the link and the interface over which it arrives.
 fn put_stream_head<W: Sink>(press: &mut Press<'_, W>, wired: Wired<'_>, row: &Row, way: Option<u16>)
     ensures { Puts W.contents press.old press.new (stream_head wired.entry.domain.now wired.entry.links.now row.now way) }
 {
@@ -164,7 +164,7 @@ fn put_mac_text<W: Sink>(press: &mut Press<'_, W>, mac: &MacAddress)
     press.put(b"\"");
 }
 
-/// Puts an address, or `null` where there is none.
+/// Puts an address, or `null` if there is none.
 fn put_mac_or_null<W: Sink>(press: &mut Press<'_, W>, mac: Option<&MacAddress>)
     ensures { Puts W.contents press.old press.new (mac_or_null (option_map (λ mac. mac.now) mac.entry)) }
 {
@@ -174,7 +174,7 @@ fn put_mac_or_null<W: Sink>(press: &mut Press<'_, W>, mac: Option<&MacAddress>)
     }
 }
 
-/// Puts a VLAN, or `null` where there is none.
+/// Puts a VLAN, or `null` if there is none.
 fn put_vlan_or_null<W: Sink>(press: &mut Press<'_, W>, vlan: Option<VlanId>)
     ensures { Puts W.contents press.old press.new (number_or_null vlan) }
 {
@@ -184,7 +184,7 @@ fn put_vlan_or_null<W: Sink>(press: &mut Press<'_, W>, vlan: Option<VlanId>)
     }
 }
 
-/// Puts how the stream's frames are known: by their destination address and their VLAN.
+/// Puts how the stream's frames are identified: by their destination address and their VLAN.
 fn put_address<W: Sink>(press: &mut Press<'_, W>, addresses: &[StreamAddress], number: u32)
     ensures { Puts W.contents press.old press.new (address_text addresses.now number) }
 {
@@ -239,7 +239,7 @@ fn put_gate<W: Sink>(press: &mut Press<'_, W>, gate: u64, list: &StreamList)
     put_gate_round(press, entries);
 }
 
-/// Puts what is told of a stream at a bridge.
+/// Puts the object of a stream at a bridge.
 fn put_stream<W: Sink>(press: &mut Press<'_, W>, wired: Wired<'_>, bridge: u16, row: &Row)
     requires { IsGoodPace row.now.pace }
     ensures { Puts W.contents press.old press.new
@@ -254,7 +254,7 @@ fn put_stream<W: Sink>(press: &mut Press<'_, W>, wired: Wired<'_>, bridge: u16, 
     );
 }
 
-/// Puts the streams that leave a bridge, by the places of their rows.
+/// Puts the streams that leave a bridge, by the indices of their rows.
 pub(crate) fn put_streams<W: Sink>(
     press: &mut Press<'_, W>,
     wired: Wired<'_>,

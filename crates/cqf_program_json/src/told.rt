@@ -1,4 +1,4 @@
-//! The object, told line by line.
+//! The object, written line by line.
 ghost use Rattle.cqf_press.specs.Edge.{HasTold, writing};
 ghost use Rattle.cqf_program_json.specs.Output.{text_of_json};
 
@@ -8,7 +8,7 @@ use crate::wired::Wired;
 use cqf_press::{Press, Sink, Told};
 
 impl JsonOutput {
-    /// Tells the output: the object. It asks for no memory.
+    /// Writes the output: the object. It allocates no memory.
     pub fn tell<W: Sink>(self, told: &mut Told<W>)
         ensures { HasTold (writing W.contents told.old told.new) (text_of_json self) }
     {

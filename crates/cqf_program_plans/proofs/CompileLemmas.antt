@@ -1,4 +1,4 @@
--- Streams admitted in turn, each of which is held from cycle 0 on.
+-- Streams admitted in turn; each is held from cycle 0 on.
 use Rattle.std.proofs.Common.{◌≡◌, ◌≢◌, ◌⊎◌, ◌∙◌, ◌<◌, ◌+◌, ◌++◌, ℕ, true, List, [], ◌∷◌, Option, Some, None, Result, Ok, Err, length, map, arith, ap, subst}
 use Rattle.std.proofs.Common.{refl, sym, length-append, inl, inr}
 use Rattle.cqf_model.specs.declared.limits.Limits.{Limits}
@@ -27,18 +27,18 @@ use Rattle.cqf_program_scenario.specs.Parts.{two_parts}
 use Rattle.cqf_press.specs.Stops.{IsRefused, or_line}
 use Rattle.cqf_press.specs.declared.stops.Stop.{Stop}
 
--- what the answer to a request tells of it
+-- what the answer to a request says of it
 granted : (number effect : ℕ) (receipt : Receipt) (refusal : Option Refused) → Accepted receipt ≡ admit_reply number effect refusal → refusal ≡ None
 granted number effect receipt None h = refl
 granted number effect receipt (Some refused) h = cc
 
--- what the answer to a refused request tells of it
+-- what the answer to a refused request says of it
 refused_for : (number effect : ℕ) (refused : Refused) (refusal : Option Refused) → RefusedFor refused ≡ admit_reply number effect refusal →
     refusal ≡ Some refused
 refused_for number effect refused None h = cc
 refused_for number effect refused (Some other) h = cc
 
--- what gives a value is that value, and where it might have been refused, it isn't
+-- two equal values of a result are the same; and a result with a value was not refused
 pub same_ok : {A E : Type 0} (x y : A) → ◌≡◌ {A = Result A E} (Ok x) (Ok y) → x ≡ y
 same_ok x y h = cc
 
@@ -51,7 +51,7 @@ refuse_ok (Some refused) fault rest x h = cc
 pub AreAllHeld-none : (d : Domain) → IsLegalHistory d [] → AreAllHeld d []
 AreAllHeld-none d legal = record { legal = legal; no_seal = refl; one_each = refl; few = omega arith }
 
--- one stream more
+-- one more stream
 pub AreAllHeld-more : (d : Domain) (entries : List Recorded) (asked : Asked) → HistoryGoesOn → SealsAreCounted → GrantedIsHeld → GrantedFindsRoom →
     AreAllHeld d entries → refusal_of d (held_in d entries (seals entries)) asked ≡ None → AreAllHeld d (with_asked d entries asked)
 AreAllHeld-more d entries asked goes_on counted grants finds all granted_is =
@@ -71,16 +71,16 @@ AreAllHeld-more d entries asked goes_on counted grants finds all granted_is =
       few = omega arith;
     }
 
--- where each stream is held, those that are held in cycle 0 are sound
+-- if each stream is held, those held in cycle 0 are sound
 pub AreAllHeld-sound : (d : Domain) (entries : List Recorded) → HeldAreSound → AreAllHeld d entries → AreHeld d (held_in d entries 0) (next_number d entries) 0
 AreAllHeld-sound d entries sound all =
     let held : AreHeld d (held_in d entries (seals entries)) (next_number d entries) (seals entries) =
     sound d entries (held_in d entries (seals entries)) (next_number d entries) all.legal (record { held = refl; number = refl }) in
     subst (λ cycle. AreHeld d (held_in d entries cycle) (next_number d entries) cycle) all.no_seal held
 
--- what a granted call tells
+-- what a granted call implies
 module _ (old new : Administration) (asked : Asked) (receipt : Receipt) (answers : Answers old new 0 (Admits asked) (Ok receipt)) where
-  -- the refusal of the request, where there is one
+  -- the refusal of the request, if there is one
   abbrev refusal : Option Refused
   refusal = refusal_of old.domain (held_in old.domain old.entries (seals old.entries)) asked
 
@@ -92,7 +92,7 @@ module _ (old new : Administration) (asked : Asked) (receipt : Receipt) (answers
   entered : new.entries ≡ with_asked old.domain old.entries asked
   entered = answers.entered refl ∙ ap (λ reply. with_entry old.entries 0 (Admits asked) reply) (answers.due refl)
 
-  -- so those behind it are admitted behind that entry
+  -- so the streams after it are admitted after that entry
   pub granted-goes_on : (place : ℕ) (more : List Asked) →
       admitted_from old.domain old.entries place (asked ∷ more) ≡ admitted_from old.domain new.entries (place + 1) more
   granted-goes_on place more =
@@ -105,7 +105,7 @@ module _ (old new : Administration) (asked : Asked) (receipt : Receipt) (answers
       subst (λ d. AreAllHeld d new.entries) (sym answers.domain)
       (subst (λ entries. AreAllHeld old.domain entries) (sym entered) (AreAllHeld-more old.domain old.entries asked goes_on counted grants finds all none_due))
 
--- a refusal is entered, except where the history is full or memory lacks
+-- a refusal is entered, unless the history is full or an allocation fails
 entered_unless : (refused : Refused) → refused ≢ HistoryFull → refused ≢ Memory → is_entered (Err refused) ≡ true
 entered_unless BadName full memory = refl
 entered_unless BadOctets full memory = refl
@@ -123,7 +123,7 @@ entered_unless AlreadyWithdrawn full memory = refl
 entered_unless HistoryFull full memory = absurd (full refl)
 entered_unless Memory full memory = absurd (memory refl)
 
--- a refusal is want of memory, or it isn't
+-- a refusal is an allocation failure, or it isn't
 pub is_memory : (refused : Refused) → (refused ≡ Memory) ⊎ (refused ≢ Memory)
 is_memory Memory = inl refl
 is_memory BadName = inr (λ h. cc)
@@ -141,11 +141,11 @@ is_memory NotHeld = inr (λ h. cc)
 is_memory AlreadyWithdrawn = inr (λ h. cc)
 is_memory HistoryFull = inr (λ h. cc)
 
--- an end with a line, or for want of memory
+-- an end with a line, or with the status of an allocation failure
 pub IsRefused-line : {A : Type 0} (found : Result A (List ℕ)) (line : List ℕ) (stop : Stop) → found ≡ Err line → EndsWith 1 line stop → IsRefused found stop
 IsRefused-line found line stop h e = record { statuses = e.statuses; line = λ one. h ∙ ap Err (sym (e.line_is one)); memory = e.memory }
 
--- want of memory ends with nothing but its status
+-- an allocation failure ends with only its status
 pub IsRefused-memory : {A : Type 0} (found : Result A (List ℕ)) (stop : Stop) → EndsWith 3 [] stop → IsRefused found stop
 IsRefused-memory found stop e =
     let three : stop.status ≡ 3 = elim e.statuses [ inl three ↦ three | inr three ↦ three ] in
@@ -155,7 +155,7 @@ IsRefused-memory found stop e =
 never_full : (old new : Administration) (asked : Asked) → AreAllHeld old.domain old.entries → ¬ Answers old new 0 (Admits asked) (Err HistoryFull)
 never_full old new asked all answers = omega (arith, answers.full.0 refl, all.few)
 
--- a refused stream ends the run with its line, or for want of memory
+-- a refused stream ends the run with its line, or with the status of an allocation failure
 pub refused_so : (d : Domain) (entries : List Recorded) (asked : Asked) (refused : Refused) (place : ℕ) (stop : Stop) (more : List Asked) →
     (refused ≢ Memory → refusal_of d (held_in d entries (seals entries)) asked ≡ Some refused) →
     (refused ≢ Memory → EndsWith 1 (stream_line place refused) stop) →
@@ -169,7 +169,7 @@ refused_so d entries asked refused place stop more due line memory =
           (ap (λ r. refuse r (stream_line place) (admitted_from d (with_asked d entries asked) (place + 1) more)) (due there)) (line there)
     ]
 
--- what a refused call tells
+-- what a refused call implies
 pub refused-ends : (old new : Administration) (asked : Asked) (refused : Refused) (place : ℕ) (stop : Stop) (more : List Asked) →
     AreAllHeld old.domain old.entries → Answers old new 0 (Admits asked) (Err refused) → (refused ≢ Memory → EndsWith 1 (stream_line place refused) stop) →
     (refused ≡ Memory → EndsWith 3 [] stop) → IsRefused (admitted_from old.domain old.entries place (asked ∷ more)) stop

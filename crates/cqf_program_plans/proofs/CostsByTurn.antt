@@ -1,4 +1,4 @@
--- What the streams of a table cost of each link, in sums by link and cycle.
+-- What the streams of a table cost of each link, as sums by link and cycle.
 use Rattle.std.proofs.Common.{◌≡◌, ◌≢◌, ◌+◌, ◌-◌, ◌<◌, ◌≤◌, ◌^◌, ◌∙◌, ℕ, true, List, All, AllPairs, Contains, ap, arith, get_or, length, subst, take}
 use Rattle.std.proofs.lemmas.List.Elements.{All-map}
 use Rattle.std.proofs.lemmas.List.Sums.{sum_by_more, sum_by_more_le}
@@ -18,7 +18,7 @@ use Rattle.cqf_admission.specs.Turns.{AreMoreIn, AreNone, HasRoomFor, Turned}
 use Rattle.cqf_program_plans.proofs.Fits.{most_taken, most_within}
 use Rattle.cqf_program_plans.specs.Latency.Output.{AreCostsOf, AreCountable, CostLittle}
 
--- no two hops of a tree are by the same link, and each is by one of the domain's
+-- no two hops of a tree have the same link, and each has one of the domain's links
 tree_apart : (d : Domain) (tree : List Hop) → IsTree d tree → AllPairs (λ (a b : ℕ). a ≢ b) (links_in tree)
 tree_apart d tree good =
     pairs_map (λ (a b : ℕ). a ≢ b) (λ (hop : Hop). hop.link) tree (λ i j e l m same. good.reached_once i j e l m (ap (end_of d) same))
@@ -31,7 +31,7 @@ held_countable d rows next effect held row among = record {
   apart = tree_apart d row.tree.items (held.trees row among);
 }
 
--- a hop of a tree is by one of so many links
+-- a hop of a tree has one of this number of links
 pub low_hop : (tree : List Hop) (hop : Hop) (n : ℕ) → Contains tree hop → All (λ (l : ℕ). l < n) (links_in tree) → hop.link < n
 low_hop tree hop n there all = subst (λ (h : Hop). h.link < n) there.2 (low_at tree there.0 hop n there.1 all)
 
@@ -40,14 +40,14 @@ pub held_little : (d : Domain) (rows : List Row) (next effect : ℕ) → IsAccep
 held_little d rows next effect accepted held l cycle =
     omega (arith, held.loads l cycle, budget_within d l, accepted.cycle_most)
 
--- so sums of these costs are within a word of 32 bits
+-- so sums of these costs fit in 32 bits
 pub most_little : (rows : List Row) (l : ℕ) → CostLittle rows → most_cost rows l ≤ 110000000
 most_little rows l little = most_taken (λ turn. true) (link_cost rows l) 110000000 (λ turn on. little l turn) 80
 
 pub beside_little : (rows : List Row) (tree : List Hop) (pace : Pace) (l : ℕ) → CostLittle rows → most_beside rows tree pace l ≤ 110000000
 beside_little rows tree pace l little = most_within rows tree pace l 110000000 (λ turn on. little l turn)
 
--- nothing is more than what it isn't
+-- a value that equals a bounded one is bounded
 pub none_more : (taken most greatest : ℕ) → taken ≡ greatest → greatest ≤ most → most < taken → ⊥
 none_more taken most greatest is within over = omega (arith, is, within, over)
 

@@ -31,7 +31,7 @@ use Rattle.cqf_program_plans.specs.Load.Fitting.{fits_by, fits_on}
 use Rattle.cqf_program_plans.specs.Load.Laws.{FitsIsGreatest, OneMoreFits}
 use Rattle.cqf_program_plans.specs.Load.Listing.{listed_row, listing_refusal}
 
--- by how many frames of 64 octets what is left holds
+-- how many frames of 64 octets fit in what is left
 fits_forth : (frames left reserved : ℕ) → frames ≡ left / 84 → 64 ≤ reserved → reserved ≤ most_reserved → cost_of reserved ≤ left → reserved ≤ fits_by frames left
 fits_forth zero left reserved is least most costs = absurd (omega (arith, is, least, costs))
 fits_forth (suc frames) left reserved is least most costs = omega (arith, is, least, most, costs)
@@ -44,7 +44,7 @@ pub fits_greatest : FitsIsGreatest
 fits_greatest left reserved least most =
     (λ costs. fits_forth (left / 84) left reserved refl least most costs, λ fits. fits_back (left / 84) left reserved refl least fits)
 
--- where neither of two refusals is due
+-- if neither of two refusals is due
 pub first_none : (a b : Option Refused) → or_else a b ≡ None → a ≡ None
 first_none None b h = refl
 first_none (Some x) b h = cc
@@ -69,7 +69,7 @@ not_at (Some l) refused h = cc
 some_is_none : {A : Type 0} (x : A) → Some x ≡ None → ⊥
 some_is_none x h = cc
 
--- each link has as much left as a stream costs, where none is found that hasn't
+-- if no link lacks room, each link has as much left as a stream costs
 none_short : (test : ℕ → Bool) (links : List ℕ) → find test links ≡ None → All (λ l. test l ≡ false) links
 none_short test [] h = All-nil (λ l. test l ≡ false)
 none_short test (l ∷ links) h = elim (cases_Bool (test l)) [
@@ -84,7 +84,7 @@ none_found test (l ∷ links) h =
     ap (λ (b : Bool). cond b (Some l) (find test links)) (All-head (λ k. test k ≡ false) l links h)
     ∙ none_found test links (All-tail (λ k. test k ≡ false) l links h)
 
--- a stream that nothing but a budget speaks against
+-- a stream to which only a budget can object
 module _ (d : Domain) (rows : List Row) (asked : Asked) (h : listing_refusal d rows asked ≡ None) where
   abbrev held : Option Refused
   held = refused_if (list_any (λ (row : Row). is_text row.name asked.name) rows) NameHeld
@@ -126,7 +126,7 @@ module _ (d : Domain) (rows : List Row) (asked : Asked) (h : listing_refusal d r
   abbrev refused_short : ℕ → Refused
   refused_short l = BudgetShort l (left_on d rows (tree_of d asked.paths) (pace_of asked) l)
 
-  -- what its links have left for it, where it is one of each cycle, they have left in each
+  -- what its links have left for it; for a stream of each cycle, what they have left in each cycle
   left_there : pace_of asked ≡ each_cycle → (k other : ℕ) → k < length (links_in (tree_of d asked.paths)) →
       left_on d rows (tree_of d asked.paths) (pace_of asked) (get_or (links_in (tree_of d asked.paths)) k other)
       ≡ left_beside d rows (get_or (links_in (tree_of d asked.paths)) k other)
@@ -167,11 +167,11 @@ accepted_listed d rows asked none =
     ∙ ap (λ o. or_else o many) (first_none held (or_else many short) behind)
     ∙ first_none many short (second_none held (or_else many short) behind)
 
--- the greater of two numbers that are within a third is within it
+-- the greater of two numbers within a bound is within the bound
 within_both : (a b most : ℕ) → a ≤ most → b ≤ most → max a b ≤ most
 within_both a b most first second = omega arith
 
--- the most of what is taken in some turns is within what each of these is within
+-- the greatest of the costs in some turns is within a bound if each of them is
 pub most_taken : (test : ℕ → Bool) (costs : ℕ → ℕ) (most : ℕ) → ((turn : ℕ) → test turn ≡ true → costs turn ≤ most) → (n : ℕ) →
     fold max 0 (each_below (λ turn. if test turn then costs turn ∷ [] else []) n) ≤ most
 most_taken test costs most each zero = omega arith
@@ -187,19 +187,19 @@ most_taken test costs most each (suc n) =
           (subst (λ (xs : List ℕ). fold max 0 xs ≤ most) (sym (append-nil before)) so_far)
     ]
 
--- the most that streams cost of a link in the turns of another is within what they cost at most in each of these
+-- the most that streams cost of a link in the turns of another stream is within a bound if their cost in each of these turns is
 pub most_within : (rows : List Row) (tree : List Hop) (pace : Pace) (l most : ℕ) → ((turn : ℕ) → uses tree pace l turn ≡ true → link_cost rows l turn ≤ most) →
     most_beside rows tree pace l ≤ most
 most_within rows tree pace l most each = most_taken (uses tree pace l) (link_cost rows l) most each 80
 
--- where a cost and what is held are within a budget, the rest of it has room for both
+-- if a cost and what is held are together within a budget, the rest of the budget has room for each
 beside_cost : (held mine cost most : ℕ) → held + mine ≤ most → mine ≡ cost → held ≤ most - cost
 beside_cost held mine cost most room is = omega arith
 
 room_beside : (held mine cost beside most : ℕ) → held + mine ≤ most → mine ≡ cost → beside ≤ most - cost → cost ≤ most - beside
 room_beside held mine cost beside most room is low = omega arith
 
--- a stream uses the links of its tree in some cycle
+-- a stream uses each link of its tree in some cycle
 in_a_turn : (tree : List Hop) (pace : Pace) (k : ℕ) (none : Hop) → k < length tree → (turn : ℕ) × (uses tree pace (get_or tree k none).link turn ≡ true)
 in_a_turn tree pace k none inside =
     let hop : Hop = get_or tree k none in
@@ -210,7 +210,7 @@ in_a_turn tree pace k none inside =
     (eq-eqb (turn % (pace.pause + 1)) (turn % (pace.pause + 1)) refl) in
     (turn, list_any_at test tree k none inside here)
 
--- and one that is listed is accepted where each link has room for it
+-- and a stream that is listed is accepted if each link has room for it
 pub accepted_where_room : (d : Domain) (rows : List Row) (asked : Asked) → listing_refusal d rows asked ≡ None →
     ((l turn : ℕ) → l < length d.links → link_cost rows l turn + cost_on (listed_row d rows asked) l turn ≤ budget d l) → refusal_of d rows asked ≡ None
 accepted_where_room d rows asked h room =

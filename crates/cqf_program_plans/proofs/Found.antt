@@ -1,20 +1,20 @@
--- What is listed of each element that passes, one element after the other.
+-- What is listed for each element that passes, one element after the other.
 use Rattle.std.proofs.Common.{◌≡◌, ◌∙◌, ◌+◌, ◌<◌, ◌++◌, ◌∷◌, [], ℕ, List, Bool, true, false, Option, Some, None}
 use Rattle.std.proofs.Common.{if◌then◌else◌, append_assoc, ap, filter, get_or, length, map, refl, sym, take}
 use Rattle.std.proofs.lemmas.List.{map-append}
 use Rattle.std.proofs.lemmas.List.Elements.{filter_more}
 
--- what is found, as a list
+-- what was found, as a list
 abbrev pub items_of : {X : Type 0} → Option X → List X
 items_of None = []
 items_of (Some x) = x ∷ []
 
--- what is listed of an element where it passes
+-- what is listed for an element if it passes
 items_if : {X Y : Type 0} (f : X → Y) (x : X) (passes : Bool) → items_of (if passes then Some (f x) else None) ≡ map f (if passes then x ∷ [] else [])
 items_if f x true = refl
 items_if f x false = refl
 
--- one element more
+-- one more element
 pub listed_more : {X Y : Type 0} (p : X → Bool) (f : X → Y) (xs : List X) (k : ℕ) (none : X) (found : Option Y) (before done : List Y) → k < length xs →
     found ≡ (if p (get_or xs k none) then Some (f (get_or xs k none)) else None) → done ≡ before ++ map f (filter p (take k xs)) →
     done ++ items_of found ≡ before ++ map f (filter p (take (k + 1) xs))

@@ -1,4 +1,4 @@
--- Streams that are admitted in turn cost of each link what the whole list does.
+-- Streams that are admitted in turn cost of each link what all the requested streams cost.
 use Rattle.std.proofs.Common.{ℕ, ◌≡◌, ◌+◌, ◌∙◌, List, [], ◌∷◌, Ok, ap, fold, inl, inr, if◌then◌else◌, max, subst, sym, true}
 use Rattle.cqf_model.specs.Domain.{Domain}
 use Rattle.cqf_lists.specs.Lists.{each_below}
@@ -30,14 +30,14 @@ table_costs_list d streams plan link turn costs h =
     let granted = all_granted d [] plan 1 streams h in
     sym (costs d streams link turn granted.0) ∙ sym (ap (λ entries. link_cost (held_in d entries 0) link turn) granted.1)
 
--- and the most that the list costs in a cycle of a stream's own, the table does
+-- and so does the most that it costs in a cycle of one of its streams
 pub table_costs_most : (d : Domain) (streams : List Asked) (plan : List Recorded) (row : Row) (link : ℕ) → ListCostsItsTable →
     admitted_from d [] 1 streams ≡ Ok plan → (of : IsOfList d streams row) →
     most_beside_all d streams of.asked link ≡ most_beside (held_in d plan 0) row.tree.items row.pace link
 table_costs_most d streams plan row link costs h of =
     λ i. fold max 0 (each_below (λ k. if uses (sym of.tree i) (sym of.pace i) link k then table_costs_list d streams plan link k costs h i ∷ [] else []) most_every)
 
--- streams that are all granted have paces
+-- streams that are all granted have good paces
 granted_paced : (d : Domain) (entries : List Recorded) (streams : List Asked) → AreGranted d entries streams → ArePaced streams
 granted_paced d entries [] granted asked among = absurd (contains_none asked among)
 granted_paced d entries (first ∷ streams) granted asked among = elim (contains_cases first streams asked among) [

@@ -1,4 +1,4 @@
--- Streams that are listed cost together what is told of them, and no history of theirs holds more.
+-- Streams that are listed together cost what is written of them, and no history of these streams holds more.
 use Rattle.std.proofs.Common.{ℕ, ◌≡◌, ◌+◌, ◌++◌, Ok, List, [], ◌∷◌, ap, arith, length}
 use Rattle.std.proofs.lemmas.List.Sums.{sum_by-cons, sum_by_push}
 use Rattle.cqf_model.specs.declared.topology.Row.{Row}
@@ -13,7 +13,7 @@ use Rattle.cqf_program_plans.specs.Load.Listing.{listed_row, listing_refusal}
 use Rattle.cqf_program_plans.specs.Load.Output.{listed_from}
 use Rattle.cqf_program_plans.proofs.CompileLemmas.{refuse_ok, same_ok}
 
--- the rows of streams that are listed behind others cost what the streams cost, beside those
+-- the rows of streams listed after others add to the cost of those what the streams cost
 listed_cost : (d : Domain) (streams : List Asked) (rows end : List Row) (link turn : ℕ) → listed_from d rows streams ≡ Ok end →
     link_cost end link turn ≡ link_cost rows link turn + cost_of_all d streams link turn
 listed_cost d [] rows end link turn h = omega (arith, ap (λ (rs : List Row). link_cost rs link turn) (same_ok rows end h))

@@ -4,7 +4,7 @@ use Rattle.cqf_press.specs.Stops.{fault_line}
 use Rattle.cqf_program_plans.specs.declared.latency.latencies.Verdict.{Verdict}
 use Rattle.cqf_program_plans.specs.Latency.Text.{name_of_verdict, text_of_deadline, text_of_verdict}
 
--- the line feed stands behind the deadline
+-- the line feed follows the deadline
 pub told_line : (stream listener most name : List ℕ) (verdict : Verdict) (deadline : ℕ) (due : Option Verdict) (set : Option ℕ) →
     name ≡ name_of_verdict verdict → due ≡ Some verdict → set ≡ Some deadline →
     codes "cqf: latency: "

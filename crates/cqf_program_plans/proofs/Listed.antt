@@ -18,7 +18,7 @@ use Rattle.cqf_program_plans.specs.Adding.{AddsWhere}
 use Rattle.cqf_program_plans.specs.Load.Fitting.{streams_on}
 use Rattle.cqf_program_plans.specs.Load.Listing.{IsListing}
 
--- of as many sums that are each 0, each is
+-- each of this number of sums is 0
 none_held : (sums : List ℕ) (count l : ℕ) → sums ≡ replicate count 0 → l < count → slice_index_or sums l 0 ≡ 0
 none_held sums count l is low = ap (λ (s : List ℕ). slice_index_or s l 0) is ∙ get_or-replicate {A = ℕ} count l 0 0 low
 
@@ -35,18 +35,18 @@ none_listed held crossing costs counts = record {
   counted = λ l low. omega (arith, none_held crossing 4096 l counts low);
 }
 
--- a sum far from the most that a word holds has room for a number
+-- a sum far below the limit has room for a number
 pub room_where : (sums links : List ℕ) (number l : ℕ) → number < 2 ^ 32 → slice_index_or sums l 0 < 2 ^ 32 → slice_index_or sums l 0 + part_on links number l < 2 ^ 64
 room_where sums links number l small low = elim (cases_Bool (list_any (λ k. k == l) links)) [
   | inl on ↦ omega (arith, low, small, ap {B = ℕ} (λ (b : Bool). if b then number else 0) on)
   | inr off ↦ omega (arith, low, ap {B = ℕ} (λ (b : Bool). if b then number else 0) off)
 ]
 
--- one stream more counts where it passes
+-- one more stream counts if it passes
 count_push : (p : Row → Bool) (rows : List Row) (row : Row) → count_by p (rows ++ row ∷ []) ≡ count_by p rows + (if p row then 1 else 0)
 count_push p rows row = fold-append (λ (n : ℕ) (x : Row). n + cond (p x) 1 0) 0 rows (row ∷ [])
 
--- a stream more, of a name that isn't listed
+-- one more stream, of a name that isn't listed yet
 module _ (names : List (List ℕ)) (rows : List Row) (held : Turned) (crossing : List ℕ) (row : Row) (now : IsListing names rows held crossing)
     (few : length rows < 16384) (octets : row.octets ≤ most_reserved) where
   -- what it costs of a link is bounded
@@ -87,7 +87,7 @@ module _ (names : List (List ℕ)) (rows : List Row) (held : Turned) (crossing :
         counted = λ l low. omega (arith, counts.each l low, now.counted l low, one l, longer);
       }
 
--- the most that they cost of a link in a cycle is what is kept of it, and is bounded
+-- the most that the streams cost of a link in a cycle is the sum that is kept of it, and is bounded
 pub most_listed : (names : List (List ℕ)) (rows : List Row) (held : Turned) (crossing : List ℕ) (l : ℕ) → IsListing names rows held crossing → l < 4096 →
     most_of held l ≡ most_cost rows l
 most_listed names rows held crossing l is low = most_of_costs held l (link_cost rows l) (λ cycle below. is.cost l cycle low)

@@ -1,4 +1,4 @@
--- A stream that nothing speaks against is listed.
+-- A stream to which nothing objects is listed.
 use Rattle.std.proofs.Common.{ℕ, ◌≡◌, ◌∙◌, ◌≤◌, ◌<◌, ◌&&◌, Bool, true, false, not, List, None, ap, arith, length, min, subst, sym}
 use Rattle.std.specs.Prelude.{nat_le}
 use Rattle.std.specs.List.{list_any}
@@ -21,7 +21,7 @@ use Rattle.cqf_admission.specs.Turns.{IsOfGoodPace}
 use Rattle.cqf_program_plans.proofs.Fits.{first_none, not_due, second_none}
 use Rattle.cqf_program_plans.specs.Load.Listing.{IsListed, listed_row}
 
--- no domain has more streams than the most that are counted
+-- no domain has more streams than the limit
 few_of : (within number : ℕ) → number < min within 16384 → number < 16384
 few_of within number low = omega arith
 
@@ -36,7 +36,7 @@ form_paced d asked form =
     (not_due (not (is_pace asked.every asked.phase)) BadPace
     (first_none pace tree (second_none octets (or_else pace tree) (second_none name (or_else octets (or_else pace tree)) form))))
 
--- where its form is good, its name is free and there are not too many streams, a stream is listed with its row
+-- if its form is good, its name is free and there aren't too many streams, a stream is listed with its row
 pub is_listed : (d : Domain) (rows : List Row) (asked : Asked) (row : Row) → form_refusal d asked ≡ None → asked.octets ≤ most_reserved →
     list_any (λ (other : Row). is_text other.name asked.name) rows ≡ false → length rows < streams_within d.limits → row ≡ listed_row d rows asked →
     IsListed d rows asked row
@@ -53,7 +53,7 @@ is_listed d rows asked row form most free few is = record {
   free = ap (λ (r : Row). list_any (λ (other : Row). is_text other.name r.name) rows) is ∙ free;
 }
 
--- what can be added to sums of so many links can be added to those of more
+-- what can be added to sums of this number of links can be added to sums of more links
 pub countable_within : (row : Row) (links most : ℕ) → links ≤ most → IsCountable links row → IsCountable most row
 countable_within row links most few is = record {
   octets = is.octets;

@@ -1,4 +1,4 @@
--- A plan whose streams are all listed is admitted where it fits.
+-- A plan whose streams are all listed is admitted if it fits.
 use Rattle.std.proofs.Common.{ℕ, ◌≡◌, ◌≤◌, ◌<◌, ◌+◌, ◌++◌, ◌∙◌, None}
 use Rattle.std.proofs.Common.{Result, Ok, List, [], ◌∷◌, length, ap, arith, refl, subst, sym}
 use Rattle.std.proofs.lemmas.List.{length_push}
@@ -24,7 +24,7 @@ record HaveRows (d : Domain) (entries : List Recorded) (rows : List Row) : Type 
   pub number : next_number d entries ≡ length rows
 
 module _ (goes_on : HistoryGoesOn) (counted : SealsAreCounted) (grants : GrantedIsHeld) (finds : GrantedFindsRoom) (sound : HeldAreSound) (d : Domain) where
-  -- with one more
+  -- with one more stream
   more_rows : (entries : List Recorded) (rows : List Row) (asked : Asked) → HaveRows d entries rows → refusal_of d rows asked ≡ None →
       HaveRows d (with_asked d entries asked) (rows ++ listed_row d rows asked ∷ [])
   more_rows entries rows asked now none =
@@ -54,7 +54,7 @@ module _ (goes_on : HistoryGoesOn) (counted : SealsAreCounted) (grants : Granted
         rest.2,
       )
 
-  -- rows behind others cost no less
+  -- listing more streams never lowers a cost
   grows : (streams : List Asked) (rows end : List Row) (l turn : ℕ) → listed_from d rows streams ≡ Ok end → link_cost rows l turn ≤ link_cost end l turn
   grows [] rows end l turn h = omega (arith, ap (λ rs. link_cost rs l turn) (same_ok rows end h))
   grows (asked ∷ more) rows end l turn h =

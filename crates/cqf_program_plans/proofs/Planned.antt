@@ -1,4 +1,4 @@
--- What a ledger is that admitted a plan's streams in turn, and their rows.
+-- The state of a ledger that admitted a plan's streams in turn, and the rows of the streams.
 use Rattle.std.proofs.Common.{◌≡◌, ◌∙◌, ◌<◌, ◌+◌, ◌++◌, ℕ, List, [], ◌∷◌, Result, Ok, ap, drop, get_or, length, map, subst, sym}
 use Rattle.std.proofs.lemmas.List.{drop_more, get_or-map}
 use Rattle.cqf_admission.specs.Admission.{HoldsOneMore}
@@ -14,13 +14,13 @@ use Rattle.cqf_admission.specs.Orders.{request_at}
 use Rattle.cqf_topology.specs.declared.paced.PacedRequest.{PacedRequest}
 use Rattle.cqf_program_plans.specs.Compile.Output.{AreAllHeld, ArePlanned, admitted_from}
 
--- the request at a place as it is asked for
+-- the request at an index, as it was requested
 pub asked_at : (requests : List PacedRequest) (place : ℕ) (request : PacedRequest) → place < length requests → request ≡ get_or requests place request →
     asked_paced request ≡ request_at (map asked_paced requests) place
 asked_at requests place request low is =
     sym (get_or-map asked_paced requests place request (record { name = []; octets = 0; every = 1; phase = 0; paths = [] }) low ∙ ap asked_paced (sym is))
 
--- one stream more is planned
+-- one more stream is planned
 planned_step : (d : Domain) (requests : List Asked) (old new : Kept) (rows after : List Row) (row : Row) (receipt : Receipt) (k : ℕ) → old.requests ≡ requests →
     ArePlanned d old.administration rows → new.administration.domain ≡ old.administration.domain →
     AreAllHeld new.administration.domain new.administration.entries → HoldsOneMore old.administration new.administration
@@ -50,7 +50,7 @@ planned_more d requests old learnt new rows after row receipt k same of planned 
     planned_step d requests old new rows after row receipt k of planned (domain ∙ ap (λ (x : Kept). x.administration.domain) same) held
     (subst (λ (x : Kept). HoldsOneMore x.administration new.administration (request_at x.requests k) (Ok receipt)) same one) good is
 
--- it is admitted behind those so far, and the rest behind it
+-- it is admitted after those so far, and the rest after it
 pub admitted_more : (d : Domain) (requests : List Asked) (old learnt : Kept) (after : List Recorded) (k : ℕ) (whole : Result (List Recorded) (List ℕ)) →
     learnt ≡ old → old.requests ≡ requests → old.administration.domain ≡ d → k < length requests →
     whole ≡ admitted_from d old.administration.entries (k + 1) (drop k requests) →
@@ -69,7 +69,7 @@ admitted_more d requests old learnt after k whole same of domain inside so_far s
     ∙ stepped
     ∙ (λ i. admitted_from (domain i) after (k + 1 + 1) rest)
 
--- what refuses it refuses the whole
+-- what refuses it refuses the whole plan
 pub refused_whole : (P : Result (List Recorded) (List ℕ) → Type 0) (d : Domain) (requests : List Asked) (old learnt : Kept) (k : ℕ)
     (whole : Result (List Recorded) (List ℕ)) → learnt ≡ old → old.requests ≡ requests → old.administration.domain ≡ d → k < length requests →
     whole ≡ admitted_from d old.administration.entries (k + 1) (drop k requests) →

@@ -30,7 +30,7 @@ AreTaken-offerable arrivals are = record {
   by_class = λ place later before inside same. are.in_order place later no_arrival before inside;
 }
 
--- what a port has started can be told
+-- what a port has started can be written
 pub AreTellable-started : (p : PortState) → IsPort p → AreTellable p.arrivals p.starts
 AreTellable-started p facts = record {
   inside = starts_inside p.rules p.arrivals p.reached p.starts facts.legal;
@@ -39,7 +39,7 @@ AreTellable-started p facts = record {
       omega (arith, facts.early, facts.legal.before_end x.0 x.1 (Contains-get_or p.starts k d inside));
 }
 
--- a port that hadn't run, once it has run to an instant
+-- a port that hadn't run, after it has run to an instant
 state_at : (rules : PortRules) (arrivals : List Arrival) (until : ℕ) (before after : PortState) →
     before ≡ record { rules = rules; reached = 0; arrivals = arrivals; starts = [] } →
     (before.reached < until → RunsUpTo until before after) → (until ≤ before.reached → after ≡ before) →

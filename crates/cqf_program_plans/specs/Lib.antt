@@ -1,4 +1,4 @@
--- a folder a command
+-- one folder per command
 pub mod Latency
 pub mod Load
 pub mod Compile

@@ -13,11 +13,11 @@ use Rattle.cqf_traffic.specs.TrafficText.{TrafficText, promise_of}
 use Rattle.cqf_press.specs.Stops.{fault_line, line_of, or_line}
 use Rattle.cqf_program_plans.specs.declared.reserving.Lack.{Lack}
 
--- why streams with traffic are refused
+-- the line for streams with traffic that are refused
 abbrev pub flows_line : FlowsFault → List ℕ
 flows_line fault = fault_line (codes "streams") (flows_fault_text fault)
 
--- what a stream at a place, from 1, lacks that reserves so many octets: its traffic needs more of a cycle
+-- the lack of a stream at this position, from 1, that reserves this number of octets, if its traffic needs more per cycle
 abbrev pub lack_at : ℕ → ℕ → ℕ → Option TrafficText → Option Lack
 lack_at cycle_time place octets None = None
 lack_at cycle_time place octets (Some t) =
@@ -25,12 +25,13 @@ lack_at cycle_time place octets (Some t) =
     then Some (record { place = place; octets = octets; needed = needed cycle_time (promise_of t) })
     else None
 
--- what the first of some streams lacks that does, where the first of them has this place; each is given by its octets and its traffic
+-- the lack of the first of these streams that reserves too little, where the first one has this position; each stream is given by its
+-- octets and its traffic
 abbrev pub first_lack : ℕ → ℕ → List (ℕ × Option TrafficText) → Option Lack
 first_lack cycle_time place [] = None
 first_lack cycle_time place (stream ∷ more) = option_or (lack_at cycle_time place stream.0 stream.1) (first_lack cycle_time (place + 1) more)
 
--- why it is refused
+-- the line for a stream that reserves too little
 abbrev pub lack_line : Lack → List ℕ
 lack_line lack =
     line_of (codes "cqf: stream " ++ (decimal lack.place ++ (codes ": BelowTraffic " ++ (decimal lack.octets ++ (codes " " ++ decimal lack.needed)))))
@@ -44,7 +45,7 @@ abbrev pub requests_in : Domain → List ℕ → Result (List PacedText) (List �
 requests_in d text = and_then (or_line flows_line (paced_flows_of_text text)) (λ flows.
     refuse (first_lack d.cycle_time 1 (map reserved_octets flows)) lack_line (Ok (map (λ (flow : PacedFlowText). flow.0) flows)))
 
--- and with their deadlines
+-- the same with their deadlines
 abbrev pub planned_octets : FlowText → ℕ × Option TrafficText
 planned_octets flow = (flow.0.0.octets, flow.1)
 

@@ -13,7 +13,8 @@ use cqf_traffic::{Flow, FlowsFault, PacedFlow, Traffic, read_flows, read_paced_f
 use cqf_units::{Memory, Nanos};
 use std::alloc::Global;
 
-/// What a stream lacks: its place among the streams, from 1, the octets that it reserves of a cycle, and how many its traffic needs.
+/// A stream that reserves too little: its position among the streams, from 1, the octets that it reserves per cycle, and the octets that
+/// its traffic needs.
 #[derive(Clone, Copy, Debug)]
 pub(crate) struct Lack {
     place: usize,
@@ -21,7 +22,8 @@ pub(crate) struct Lack {
     needed: u128,
 }
 
-/// The end where streams with traffic are refused: with status 1 and the line of the fault, or with status 3 for want of memory.
+/// Returns the end of a command whose streams with traffic are refused: status 1 with the line of the fault, or status 3 if an allocation
+/// fails.
 pub fn flows_stop(alloc: Global, fault: FlowsFault) -> Stop
     ensures refused { fault ≢ FlowsFault.Streams StreamsFault.Memory → EndsWith 1 (flows_line fault) result }
     ensures memory { fault ≡ FlowsFault.Streams StreamsFault.Memory → EndsWith 3 [] result }
@@ -32,7 +34,7 @@ pub fn flows_stop(alloc: Global, fault: FlowsFault) -> Stop
     }
 }
 
-/// What a stream at a place, from 1, lacks that reserves so many octets of a cycle.
+/// Returns the lack of a stream at position `place`, from 1, that reserves `octets` octets per cycle, or `None` if it reserves enough.
 fn lack_at(cycle_time: Nanos, place: usize, octets: u32, traffic: Option<Traffic>) -> Option<Lack>
     ensures { result ≡ lack_at cycle_time.0 place octets traffic }
 {
@@ -50,7 +52,7 @@ fn lack_at(cycle_time: Nanos, place: usize, octets: u32, traffic: Option<Traffic
     None
 }
 
-/// What the first of some streams lacks that does.
+/// Returns the lack of the first of these streams that reserves too little.
 fn first_lack(cycle_time: Nanos, flows: &[PacedFlow]) -> Option<Lack>
     ensures { result ≡ first_lack cycle_time.0 1 (map reserved_octets (map paced_flow_text flows.now)) }
 {
@@ -64,7 +66,7 @@ fn first_lack(cycle_time: Nanos, flows: &[PacedFlow]) -> Option<Lack>
     None
 }
 
-/// What the first of some streams with deadlines lacks that does.
+/// Returns the lack of the first of these streams with deadlines that reserves too little.
 fn first_planned_lack(cycle_time: Nanos, flows: &[Flow]) -> Option<Lack>
     ensures { result ≡ first_lack cycle_time.0 1 (map planned_octets (map flow_text flows.now)) }
 {
@@ -79,7 +81,7 @@ fn first_planned_lack(cycle_time: Nanos, flows: &[Flow]) -> Option<Lack>
     None
 }
 
-/// The line of a stream that lacks something.
+/// Returns the line for a stream that reserves too little.
 fn line_of_lack(alloc: Global, lack: Lack) -> Result<String, Memory>
     ensures { IfOk result (λ line. string_bytes line ≡ lack_line lack) }
 {
@@ -92,14 +94,14 @@ fn line_of_lack(alloc: Global, lack: Lack) -> Result<String, Memory>
     Ok(line)
 }
 
-/// The end where a stream lacks something.
+/// Returns the end of a command in which a stream reserves too little.
 fn lack_stop(alloc: Global, lack: Lack) -> Stop
     ensures { EndsWith 1 (lack_line lack) result }
 {
     Stop::with_text(alloc, REFUSED, line_of_lack(alloc, lack))
 }
 
-/// The requests of streams.
+/// Returns the requests of streams.
 fn requests_of(alloc: Global, flows: Vec<PacedFlow>) -> Result<Vec<PacedRequest>, Memory>
     ensures { IfOk result (λ requests. map paced_text requests.items ≡ map (λ flow. flow.0) (map paced_flow_text flows.items)) }
 {
@@ -110,7 +112,7 @@ fn requests_of(alloc: Global, flows: Vec<PacedFlow>) -> Result<Vec<PacedRequest>
     Ok(requests)
 }
 
-/// Streams with their deadlines alone.
+/// Returns streams with only their deadlines.
 fn planned_of(alloc: Global, flows: Vec<Flow>) -> Result<Vec<Planned>, Memory>
     ensures { IfOk result (λ streams. map planned_text streams.items ≡ map (λ flow. flow.0) (map flow_text flows.items)) }
 {
@@ -121,11 +123,11 @@ fn planned_of(alloc: Global, flows: Vec<Flow>) -> Result<Vec<Planned>, Memory>
     Ok(streams)
 }
 
-/// The streams of a part for a domain: each reserves what its traffic needs of a cycle, where it has traffic.
+/// Reads the streams of a part for a domain. Each stream that has traffic reserves what its traffic needs in a cycle.
 ///
 /// # Errors
-/// With status 1 and the line of the first fault of the part, of its traffic too; or else of the first stream that reserves less than its
-/// traffic needs; and with status 3 for want of memory.
+/// With status 1 and the line of the first fault of the part, including its traffic, or else of the first stream that reserves less than its
+/// traffic needs. With status 3 if an allocation fails.
 pub(crate) fn requests_in(
     alloc: Global,
     domain: &Domain,
@@ -147,7 +149,7 @@ pub(crate) fn requests_in(
     }
 }
 
-/// The streams of a part for a domain with their deadlines, likewise.
+/// Reads the streams of a part for a domain with their deadlines, likewise.
 pub(crate) fn planned_in(alloc: Global, domain: &Domain, text: &[u8]) -> Result<Vec<Planned>, Stop>
     ensures ok { IfOk result (λ streams. planned_in domain.now text.now ≡ Ok (map planned_text streams.items)) }
     ensures err { IfErr result (IsRefused (planned_in domain.now text.now)) }

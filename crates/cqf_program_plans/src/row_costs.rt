@@ -1,4 +1,4 @@
-//! What a row's stream costs, in sums by link and cycle.
+//! The cost of a row's stream, in sums by link and cycle.
 ghost use Rattle.cqf_admission.specs.Rows.{IsCountable};
 ghost use Rattle.cqf_admission.specs.Turns.{AreMoreIn, HasRoomFor, IsOfGoodPace};
 ghost use Rattle.cqf_units.specs.Timing.{cost_of};
@@ -7,7 +7,7 @@ use cqf_admission::CycleSums;
 use cqf_model::Row;
 use cqf_units::{Octets, cost};
 
-/// Adds what a row's stream costs to the sums of its links in the cycles in which its frames go by them.
+/// Adds the cost of a row's stream to the sums of its links, in the cycles in which its frames use them.
 pub fn add_cost(sums: &mut CycleSums, row: &Row)
     requires countable { IsCountable sums.old.links row.now }
     requires good { IsOfGoodPace row.now }

@@ -11,7 +11,7 @@ use Rattle.cqf_program_scenario.specs.Calls.{history_of}
 use Rattle.cqf_program_scenario.specs.Closing.{MayBeRun}
 use Rattle.cqf_program_scenario.specs.Scenario.{Scenario}
 
--- a book that is there is the scenario's
+-- a book that exists is the scenario's book
 pub IsBookOfScenario-there : (cycles : ℕ) (s : Scenario) (d : Domain) (entries : List Recorded) (offers : List Offer) (background : List Background)
     (book : Contents) → d ≡ s.domain → entries ≡ history_of cycles s → offers ≡ s.offers → background ≡ s.background →
     IsThere d entries offers background cycles book → IsBookOfScenario cycles s book
@@ -27,7 +27,7 @@ IsBookOfScenario-there cycles s d entries offers background book domain history 
       promise = at.keeps;
     }
 
--- and there is one
+-- and such a book exists
 pub scenario_has_book : BookOfHistoryIsThere → (cycles : ℕ) (s : Scenario) → IsAccepted s.domain → MayBeRun cycles s →
     IsLegalHistory s.domain (history_of cycles s) → cycles ≤ seals (history_of cycles s) → (book : Contents) × IsBookOfScenario cycles s book
 scenario_has_book is_there cycles s accepted may legal closed =

@@ -1,4 +1,4 @@
--- What the parts of a scenario's book are made of.
+-- The parts of a scenario's book.
 use Rattle.std.proofs.Common.{◌≡◌, ◌∙◌, ℕ, [], List, ap, arith, length, subst, sym}
 use Rattle.cqf_lists.proofs.EachBelow.{length-singles}
 use Rattle.cqf_model.specs.declared.frames.Background.{Background}
@@ -26,7 +26,7 @@ use Rattle.cqf_instants_run.specs.HistoryStarts.{IsLaidOutHistoryOf}
 use Rattle.cqf_instants_run.specs.Passes.{IsPassOf}
 use Rattle.cqf_laws_shift.specs.Run.{IsLegalRun}
 
--- a history by the streams of which the offers are judged
+-- a history by whose streams the offers are judged
 pub IsHistoryOf-judged : (d : Domain) (cycles : ℕ) (rows : List Row) (offers : List Offer) (covered edge_verdicts : List EdgeVerdict) (entries : List Recorded) →
     IsLegalHistory d entries → seals entries ≡ cycles → streams_of d entries ≡ rows →
     ((es : List Recorded) → IsLegalHistory d es → streams_of d es ≡ rows → AreJudged d es rows offers (length offers) covered) →
@@ -38,7 +38,7 @@ IsHistoryOf-judged d cycles rows offers covered edge_verdicts entries legal clos
   judged = subst (λ (js : List EdgeVerdict). AreJudged d entries rows offers (length offers) js) (sym same) (judges entries legal streams);
 }
 
--- and by the same lists, named otherwise
+-- the same with equal lists
 pub IsHistoryOf-as : (d : Domain) (cycles : ℕ) (rows rows-as : List Row) (offers offers-as : List Offer) (edge_verdicts edge_verdicts-as : List EdgeVerdict)
     (entries : List Recorded) → rows-as ≡ rows → offers-as ≡ offers → edge_verdicts-as ≡ edge_verdicts → IsLaidOutHistoryOf d cycles rows offers edge_verdicts entries →
     IsLaidOutHistoryOf d cycles rows-as offers-as edge_verdicts-as entries
@@ -47,13 +47,13 @@ IsHistoryOf-as d cycles rows rows-as offers offers-as edge_verdicts edge_verdict
     (subst (λ (os : List Offer). IsLaidOutHistoryOf d cycles rows-as os edge_verdicts entries) (sym two)
     (subst (λ (rs : List Row). IsLaidOutHistoryOf d cycles rs offers edge_verdicts entries) (sym one) is))
 
--- where there are no background frames, none starts
+-- if there are no background frames, none starts
 pub none_backed : (d : Domain) (entries : List Recorded) (offers : List Offer) (background : List Background) (cycles : ℕ) → background ≡ [] →
     AreBackgroundOfHistory d entries offers background cycles []
 none_backed d entries offers background cycles quiet net legal =
     sym (no_background (run_of_history d entries offers background cycles) quiet net legal cycles)
 
--- the legal run in which a scenario's book is
+-- the legal run of a scenario's book
 run_of_book : TablesAreOrderly → (cycles : ℕ) (s : Scenario) (book : Contents) → IsAccepted s.domain → MayBeRun cycles s →
     IsLegalHistory s.domain (history_of cycles s) → (is : IsBookOfScenario cycles s book) →
     IsLegalRun (run_of_history s.domain (history_of cycles s) s.offers s.background cycles) is.is_book.is_book.net
@@ -69,7 +69,7 @@ run_of_book are_orderly cycles s book accepted may legal is = record {
 as_many : (cycles : ℕ) (s : Scenario) → cycles ≡ length (tables_of s.domain (history_of cycles s) cycles)
 as_many cycles s = sym (length-singles (table_at s.domain (history_of cycles s)) cycles)
 
--- a pass of a scenario's history tells the starts of its book
+-- a pass of a scenario's history yields the starts of its book
 pub starts_are_told : TablesAreOrderly → BookOfHistoryIsThere → (cycles : ℕ) (s : Scenario) (rows : List Row) (edge_verdicts : List EdgeVerdict)
     (pass : Progress) → IsAccepted s.domain → MayBeRun cycles s → IsLaidOutHistoryOf s.domain cycles rows s.offers edge_verdicts (history_of cycles s) →
     IsPassOf s.domain cycles rows s.offers edge_verdicts pass → TellsStarts pass (IsBookOfScenario cycles s)
@@ -87,7 +87,7 @@ starts_are_told are_orderly is_there cycles s rows edge_verdicts pass accepted m
       is,
     )
 
--- with the starts of background frames, and the drops, it is told
+-- with the starts of background frames, and the drops, the book can be written
 pub parts_are_told : TablesAreOrderly → (cycles : ℕ) (s : Scenario) (parts : ExactParts) → IsAccepted s.domain → MayBeRun cycles s →
     IsLegalHistory s.domain (history_of cycles s) → TellsStarts parts.pass (IsBookOfScenario cycles s) →
     AreBackgroundOfHistory s.domain (history_of cycles s) s.offers s.background cycles parts.background →

@@ -1,4 +1,4 @@
--- Each start of a book is whole in time to be told.
+-- Each start of a book is early enough to be written.
 use Rattle.std.proofs.Common.{◌≡◌, ◌∙◌, ℕ, ◌*◌, ◌/◌, ◌<◌, ◌≤◌, ◌^◌, List, All, Contains, ap, arith, length, mul-le-mul_right, refl, subst}
 use Rattle.cqf_units.proofs.Cycles.{cycle_upto}
 use Rattle.cqf_lists.proofs.Members.{all_from_members}
@@ -11,7 +11,7 @@ use Rattle.cqf_model.specs.Traffic.{whole_at}
 use Rattle.cqf_laws_shift.proofs.Octets.{of_batch}
 use Rattle.cqf_laws_timing.specs.Latency.{whole_of}
 
--- an instant of one of so many cycles is early
+-- an instant in one of the first 100,000 cycles is early
 early : (n t c : ℕ) → 0 < n → n ≤ 10000000 → c < 100000 → t / n ≡ c → t < 1000000000000
 early n t c some short in_run is =
     let upto = cycle_upto n t some in
@@ -19,7 +19,7 @@ early n t c some short in_run is =
     let most : c * n ≤ 99999 * n = mul-le-mul_right n (omega (arith, in_run)) in
     omega (arith, upto, same, most, short)
 
--- the bound of what an instant can be told by
+-- the bound of the instants that can be written
 abbrev pub InTime : Run → Started → Type 0
 InTime run s = whole_of run.domain s < 2 ^ 64
 

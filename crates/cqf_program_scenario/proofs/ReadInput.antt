@@ -1,4 +1,4 @@
--- What was read is what the input has.
+-- What was read is the content of the input.
 use Rattle.std.proofs.Common.{◌≡◌, ◌∙◌, ℕ, List, Result, Ok, map, ap}
 use Rattle.cqf_lists.specs.Results.{and_then}
 use Rattle.cqf_model.specs.declared.limits.Limits.{Limits}
@@ -22,7 +22,7 @@ calls_in-is cycles texts requests streams =
     ap (λ found. and_then (or_line streams_line found) (λ asked. or_line script_line (script_of (map asked_by asked) cycles texts.script))) streams
     ∙ ap (λ asked. or_line script_line (script_of asked cycles texts.script)) (asked_texts requests)
 
--- and so is the scenario, by the domain and the streams that were read
+-- and so is the scenario, with the domain and the streams that were read
 pub scenario_of-is : (limits : Limits) (cycles : ℕ) (texts : RunTexts) (d : Domain) (requests : List PacedRequest) →
     domain_within limits texts.domain ≡ Ok d →
     paced_of_text texts.streams ≡ Ok (map paced_text requests) →

@@ -1,4 +1,4 @@
--- The room that a history has for calls, with each that is made.
+-- The room that a history has for calls, after each call that is made.
 use Rattle.std.proofs.Common.{◌≡◌, ◌+◌, ◌≤◌, ◌∷◌, [], ℕ, List, arith, length-append}
 use Rattle.std.specs.Prelude.{if◌then◌else◌, not}
 use Rattle.std.proofs.lemmas.List.Sums.{count_by-le-length, sum_by-cons}
@@ -12,11 +12,11 @@ use Rattle.cqf_program_scenario.specs.Calls.{HasRoom, HasRoomFor}
 pub seals-cons : (call : Called) (more : List Called) → seals_among (call ∷ more) ≡ (if is_seal call.1 then 1 else 0) + seals_among more
 seals-cons call more = sum_by-cons (λ (c : Called). if is_seal c.1 then 1 else 0) call more
 
--- one call more counts where it is no Seal
+-- one more call counts if it is no Seal
 pub others-cons : (call : Called) (more : List Called) → others_among (call ∷ more) ≡ (if not (is_seal call.1) then 1 else 0) + others_among more
 others-cons call more = sum_by-cons (λ (c : Called). if not (is_seal c.1) then 1 else 0) call more
 
--- where there is room for calls there is room for the first of them
+-- if there is room for calls, there is room for the first one
 pub HasRoom-first : (cycles : ℕ) (entries : List Recorded) (seat : ℕ) (act : Act) (more : List Called) → cycles ≤ 100000 →
     HasRoom cycles entries ((seat, act) ∷ more) → HasRoomFor entries act
 HasRoom-first cycles entries seat (Admits asked) more short h = record {
@@ -32,7 +32,7 @@ HasRoom-first cycles entries seat Seals more short h = record {
   for_other = λ is. cc;
 }
 
--- and when it is made, for the rest of them
+-- and after it is made, for the rest
 pub HasRoom-rest : SealsAreCounted → (cycles : ℕ) (entries : List Recorded) (seat : ℕ) (act : Act) (reply : Reply) (more : List Called) →
     HasRoom cycles entries ((seat, act) ∷ more) → HasRoom cycles (with_entry entries seat act reply) more
 HasRoom-rest counted cycles entries seat (Admits asked) reply more h =

@@ -1,4 +1,4 @@
--- What a scenario has that was read.
+-- A scenario that was read.
 use Rattle.std.specs.Prelude.{ℕ, ◌≤◌, [], length, map}
 use Rattle.cqf_model.specs.Run.{AreBackground, AreOffers}
 use Rattle.cqf_laws_coverage.specs.Judged.{StandInOrder}
@@ -9,7 +9,7 @@ use Rattle.cqf_program_scenario.specs.Calls.{HasRoom}
 use Rattle.cqf_program_scenario.specs.Scenario.{Scenario}
 use Rattle.cqf_model.specs.Limits.{most_rows}
 
--- a scenario that was read
+-- the scenario of what was read
 abbrev pub scenario_given : RunInput → Scenario
 scenario_given given = record {
   domain = given.domain;
@@ -19,8 +19,8 @@ scenario_given given = record {
   background = given.background.items;
 }
 
--- it may be run over so many cycles: there is room for its calls, its frames are frames of its domain, and its offers stand in order
--- of instant
+-- the scenario may be run over this number of cycles: there is room for its calls, its frames are frames of its domain, and its offers are
+-- in order of instant
 pub record MayBeRun (cycles : ℕ) (s : Scenario) : Type 0 where
   pub room : HasRoom cycles [] s.calls
   pub offers : AreOffers s.domain s.offers

@@ -1,4 +1,4 @@
--- The lines that tell why a part of an input is refused: `cqf:`, the part, and the fault by its text.
+-- The lines for a part of an input that is refused: `cqf:`, the part, and the fault by its text.
 use Rattle.std.specs.Prelude.{ℕ, List, codes}
 use Rattle.cqf_report.specs.Faults.{table_fault_text}
 use Rattle.cqf_report.specs.declared.tables.TableFault.{TableFault}

@@ -24,7 +24,7 @@ pub record IsOpened (cycles : ℕ) (s : Scenario) (made : Opened) : Type 0 where
   pub offers : made.offers.items ≡ s.offers
   pub background : made.background.items ≡ s.background
 
--- that of the scenario of an input
+-- the same for the scenario of an input
 pub record IsOpenedInput (limits : Limits) (cycles : ℕ) (input : List ℕ) (made : Opened) : Type 0 where
   pub scenario : Scenario
   pub holds : scenario_input limits cycles input ≡ Ok scenario

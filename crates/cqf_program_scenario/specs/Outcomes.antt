@@ -1,4 +1,4 @@
--- What comes of a scenario's calls and offers.
+-- The outcome of a scenario's calls and offers.
 use Rattle.std.specs.Prelude.{ℕ, ◌≡◌, map}
 use Rattle.cqf_model.specs.History.{IsLegalHistory, seals}
 use Rattle.cqf_admission.specs.Asking.{asked_paced}
@@ -10,8 +10,8 @@ use Rattle.cqf_program_scenario.specs.Calls.{history_of}
 use Rattle.cqf_program_scenario.specs.Closing.{scenario_given}
 use Rattle.cqf_program_scenario.specs.Logged.{entries_in}
 
--- the log of its legal history over so many cycles, which are all closed, and the streams that this granted, with what becomes of the offers
--- by them
+-- the log of the scenario's legal history over this number of cycles, which are all closed, and the streams that the history granted, with
+-- the verdict on each offer by these streams
 pub record IsOutcomeOf (cycles : ℕ) (given : RunInput) (outcome : ScenarioOutcome) : Type 0 where
   pub entries : entries_in given outcome.entries.items ≡ history_of cycles (scenario_given given)
   pub legal : IsLegalHistory given.domain (entries_in given outcome.entries.items)

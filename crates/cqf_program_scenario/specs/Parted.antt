@@ -1,4 +1,4 @@
--- Commands that were read, as the definitions have them.
+-- Commands that were read, in the form of the definitions.
 use Rattle.std.specs.Prelude.{List, map}
 use Rattle.std.specs.Global.{Global}
 use Rattle.std.specs.declared.vec.Vec.{Vec}
@@ -6,7 +6,7 @@ use Rattle.cqf_model.specs.History.{Act}
 use Rattle.cqf_admission.specs.declared.entries.Command.{Command}
 use Rattle.cqf_admission.specs.Commands.{act_of_command}
 
--- the commands of one administrator, and of each
+-- the acts of one administrator's commands, and of each administrator's
 abbrev pub acts_parted : Vec Command Global → List Act
 acts_parted commands = map act_of_command commands.items
 

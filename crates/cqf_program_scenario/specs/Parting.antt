@@ -1,5 +1,5 @@
--- A scenario's calls where its cycles are closed while it runs: those before its first Seal, and behind it what each
--- administrator calls for.
+-- The calls of a scenario whose cycles are closed while it runs: those before its first Seal, and each administrator's commands from then
+-- on.
 use Rattle.std.specs.Prelude.{ℕ, ◌≡◌, ◌==◌, ◌<◌, ◌++◌, ◌&&◌, Bool, List, [], ◌∷◌, drop, filter, length, map, not, slice_index_or}
 use Rattle.std.specs.List.{before_first, position_or_len}
 use Rattle.cqf_model.specs.History.{Act, is_seal}
@@ -9,32 +9,32 @@ use Rattle.cqf_admission.specs.Script.{Called}
 abbrev pub closes : Called → Bool
 closes call = is_seal call.1
 
--- the calls before the first Seal: all, where there is none
+-- the calls before the first Seal; all calls if there is none
 abbrev pub opening_calls : List Called → List Called
 opening_calls found = before_first closes found
 
--- whether a call is one of an administrator's, and no Seal
+-- whether a call is one of this administrator's and no Seal
 abbrev pub is_command_of : ℕ → Called → Bool
 is_command_of admin call = (call.0 == admin) && not (closes call)
 
--- what an administrator calls for among some calls, in order
+-- an administrator's commands among these calls, in order
 abbrev pub commands_by : List Called → ℕ → List Act
 commands_by found admin = map (λ (call : Called). call.1) (filter (is_command_of admin) found)
 
--- lists of commands, one for each of so many administrators by number: what they call for among some calls
+-- for each of admins administrators, by number, a list of the administrator's commands among these calls
 pub record AreCommandsBy (found : List Called) (admins : ℕ) (lists : List (List Act)) : Type 0 where
   pub one_each : length lists ≡ admins
   pub each : (admin : ℕ) (none : List Act) → admin < admins → slice_index_or lists admin none ≡ commands_by found admin
 
--- the calls from the first Seal on: none, where there is no Seal
+-- the calls from the first Seal on; none if there is no Seal
 abbrev pub calls_from_seal : List Called → List Called
 calls_from_seal found = drop (position_or_len closes found) found
 
--- what each of so many administrators calls for behind the first Seal
+-- for each of admins administrators, the administrator's commands from the first Seal on
 abbrev pub AreCommandsBehind : List Called → ℕ → List (List Act) → Type 0
 AreCommandsBehind found admins lists = AreCommandsBy (calls_from_seal found) admins lists
 
--- the lists with one command more behind those of an administrator, where it is one of these
+-- the lists with one more command at the end of an administrator's list, if there is a list for this administrator
 pub record AddsCommand (before after : List (List Act)) (admin : ℕ) (act : Act) : Type 0 where
   pub as_many : length after ≡ length before
   pub own : (none : List Act) → admin < length before → slice_index_or after admin none ≡ slice_index_or before admin none ++ act ∷ []

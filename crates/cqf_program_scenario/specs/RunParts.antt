@@ -1,4 +1,4 @@
--- The parts of a run that were found, as their texts.
+-- The texts of the parts of a run that were found.
 use Rattle.std.specs.Prelude.{option_map}
 use Rattle.cqf_program_scenario.specs.declared.parts.RunParts.{RunParts}
 use Rattle.cqf_program_scenario.specs.Parts.{RunTexts}

@@ -1,4 +1,4 @@
--- What `run` and `report` are given: a domain, what its administrators call for, and the frames that come.
+-- The input of `run` and `report`: a domain, what its administrators request, and the frames that arrive.
 use Rattle.cqf_model.specs.declared.limits.Limits.{Limits}
 use Rattle.std.specs.Prelude.{ℕ, List, [], Option, Some, None, Result, Ok, map}
 use Rattle.cqf_lists.specs.Results.{and_then}
@@ -26,22 +26,22 @@ pub record Scenario : Type 0 where
   pub offers : List Offer
   pub background : List Background
 
--- the calls of a script, by the streams of the part before it; or the line of the first fault of the two
+-- the calls of a script, with the streams of the part before it; or the line of the first fault in the two parts
 abbrev pub calls_in : ℕ → RunTexts → Result (List Called) (List ℕ)
 calls_in cycles texts = and_then (or_line streams_line (paced_of_text texts.streams)) (λ streams.
     or_line script_line (script_of (map asked_by streams) cycles texts.script))
 
--- the background frames, of which there are none where there is no part of them
+-- the background frames; none if there is no part with them
 abbrev pub background_of_part : Domain → Option (List ℕ) → Result (List Background) (List ℕ)
 background_of_part d None = Ok []
 background_of_part d (Some text) = or_line background_line (background_frames_of d text)
 
--- the offers and the background frames, or the line of the first fault of the two
+-- the offers and the background frames, or the line of the first fault in the two parts
 abbrev pub frames_of_part : Domain → RunTexts → Result (List Offer × List Background) (List ℕ)
 frames_of_part d texts = and_then (or_line offers_line (offers_of d texts.offers)) (λ offers.
     and_then (background_of_part d texts.background) (λ background. Ok (offers, background)))
 
--- the scenario of some parts over so many cycles, whose domain and streams are these; or the line of the first fault of its script,
+-- the scenario of these parts over this number of cycles, with this domain and these streams; or the line of the first fault of its script,
 -- its offers and its background frames
 abbrev pub scenario_behind : ℕ → Domain → List Asked → RunTexts → Result Scenario (List ℕ)
 scenario_behind cycles d streams texts =
@@ -49,8 +49,8 @@ scenario_behind cycles d streams texts =
     and_then (frames_of_part d texts) (λ frames.
     Ok (record { domain = d; calls = calls; sealer = administrators (lines_of texts.script); offers = frames.0; background = frames.1 })))
 
--- the scenario of some parts over so many cycles, or the line of their first fault: of the domain, then of the streams, the
--- script, the offers and the background frames
+-- the scenario of these parts over this number of cycles, or the line of their first fault: of the domain, then of the streams, the script,
+-- the offers and the background frames
 abbrev pub scenario_of : Limits → ℕ → RunTexts → Result Scenario (List ℕ)
 scenario_of limits cycles texts = and_then (or_line domain_line (domain_within limits texts.domain)) (λ d.
     and_then (calls_in cycles texts) (λ calls.

@@ -1,4 +1,4 @@
-//! The orders of a scenario, carried out in turn by a ledger.
+//! The orders of a scenario, which a ledger carries out in turn.
 ghost use Rattle.std.specs.Prelude.{◌≡◌, ◌-◌, ◌≤◌, ◌<◌, [], All, Err, IfOk, map};
 ghost use Rattle.cqf_admission.specs.Asking.{asked_paced};
 ghost use Rattle.cqf_admission.specs.Running.{AreThere};
@@ -71,7 +71,7 @@ fn carry_out_all(ledger: &mut Ledger<'_>, orders: &[Ordered], cycles: u32) -> Re
     Ok(())
 }
 
-/// Closes the cycles that are still open, up to so many.
+/// Closes the cycles that are still open, up to `cycles` cycles in all.
 fn close_all(ledger: &mut Ledger<'_>, seat: u16, cycles: u32) -> Result<(), Memory>
     requires short { cycles ≤ most_cycles }
     requires few { seals ledger.old.administration.entries ≤ cycles }
@@ -90,7 +90,7 @@ fn close_all(ledger: &mut Ledger<'_>, seat: u16, cycles: u32) -> Result<(), Memo
     Ok(())
 }
 
-/// The log of a scenario's history over so many cycles, and the streams that it ever granted, by number.
+/// Returns the log of a scenario's history over `cycles` cycles, and the streams that it ever granted, by number.
 pub(crate) fn log_of(
     alloc: Global,
     cycles: u32,

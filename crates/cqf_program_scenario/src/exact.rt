@@ -1,4 +1,4 @@
-//! The book of a scenario by exact instants, with no port and no gate but for links that have background frames.
+//! The book of a scenario by exact instants. Only links with background frames have their ports and gates simulated.
 ghost use Rattle.std.specs.Prelude.{◌≡◌, ◌≤◌, IfOk, List, length};
 ghost use Rattle.cqf_model.specs.History.{Recorded};
 ghost use Rattle.cqf_model.specs.Run.{AreBackground, AreOffers};
@@ -22,8 +22,8 @@ use cqf_model::{Row, Started};
 use cqf_units::Memory;
 use std::alloc::Global;
 
-/// The starts of background frames in the run of a history with these rows, by whose streams the offers are judged so. Where there are no
-/// background frames, no list of the streams' starts is made.
+/// Returns the starts of background frames in the run of a history with these rows, whose streams give these verdicts on the offers. If
+/// there are no background frames, it makes no list of the streams' starts.
 fn backed_of(
     alloc: Global,
     cycles: u32,
@@ -52,11 +52,11 @@ fn backed_of(
     background_of_history(alloc, domain, cycles, starting, background)
 }
 
-/// A pass over so many cycles of the run of a scenario of which this is the outcome: it tells the starts of the streams' frames in the
-/// scenario's book. It has all the memory that it will need, and the time grows with the hops of the rows and with the offers.
+/// Returns a pass over `cycles` cycles of the run of a scenario with this outcome. The pass yields the starts of the streams' frames in the
+/// scenario's book. It already has all the memory that it needs. The time grows with the hops of the rows and with the offers.
 ///
 /// # Errors
-/// Where a growth is refused.
+/// If an allocation fails.
 pub fn pass_of_outcome(
     alloc: Global,
     cycles: u32,
@@ -78,10 +78,11 @@ pub fn pass_of_outcome(
     pass_of_history(alloc, domain, cycles, rows, offers, edge_verdicts)
 }
 
-/// The book of a scenario over so many cycles, ready to be told, where this is the scenario's outcome: that of its history on one thread.
+/// Returns the book of a scenario over `cycles` cycles, ready to be written, if this is the scenario's outcome. It is the single-threaded
+/// book of the scenario's history.
 ///
 /// # Errors
-/// Where a growth is refused.
+/// If an allocation fails.
 pub fn book_of_outcome(
     alloc: Global,
     cycles: u32,

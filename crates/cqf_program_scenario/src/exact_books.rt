@@ -1,4 +1,4 @@
-//! The book of a run, told cycle by cycle.
+//! The book of a run, written cycle by cycle.
 ghost use Rattle.std.specs.Prelude.{◌≡◌, IfOk, List, codes};
 ghost use Rattle.cqf_model.specs.declared.frames.Started.{Started as AStarted};
 ghost use Rattle.cqf_model.specs.Book.{Contents, contents_of};
@@ -16,10 +16,10 @@ use cqf_units::Memory;
 use std::alloc::Global;
 use std::marker::Model;
 
-/// A book whose starts are found while it is told, so that no list of them is kept.
+/// A book whose starts are found while it is written, so that no list of them is kept.
 #[derive(Debug, Drop)]
 pub struct ExactBook {
-    /// Before its first cycle.
+    /// The pass, before its first cycle.
     pass: Pass,
     background: Vec<Started>,
     drops: Vec<Dropped>,
@@ -37,8 +37,8 @@ impl Model for ExactBook {
 }
 
 impl ExactBook {
-    /// The book with the starts of streams' frames that the pass tells, which is before its first cycle, with these starts of background
-    /// frames, and with these drops. It takes no memory.
+    /// Returns the book with the starts that the pass yields, with these starts of background frames and these drops. The pass is before
+    /// its first cycle. It allocates no memory.
     pub fn new(pass: Pass, background: Vec<Started>, drops: Vec<Dropped>) -> ExactBook
         requires { pass.told ≡ 0 }
         ensures { result ≡ record { pass = pass; background = background.items; drops = drops.items } }
@@ -50,8 +50,8 @@ impl ExactBook {
         }
     }
 
-    /// Puts the text of the book, one of the domain, as `cqf_report::write_book` gives it: its header, the starts, those of background
-    /// frames, and the drops. It asks for no memory. The time grows with the lines.
+    /// Puts the text of the book of this domain, as `cqf_report::write_book` gives it: the header, the starts of streams' frames, those of
+    /// background frames, and the drops. It allocates no memory. The time grows with the number of lines.
     pub fn put<W: Sink>(self, press: &mut Press<'_, W>, domain: &Domain)
         ensures { (book : Contents) → AreExactParts self book →
             Puts W.contents press.old press.new (text_of_book domain.now book) }
@@ -69,10 +69,10 @@ impl ExactBook {
         put_drops(press, domain, drops);
     }
 
-    /// The book with all its starts in a list.
+    /// Returns the book with all its starts in a list.
     ///
     /// # Errors
-    /// Where a growth is refused.
+    /// If an allocation fails.
     pub fn gather(self, alloc: Global) -> Result<Book, Memory>
         ensures { IfOk result (λ gathered. (book : Contents) → AreExactParts self book → contents_of gathered ≡ book) }
     {
@@ -90,7 +90,7 @@ impl ExactBook {
     }
 }
 
-/// Puts a line for each start that a pass tells, cycle by cycle.
+/// Puts a line for each start that a pass yields, cycle by cycle.
 fn put_starts_of_pass<W: Sink>(press: &mut Press<'_, W>, domain: &Domain, pass: Pass)
     requires { pass.told ≡ 0 }
     ensures { (starts : List AStarted) → AreStartsOf pass.basis starts →

@@ -26,7 +26,7 @@ use cqf_topology::{Domain, PacedRequest};
 use cqf_units::Memory;
 use std::alloc::Global;
 
-/// What a run is given.
+/// The input of a run.
 #[derive(Debug, Drop)]
 pub struct RunInput {
     pub domain: Domain,
@@ -34,7 +34,7 @@ pub struct RunInput {
     pub requests: Vec<PacedRequest>,
     /// The script's text.
     pub script: Vec<u8>,
-    /// What its lines order, each by where what it names stands among the requests or in the text.
+    /// The orders of its lines. Each refers to what it names by the index of a request or by a position in the script's text.
     pub orders: Vec<Ordered>,
     /// The seat of the Seals that follow the calls.
     pub sealer: u16,
@@ -42,7 +42,7 @@ pub struct RunInput {
     pub background: Vec<Background>,
 }
 
-/// The orders of a script, by the streams that may be admitted.
+/// Reads the orders of a script, which names streams that may be admitted.
 fn read_orders(
     alloc: Global,
     requests: &[PacedRequest],
@@ -61,7 +61,7 @@ fn read_orders(
     script_part(alloc, &names, cycles, text)
 }
 
-/// A copy of a text.
+/// Returns a copy of a text.
 fn copy_of(alloc: Global, text: &[u8]) -> Result<Vec<u8>, Memory>
     ensures { IfOk result (λ copy. copy.items ≡ text.now) }
 {
@@ -70,7 +70,7 @@ fn copy_of(alloc: Global, text: &[u8]) -> Result<Vec<u8>, Memory>
     Ok(copy)
 }
 
-/// The background frames, where there is a part of them.
+/// Reads the background frames, if there is a part with them.
 fn read_background_of(
     alloc: Global,
     domain: &Domain,
@@ -87,7 +87,7 @@ fn read_background_of(
     }
 }
 
-/// The offers and the background frames.
+/// Reads the offers and the background frames.
 fn read_frames(
     alloc: Global,
     domain: &Domain,
@@ -107,11 +107,10 @@ fn read_frames(
     Ok((offers, background))
 }
 
-/// What a run is given in some parts, whose domain and streams were read.
+/// Reads the rest of a run's input, after its domain and its streams were read.
 ///
 /// # Errors
-/// With status 1 and the line of the first fault: of the script, the offers, or the background frames; and with status 3 for
-/// want of memory.
+/// With status 1 and the line of the first fault: of the script, the offers, or the background frames. With status 3 if an allocation fails.
 pub fn read_behind(
     alloc: Global,
     cycles: u32,
@@ -141,7 +140,7 @@ pub fn read_behind(
     })
 }
 
-/// The scenario of some parts that are read within some limits.
+/// Reads the scenario of these parts within some limits.
 fn read_parts(
     alloc: Global,
     limits: Limits,
@@ -158,8 +157,8 @@ fn read_parts(
     read_behind(alloc, cycles, domain, requests, parts)
 }
 
-/// The scenario of the input over so many cycles, read within some limits, or the end with the line of its first fault. `Err` with status 1,
-/// and with status 3 for want of memory.
+/// Reads the scenario of the input for `cycles` cycles within some limits. On failure returns the end of the command: with status 1 and the
+/// line of the first fault, or with status 3 if an allocation fails.
 pub fn read_given(
     alloc: Global,
     limits: Limits,

@@ -1,24 +1,24 @@
-//! Scenarios: what `run` and the commands like it are given, what comes of it on one thread, and how that is told.
+//! Scenarios: the input of `run` and similar commands, its outcome on one thread, and how the outcome is written.
 //!
-//! A scenario is a domain, the calls of a script, offers and background frames. Its calls are applied in order, and the cycles that are still
-//! open then are closed. The network runs over the tables of that history: its book is told by the exact instants at which frames start, with no
-//! port and no gate, but for the ports of links that have background frames.
+//! A scenario is a domain, the calls of a script, offers and background frames. Its calls are applied in order, and then the cycles that are
+//! still open are closed. The network runs over the tables of that history. Its book gives the exact instants at which frames start; no port or
+//! gate is simulated, except the ports of links that have background frames.
 //!
-//! - **The parts of an input**, each with the end of the run where it is refused, status 1 and the line of its first fault. [`one_part`],
-//!   [`two_parts`] and [`run_parts`] divide an input, the last into [`RunParts`]. [`domain_part`], [`streams_part`], [`planned_part`],
+//! - **The parts of an input**. A reader that refuses a part returns the end of the run: status 1 and the line of the first fault. [`one_part`],
+//!   [`two_parts`] and [`run_parts`] divide an input, the last one into [`RunParts`]. [`domain_part`], [`streams_part`], [`planned_part`],
 //!   [`script_part`], [`offers_part`] and `background_part` read a part.
 //! - **Scenarios.** [`read_given`] reads the scenario of an input, a [`RunInput`], and [`read_behind`] the rest of one whose domain and streams
-//!   were read otherwise. [`outcome_of`] gives what comes of its calls and offers, a [`ScenarioOutcome`], with no run of the network: the log of
-//!   its history, the streams that this granted, and what becomes of each offer by them. [`pass_of_outcome`] runs the network by that.
-//!   [`read_opened`] reads a scenario whose cycles are closed while it runs: what its bridges and administrators begin with ([`Opened`]).
-//! - **The book.** [`book_of_outcome`] makes it ready to be told, as an [`ExactBook`]: that is told while its starts are found, of a pass that tells them cycle by cycle, and of the background frames'
-//!   starts and the drops, which are at hand. No list of all starts is kept. It's put on a press, or gathered.
-//! - **Telling.** [`put_starts_of_port`] puts the text of a port's starts on a press, line by line, as `cqf_report` has it, with no memory asked
-//!   for.
+//!   were read otherwise. [`outcome_of`] returns the outcome of its calls and offers, a [`ScenarioOutcome`], without running the network: the log
+//!   of its history, the streams that the history granted, and the verdict on each offer by these streams. [`pass_of_outcome`] runs the network
+//!   from that. [`read_opened`] reads a scenario whose cycles are closed while it runs: what its bridges and administrators begin with ([`Opened`]).
+//! - **The book.** [`book_of_outcome`] makes it ready to be written, as an [`ExactBook`]. That is made of a pass, which yields the starts cycle by
+//!   cycle while the book is written, and of the background frames' starts and the drops, which are at hand. No list of all starts is kept. The
+//!   book is put on a press, or gathered into a list.
+//! - **Writing.** [`put_starts_of_port`] puts the text of a port's starts on a press, line by line, as `cqf_report` has it. It allocates no memory.
 //!
-//! In `specs/` stand which parts an input has (`Parts`) and which line tells of a part's fault (`Lines`), what an input holds (`Scenario`), which
-//! history its calls make (`Calls`), what its log stands for (`Logged`), which book is its book (`Books`, `Outcomes`) and which one has the parts
-//! of an `ExactBook` (`ExactBooks`), and what is begun with where cycles are closed while it runs (`Opening`).
+//! In `specs/` are defined: the parts of an input (`Parts`), the line for a part's fault (`Lines`), the content of an input (`Scenario`), the
+//! history that its calls make (`Calls`), the meaning of its log (`Logged`), its book (`Books`, `Outcomes`), the book with the parts of an
+//! `ExactBook` (`ExactBooks`), and the beginning of a scenario whose cycles are closed while it runs (`Opening`).
 //!
 //! ```text
 //! two_parts(alloc, b"links = []\n%%\nstreams = []\n") is Ok((b"links = []\n", b"streams = []\n"))

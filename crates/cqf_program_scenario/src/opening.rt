@@ -20,20 +20,20 @@ use cqf_topology::Domain;
 use cqf_units::Memory;
 use std::alloc::Global;
 
-/// What the bridges and administrators of a scenario begin with. It is no [`ScenarioOutcome`](crate::ScenarioOutcome): what comes
+/// What the bridges and administrators of a scenario begin with. It differs from a [`ScenarioOutcome`](crate::ScenarioOutcome): the outcome
 /// of the calls and offers isn't known yet, since the cycles are closed while the scenario runs.
 #[derive(Debug, Drop)]
 pub struct Opened {
     pub domain: Domain,
-    /// The administration behind the calls before the first Seal.
+    /// The administration after the calls before the first Seal.
     pub admission: Admission,
-    /// What each administrator calls for from then on, by number.
+    /// The commands of each administrator from then on, by number.
     pub commands: Vec<Vec<Command>>,
     pub offers: Vec<Offer>,
     pub background: Vec<Background>,
 }
 
-/// An administration that has made some calls of which none is a Seal.
+/// Returns an administration that has made these calls. None of them is a Seal.
 fn open(alloc: Global, domain: &Domain, calls: &[(u16, Call)]) -> Result<Admission, Memory>
     requires { HasRoom 0 [] (map called_of calls.now) }
     ensures domain { IfOk result (λ admission. admission.domain ≡ domain.now) }
@@ -45,7 +45,7 @@ fn open(alloc: Global, domain: &Domain, calls: &[(u16, Call)]) -> Result<Admissi
     Ok(admission)
 }
 
-/// What a scenario's bridges and administrators begin with.
+/// Returns what a scenario's bridges and administrators begin with.
 fn open_given(alloc: Global, cycles: u32, given: RunInput) -> Result<Opened, Memory>
     requires may { MayBeRun cycles (scenario_given given) }
     requires stand { HasOrders given }
@@ -73,13 +73,13 @@ fn open_given(alloc: Global, cycles: u32, given: RunInput) -> Result<Opened, Mem
     })
 }
 
-/// Reads the scenario of an input within some limits that is to run over so many cycles, 0 to 100,000, which are closed while it runs.
-/// All of the input is read before anything is admitted. The calls of the script before its first Seal are applied in order, and the
-/// later ones are what each administrator calls for; later Seals are passed over.
+/// Reads the scenario of an input within some limits. It is to run over `cycles` cycles, 0 to 100,000, which are closed while it runs. All
+/// of the input is read before anything is admitted. The calls of the script before its first Seal are applied in order. The later calls
+/// are the administrators' commands; later Seals are skipped.
 ///
 /// # Errors
-/// With status 1 and the line of the first fault of the input: of its parts, of the domain, the streams, the script, the
-/// offers, or the background frames; and with status 3 for want of memory.
+/// With status 1 and the line of the first fault of the input: of its parts, of the domain, the streams, the script, the offers, or the
+/// background frames. With status 3 if an allocation fails.
 pub fn read_opened(alloc: Global, limits: Limits, cycles: u32, input: &[u8]) -> Result<Opened, Stop>
     requires { cycles ≤ most_cycles }
     ensures ok { IfOk result (λ made. IsOpenedInput limits cycles input.now made) }

@@ -1,4 +1,4 @@
-//! What comes of a scenario's calls and offers.
+//! The outcome of a scenario's calls and offers.
 ghost use Rattle.std.specs.Prelude.{◌≤◌, IfOk};
 ghost use Rattle.cqf_model.specs.Limits.{most_cycles};
 ghost use Rattle.cqf_program_scenario.specs.Closing.{MayBeRun, scenario_given};
@@ -13,24 +13,24 @@ use cqf_model::Row;
 use cqf_units::Memory;
 use std::alloc::Global;
 
-/// What comes of a scenario's calls and offers: from it the run of its network is told, with nothing asked of an administration again.
+/// The outcome of a scenario's calls and offers. The run of its network is computed from it without an administration.
 #[derive(Debug, Drop)]
 pub struct ScenarioOutcome {
     /// The entries of the history's log, over the scenario's own requests and script.
     pub entries: Vec<Logged>,
     /// The streams that the history ever granted, by number.
     pub rows: Vec<Row>,
-    /// What becomes of each offer by these, by its place.
+    /// The verdict on each offer by these streams, by the offer's index.
     pub edge_verdicts: Vec<EdgeVerdict>,
 }
 
-/// What comes of the calls and offers of a scenario over so many cycles, 0 to 100,000: the calls are applied in order, and then the cycles
-/// that are still open are closed, by the seat of the Seals; no table is kept. What its orders name stands among its requests and in its
-/// script. Its offers are at bridges of its domain, in order of instant, and its background frames on links of it, at most 16,777,215 each;
-/// its calls are at most as many Seals as cycles, and at most 100,000 others.
+/// Returns the outcome of the calls and offers of a scenario over `cycles` cycles, 0 to 100,000. The calls are applied in order, and then
+/// the cycles that are still open are closed, by the seat of the Seals; no table is kept. Everything that its orders name is among its
+/// requests and in its script. Its offers are at bridges of its domain, in order of instant, and its background frames on links of the
+/// domain, at most 16,777,215 each. Its calls are at most `cycles` Seals, and at most 100,000 others.
 ///
 /// # Errors
-/// Where a growth is refused.
+/// If an allocation fails.
 pub fn outcome_of(alloc: Global, cycles: u32, given: &RunInput) -> Result<ScenarioOutcome, Memory>
     requires short { cycles ≤ most_cycles }
     requires may { MayBeRun cycles (scenario_given given.now) }

@@ -12,30 +12,30 @@ use cqf_admission::{Call, Command};
 use cqf_units::Memory;
 use std::alloc::Global;
 
-/// The calls of a scenario, parted at the first Seal.
+/// The calls of a scenario, divided at the first Seal.
 #[derive(Debug, Drop)]
 pub(crate) struct Parted {
-    /// Those before it, each with its seat: all, where there is no Seal.
+    /// The calls before it, each with its seat; all calls if there is no Seal.
     pub(crate) opening: Vec<(u16, Call)>,
-    /// Of those behind it what each administrator calls for, by number, without the Seals.
+    /// For each administrator, by number, the commands from the first Seal on, without the Seals.
     pub(crate) commands: Vec<Vec<Command>>,
 }
 
-/// Whether a call closes a cycle.
+/// Returns whether a call closes a cycle.
 fn is_seal(call: &Call) -> bool
     ensures { result ≡ is_seal (act_of call.now) }
 {
     matches!(call, Call::Seal)
 }
 
-/// The place of the first Seal, where there is one.
+/// Returns the index of the first Seal, if there is one.
 fn first_seal(calls: &[(u16, Call)]) -> Option<usize>
     ensures { result ≡ position (λ (call : ℕ × Call). closes (called_of call)) calls.now }
 {
     calls.iter().position(|call| is_seal(&call.1))
 }
 
-/// The command of a call, unless it is a Seal.
+/// Returns the command of a call, unless the call is a Seal.
 fn command_of(call: Call) -> Option<Command>
     ensures { option_map act_of_command result ≡ (if is_seal (act_of call) then None else Some (act_of call)) }
 {
@@ -47,7 +47,7 @@ fn command_of(call: Call) -> Option<Command>
     }
 }
 
-/// No commands, for each of so many administrators.
+/// Returns an empty list of commands for each of `admins` administrators.
 fn no_commands(alloc: Global, admins: u16) -> Result<Vec<Vec<Command>>, Memory>
     ensures { IfOk result (λ lists. AreCommandsBy [] admins (acts_of_each lists.items)) }
 {
@@ -58,7 +58,7 @@ fn no_commands(alloc: Global, admins: u16) -> Result<Vec<Vec<Command>>, Memory>
     Ok(lists)
 }
 
-/// Adds a command behind those of an administrator, where it is one of these.
+/// Appends a command to those of an administrator, if there is a list for this administrator.
 fn add_command(lists: &mut Vec<Vec<Command>>, admin: u16, command: Command) -> Result<(), Memory>
     ensures { OnOk result (AddsCommand (acts_of_each lists.old.items) (acts_of_each lists.new.items) admin (act_of_command command)) }
 {
@@ -69,7 +69,7 @@ fn add_command(lists: &mut Vec<Vec<Command>>, admin: u16, command: Command) -> R
     Ok(())
 }
 
-/// What each of so many administrators calls for among these calls, by number.
+/// Returns the commands of each of `admins` administrators among these calls, by number.
 fn commands_by(
     alloc: Global,
     calls: Vec<(u16, Call)>,
@@ -86,7 +86,7 @@ fn commands_by(
     Ok(lists)
 }
 
-/// Takes the calls from the first Seal on away from the others.
+/// Removes the calls from the first Seal on from a list and returns them.
 fn cut_at_seal(alloc: Global, calls: &mut Vec<(u16, Call)>) -> Result<Vec<(u16, Call)>, Memory>
     ensures front { OnOk result (map called_of calls.new.items ≡ opening_calls (map called_of calls.old.items)) }
     ensures behind { IfOk result (λ behind. map called_of behind.items ≡ calls_from_seal (map called_of calls.old.items)) }
@@ -97,7 +97,7 @@ fn cut_at_seal(alloc: Global, calls: &mut Vec<(u16, Call)>) -> Result<Vec<(u16, 
     }
 }
 
-/// The calls, parted at the first Seal, for so many administrators.
+/// Divides the calls at the first Seal, for `admins` administrators.
 pub(crate) fn part_calls(
     alloc: Global,
     calls: Vec<(u16, Call)>,

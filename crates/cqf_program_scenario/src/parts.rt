@@ -9,26 +9,26 @@ use cqf_press::{REFUSED, Stop};
 use cqf_text::parts;
 use std::alloc::Global;
 
-/// The parts of a run, each as it stands in the input.
+/// The parts of a run, each as it is in the input.
 #[derive(Clone, Copy, Debug)]
 pub struct RunParts<'i> {
     pub domain: &'i [u8],
     pub streams: &'i [u8],
     pub script: &'i [u8],
     pub offers: &'i [u8],
-    /// The background frames, where the input has a fifth part.
+    /// The background frames, if the input has a fifth part.
     pub background: Option<&'i [u8]>,
 }
 
-/// The end where the input has another number of parts than the command takes.
+/// Returns the end of a command whose input has the wrong number of parts.
 fn parts_stop(alloc: Global) -> Stop
     ensures { EndsWith 1 parts_line result }
 {
     Stop::with_line(alloc, REFUSED, "cqf: parts\n")
 }
 
-/// The one part of the input. `Err` with status 1 where it has another number of parts, and with status 3 for want of
-/// memory.
+/// Returns the only part of the input. Ends with status 1 if the input has another number of parts, and with status 3 if an allocation
+/// fails.
 pub fn one_part(alloc: Global, input: &[u8]) -> Result<&[u8], Stop>
     ensures ok { IfOk result (λ part. one_part (parts_of input.now) ≡ Ok part.now) }
     ensures err { IfErr result (IsRefused (one_part (parts_of input.now))) }
@@ -42,7 +42,7 @@ pub fn one_part(alloc: Global, input: &[u8]) -> Result<&[u8], Stop>
     }
 }
 
-/// The two parts of the input. `Err` as [`one_part`].
+/// Returns the two parts of the input. Ends as [`one_part`] does.
 pub fn two_parts(alloc: Global, input: &[u8]) -> Result<(&[u8], &[u8]), Stop>
     ensures ok { IfOk result (λ found. two_parts (parts_of input.now) ≡ Ok (found.0.now, found.1.now)) }
     ensures err { IfErr result (IsRefused (two_parts (parts_of input.now))) }
@@ -56,7 +56,7 @@ pub fn two_parts(alloc: Global, input: &[u8]) -> Result<(&[u8], &[u8]), Stop>
     }
 }
 
-/// The four or five parts of the input of a run. `Err` as [`one_part`].
+/// Returns the four or five parts of the input of a run. Ends as [`one_part`] does.
 pub fn run_parts(alloc: Global, input: &[u8]) -> Result<RunParts<'_>, Stop>
     ensures ok { IfOk result (λ found. run_parts (parts_of input.now) ≡ Ok (texts_of found)) }
     ensures err { IfErr result (IsRefused (run_parts (parts_of input.now))) }

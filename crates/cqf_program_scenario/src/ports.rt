@@ -1,4 +1,4 @@
-//! The starts of a port, told line by line.
+//! The starts of a port, written line by line.
 
 ghost use Rattle.std.specs.Prelude.{◌<◌, ◌^◌, length, map};
 ghost use Rattle.cqf_port.specs.PortState.{start_of};
@@ -13,8 +13,7 @@ use cqf_press::{Press, Sink};
 use cqf_report::{put_port_header, put_port_start};
 use cqf_units::{Nanos, Rate};
 
-/// Puts the line of a start, which is the place of its arrival and its instant, with the instant at which its frame is
-/// over at this rate.
+/// Puts the line of a start, given by the index of its arrival and its instant, with the instant at which its frame ends at this rate.
 fn put_start_at<W: Sink>(
     press: &mut Press<'_, W>,
     arrivals: &[Arrival],
@@ -51,8 +50,8 @@ fn put_each<W: Sink>(
     }
 }
 
-/// Puts the text of a port's starts at a rate, as `cqf_report::write_starts` gives it. Of each start there are the place
-/// of its arrival among the arrivals, from 0, and its instant, before 2^63 ns.
+/// Puts the text of a port's starts at a rate, as `cqf_report::write_starts` gives it. Each start is given by the index of its arrival
+/// among the arrivals, from 0, and its instant, before 2^63 ns.
 pub fn put_starts_of_port<W: Sink>(
     press: &mut Press<'_, W>,
     arrivals: &[Arrival],

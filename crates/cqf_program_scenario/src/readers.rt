@@ -1,4 +1,4 @@
-//! The readers of parts that several commands have.
+//! The readers of parts that several commands share.
 ghost use Rattle.std.specs.Prelude.{◌≡◌, ◌≢◌, ◌≤◌, [], All, Ok, IfOk, IfErr, length, map};
 ghost use Rattle.cqf_admission.specs.Asking.{asked_paced};
 ghost use Rattle.cqf_program_scenario.specs.Lines.{background_line, domain_line, offers_line, script_line, streams_line};
@@ -25,7 +25,7 @@ use cqf_topology::{
 };
 use std::alloc::Global;
 
-/// The end where a domain is refused.
+/// Returns the end of a command whose domain is refused.
 fn domain_stop(alloc: Global, fault: &DomainFault) -> Stop
     ensures refused { fault.now ≢ DomainFault.Memory → EndsWith 1 (domain_line fault.now) result }
     ensures memory { fault.now ≡ DomainFault.Memory → EndsWith 3 [] result }
@@ -36,7 +36,7 @@ fn domain_stop(alloc: Global, fault: &DomainFault) -> Stop
     }
 }
 
-/// The end where streams are refused.
+/// Returns the end of a command whose streams are refused.
 fn streams_stop(alloc: Global, fault: StreamsFault) -> Stop
     ensures refused { fault ≢ StreamsFault.Memory → EndsWith 1 (streams_line fault) result }
     ensures memory { fault ≡ StreamsFault.Memory → EndsWith 3 [] result }
@@ -47,7 +47,7 @@ fn streams_stop(alloc: Global, fault: StreamsFault) -> Stop
     }
 }
 
-/// The end where a script is refused.
+/// Returns the end of a command whose script is refused.
 fn script_stop(alloc: Global, fault: ScriptFault) -> Stop
     ensures refused { fault ≢ ScriptFault.Memory → EndsWith 1 (script_line fault) result }
     ensures memory { fault ≡ ScriptFault.Memory → EndsWith 3 [] result }
@@ -58,7 +58,7 @@ fn script_stop(alloc: Global, fault: ScriptFault) -> Stop
     }
 }
 
-/// The end where a part that is a table is refused.
+/// Returns the end of a command with a refused part that is a table.
 fn table_stop(alloc: Global, part: &str, fault: TableFault) -> Stop
     ensures refused { fault ≢ TableFault.Memory → EndsWith 1 (fault_line part.now (table_fault_text fault)) result }
     ensures memory { fault ≡ TableFault.Memory → EndsWith 3 [] result }
@@ -69,8 +69,8 @@ fn table_stop(alloc: Global, part: &str, fault: TableFault) -> Stop
     }
 }
 
-/// The domain of a part that is read within some limits. `Err` with status 1 and the line of its first fault, and with status 3 for want
-/// of memory.
+/// Reads the domain of a part within some limits. Ends with status 1 and the line of its first fault, and with status 3 if an allocation
+/// fails.
 pub fn domain_part(alloc: Global, limits: Limits, text: &[u8]) -> Result<Domain, Stop>
     ensures ok { IfOk result (λ domain. domain_within limits text.now ≡ Ok domain) }
     ensures err { IfErr result (IsRefused (or_line domain_line (domain_within limits text.now))) }
@@ -81,7 +81,7 @@ pub fn domain_part(alloc: Global, limits: Limits, text: &[u8]) -> Result<Domain,
     }
 }
 
-/// The streams of a part. `Err` as [`domain_part`].
+/// Reads the streams of a part. Ends as [`domain_part`] does.
 pub fn streams_part(alloc: Global, text: &[u8]) -> Result<Vec<PacedRequest>, Stop>
     ensures ok { IfOk result (λ requests. paced_of_text text.now ≡ Ok (map paced_text requests.items)) }
     ensures err { IfErr result (IsRefused (or_line streams_line (paced_of_text text.now))) }
@@ -92,7 +92,7 @@ pub fn streams_part(alloc: Global, text: &[u8]) -> Result<Vec<PacedRequest>, Sto
     }
 }
 
-/// The streams of a part, with their deadlines. `Err` as [`domain_part`].
+/// Reads the streams of a part, with their deadlines. Ends as [`domain_part`] does.
 pub fn planned_part(alloc: Global, text: &[u8]) -> Result<Vec<Planned>, Stop>
     ensures ok { IfOk result (λ streams. planned_of_text text.now ≡ Ok (map planned_text streams.items)) }
     ensures err { IfErr result (IsRefused (or_line streams_line (planned_of_text text.now))) }
@@ -103,8 +103,8 @@ pub fn planned_part(alloc: Global, text: &[u8]) -> Result<Vec<Planned>, Stop>
     }
 }
 
-/// The orders of a script for so many cycles, each by where what it names stands, where these are the names that may be admitted.
-/// `Err` as [`domain_part`].
+/// Reads the orders of a script for `cycles` cycles, if these are the names that may be admitted. Each order refers to what it names by the
+/// index of a request or by a position in the text. Ends as [`domain_part`] does.
 pub fn script_part(
     alloc: Global,
     names: &Names<'_>,
@@ -123,7 +123,7 @@ pub fn script_part(
     }
 }
 
-/// The offers of a part, to a domain. `Err` as [`domain_part`].
+/// Reads the offers of a part, for a domain. Ends as [`domain_part`] does.
 pub fn offers_part(alloc: Global, domain: &Domain, text: &[u8]) -> Result<Vec<Offer>, Stop>
     ensures ok { IfOk result (λ offers. offers_of domain.now text.now ≡ Ok offers.items) }
     ensures good { IfOk result (λ offers. AreOffers domain.now offers.items) }
@@ -136,7 +136,7 @@ pub fn offers_part(alloc: Global, domain: &Domain, text: &[u8]) -> Result<Vec<Of
     }
 }
 
-/// The background frames of a part, for the links of a domain. `Err` as [`domain_part`].
+/// Reads the background frames of a part, for the links of a domain. Ends as [`domain_part`] does.
 pub fn background_part(alloc: Global, domain: &Domain, text: &[u8]) -> Result<Vec<Background>, Stop>
     ensures ok { IfOk result (λ frames. background_frames_of domain.now text.now ≡ Ok frames.items) }
     ensures good { IfOk result (λ frames. AreBackground domain.now frames.items) }

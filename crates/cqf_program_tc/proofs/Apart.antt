@@ -1,4 +1,4 @@
--- Two links have two variables, and so have two streams.
+-- Two links have different variables, and so have two streams.
 use Rattle.std.proofs.Common.{ℕ, ◌≡◌, ◌≢◌, ◌<◌, ◌≤◌, ◌^◌, ◌++◌, ◌==◌, ◌∙◌, ◌&&◌, Bool, true, false, not, List, [], ◌∷◌, Contains, Option, Some, All}
 use Rattle.std.proofs.Common.{ap, append-nil, append_assoc, arith, codes, decimal, get_or, inl, inr, length, refl, subst, suc, sym, take, zero}
 use Rattle.std.specs.Prelude.{if◌then◌else◌, nat_lt, slice_get}
@@ -28,7 +28,7 @@ use Rattle.cqf_program_tc.specs.Variables.{VariablesAreApart, has_word_before, i
 use Rattle.cqf_program_tc.specs.Variables.{stream_variable, word_byte, word_of, word_of_link, word_of_stream}
 use Rattle.cqf_program_tc.proofs.Lines.{both_true}
 
--- a text without the capital that stands before a number
+-- a text without the capital letter that precedes a number
 abbrev is_plain : ℕ → Bool
 is_plain byte = not (byte == 78)
 
@@ -38,7 +38,7 @@ IsPlain text = list_all is_plain text ≡ true
 plain_then : (a b : List ℕ) → IsPlain a → IsPlain b → IsPlain (a ++ b)
 plain_then a b of_a of_b = list_all-append is_plain a b ∙ and_from (list_all is_plain a) (list_all is_plain b) of_a of_b
 
--- no name has it, nor has its word
+-- no name has it, nor has the word of a name
 plain_byte : (byte : ℕ) → is_name_byte byte ≡ true → is_plain (word_byte byte) ≡ true
 plain_byte byte named = by (byte == 45)
   where
@@ -73,7 +73,7 @@ plain_link d domain link =
     plain_then (word_of (name_of_bridge d link.from)) (codes "_" ++ word_of (name_of_node d link.to)) (plain_at d.bridges domain.bridges_named link.from)
     (plain_node d domain link.to)
 
--- what stands before the first such capital of a text, and behind it
+-- the part of a text before the first such capital letter, and the part after it
 abbrev before : List ℕ → List ℕ
 before [] = []
 before (x ∷ xs) = if x == 78 then [] else x ∷ before xs
@@ -105,7 +105,7 @@ not_plain : (word end : List ℕ) → IsPlain (word ++ (95 ∷ 78 ∷ end)) → 
 not_plain [] end plain = cc
 not_plain (x ∷ word) end plain = not_plain word end (both_true (is_plain x) (list_all is_plain (word ++ (95 ∷ 78 ∷ end))) plain).1
 
--- of two that are the same the words are, and both have a number or none has; then that is the same
+-- two equal variables have equal words, and both have a number or neither has; the numbers are then equal
 record AreSame (a b : List ℕ) (s t : Bool) (m n : ℕ) : Type 0 where
   pub words : a ≡ b
   pub taken : s ≡ t
@@ -124,17 +124,17 @@ same_parts a b true true m n of_a of_b e = record {
   numbers = λ some. sym (behind_number a (decimal m) of_a) ∙ ap behind e ∙ behind_number b (decimal n) of_b;
 }
 
--- a decimal is of one number
+-- a decimal is the decimal of only one number
 same_number : (m n : ℕ) → m < 2 ^ 64 → n < 2 ^ 64 → decimal m ≡ decimal n → m ≡ n
 same_number m n small_m small_n e = sym (digits_value-decimal own m small_m) ∙ ap (digits_value 10) e ∙ digits_value-decimal own n small_n
 
--- where two are the same, and the second is taken if its word is the first's, their numbers are
+-- if two variables are equal, and the second is taken if its word is the first's, their numbers are equal
 apart : (a b : List ℕ) (s t : Bool) (m n : ℕ) → IsPlain a → IsPlain b → m < 2 ^ 64 → n < 2 ^ 64 → (a ≡ b → t ≡ true) → numbered a s m ≡ numbered b t n → m ≡ n
 apart a b s t m n of_a of_b small_m small_n taken e =
     let same = same_parts a b s t m n of_a of_b e in
     same_number m n small_m small_n (same.numbers (same.taken ∙ taken same.words))
 
--- a link, and whether its word is taken
+-- the link of a number in the domain's list
 pub found_link : (d : Domain) (k : ℕ) → k < length d.links → (link : Link) × (slice_get d.links k ≡ Some link) × (link ≡ get_or d.links k link)
 found_link d k below = elim ((slice_get_cases d.links k).1) [
   | inl h ↦ (h.0, h.2, sym h.3)
@@ -163,7 +163,7 @@ links_below d a b domain less inside e =
     (λ words. link_taken d a b one.0 two.0 less (omega (arith, less, inside)) one.2 words) same in
     absurd (omega (arith, less, equal))
 
--- a stream whose word one of a lower number has
+-- a stream is taken if a stream with a lower number has its word
 stream_taken : (rows : List Row) (first second : Row) → Contains rows first → first.no < second.no → word_of_stream first ≡ word_of_stream second →
     is_stream_taken rows second ≡ true
 stream_taken rows first second there less same =

@@ -50,7 +50,7 @@ use Rattle.cqf_program_tc.proofs.Lines.{begins, onto, reads_line, reads_none, re
 abbrev is_blank : ℕ → Bool
 is_blank byte = byte == 32
 
--- a text of lines that begin with a blank, the calls among them, and the variables that they want
+-- a text of lines that begin with a blank, the calls among them, and the variables that they require
 record Says (text : List ℕ) (calls wants : List (List ℕ)) : Type 0 where
   pub lines : List (List ℕ)
   pub reads : Reads text lines
@@ -71,7 +71,7 @@ says_then a b x y u v of_a of_b = record {
       ∙ ap (λ wants. u ++ wants) of_b.wanted;
 }
 
--- a line that is no call, and one that is one
+-- a line that is no call, and a line that is one
 says_line : (pieces : List (List ℕ)) (last behind : List ℕ) (calls here wants : List (List ℕ)) → AreWithin pieces last →
     begins is_blank (onto pieces last) ≡ true → is_call (onto pieces last) ≡ false → wanted_by (onto pieces last) ≡ here → Says behind calls wants →
     Says (onto pieces (last ++ 10 ∷ behind)) calls (here ++ wants)
@@ -92,7 +92,7 @@ says_call line within blank call none = record {
   wanted = ap (λ (mine : List (List ℕ)). mine ++ []) none;
 }
 
--- one of two
+-- a text that is there under a condition
 says_if : (b : Bool) (text : List ℕ) (calls : List (List ℕ)) → Says text calls [] → Says (if b then text else []) (if b then calls else []) []
 says_if true text calls said = said
 says_if false text calls said = says_none
@@ -101,7 +101,7 @@ says_some : (b : Bool) (text : List ℕ) (wants : List (List ℕ)) → Says text
 says_some true text wants said = said
 says_some false text wants said = says_none
 
--- one behind the other
+-- texts one after the other
 says_below : (text : ℕ → List ℕ) (calls : ℕ → List (List ℕ)) (n : ℕ) → ((k : ℕ) → Says (text k) (calls k) []) → Says (each_below text n) (each_below calls n) []
 says_below text calls zero each = says_none
 says_below text calls (suc n) each =
@@ -124,7 +124,7 @@ says_each text calls (row ∷ rows) each =
 abbrev no_variables : List (List ℕ)
 no_variables = []
 
--- the variables that are wanted: of a link that leaves, of the way by which a stream comes where it's new, and of its frames
+-- the variables that are required: those of a link that leaves, of the way by which a stream arrives if that way is new, and of its frames
 abbrev pub link_wants : Domain → ℕ → ℕ → List (List ℕ)
 link_wants d bridge link = if leaves d link bridge then (codes "OUT_" ++ link_variable d link) ∷ [] else []
 
@@ -144,7 +144,7 @@ abbrev pub wants_due : Domain → List Row → ℕ → List (List ℕ)
 wants_due d rows bridge =
     each_below (link_wants d bridge) (length d.links) ++ each_below (wants_at (stream_wants d rows bridge) rows) (length rows)
 
--- a text up to the first byte of a kind, where that is known
+-- a condition whose negation holds is false
 not_true : (b : Bool) → not b ≡ true → b ≡ false
 not_true false h = refl
 not_true true h = absurd cc
@@ -156,7 +156,7 @@ up_to byte (x ∷ text) rest none same =
     ap (λ (b : Bool). if b then [] else x ∷ text_up_to byte (text ++ byte ∷ rest)) (not_true (x == byte) parts.0)
     ∙ ap (λ (more : List ℕ). x ∷ more) (up_to byte text rest parts.1 same)
 
--- the words of a link's own list stand in one line
+-- the words of a link's own list are within one line
 own_within : (d : Domain) (link : ℕ) → IsWithin (own_list d link)
 own_within d link = of_link (slice_get d.links link)
   where
@@ -168,7 +168,7 @@ own_within d link = of_link (slice_get d.links link)
     of_link None = refl
     of_link (Some link) = of_list (is_some link.guard) (port_list d.cycle_time (guard_by d.guard link))
 
--- of a bridge of a domain
+-- for a bridge of a domain
 module _ (d : Domain) (domain : IsDomain d) (bridge : ℕ) where
   -- the variable of a link, in a line
   link_named : (link : ℕ) → IsWithin (link_variable d link)
@@ -249,7 +249,7 @@ module _ (d : Domain) (domain : IsDomain d) (bridge : ℕ) where
       (says_line (codes "    # link " ∷ decimal link ∷ codes " " ∷ name_of_link d link ∷ []) [] (link_call d link ++ 10 ∷ []) (link_call d link ∷ []) [] []
       (refl, (decimal_within link, (refl, (link_within d domain link, refl)))) refl refl refl (says_call (link_call d link) call refl refl refl))
 
-  -- a text for each stream, none of which is a call
+  -- a text for each stream, none of them a call
   says_streams : (text : List Row → Row → List ℕ) (wants : List Row → Row → List (List ℕ)) (rows : List Row) →
       ((before : List Row) (row : Row) → Contains rows row → Says (text before row) [] (wants before row)) →
       Says (each_stream text rows) [] (each_below (wants_at wants rows) (length rows))
@@ -261,7 +261,7 @@ module _ (d : Domain) (domain : IsDomain d) (bridge : ℕ) where
       at k None is = says_none
       at k (Some row) is = each (take k rows) row (contains_at rows k row is)
 
-  -- where each wants nothing, they do
+  -- if each requires nothing, all together require nothing
   nothing_wanted : (n : ℕ) (rows : List Row) → each_below (wants_at (λ before row. []) rows) n ≡ []
   nothing_wanted zero rows = refl
   nothing_wanted (suc n) rows =
@@ -297,7 +297,7 @@ module _ (d : Domain) (domain : IsDomain d) (bridge : ℕ) where
   entries_within [] = refl
   entries_within (entry ∷ entries) = within_then (entry_words entry) (list_words entries) (entry_within entry) (entries_within entries)
 
-  -- of a stream whose name and variable stand in a line, and whose gate has an index
+  -- a stream whose name and variable are within a line, and whose gate has an index
   module _ (variable : List ℕ) (gate : ℕ) (row : Row) (bare : IsWithin variable) (named : IsWithin row.name)
       (spaceless : list_all is_no_space variable ≡ true) where
     says_way : (way : Option ℕ) → Says (way_need d bridge variable row way) [] (way_in d variable way ∷ [])
@@ -325,7 +325,7 @@ module _ (d : Domain) (domain : IsDomain d) (bridge : ℕ) where
         (if way.1 then way_in d variable way.0 ∷ [] else []) (frame_wants variable)
         (says_some way.1 (way_need d bridge variable row way.0) (way_in d variable way.0 ∷ []) (says_way way.0)) says_frames
 
-    -- the way of the stream, in a line
+    -- the way of the stream, within a line
     way_within : (way : Option ℕ) → IsWithin (way_in d variable way)
     way_within None = bare
     way_within (Some link) = link_named link
@@ -354,7 +354,7 @@ module _ (d : Domain) (domain : IsDomain d) (bridge : ℕ) where
     list_within way =
         within_then (gate_target d variable gate way) (list_words (gate_at d row bridge)) (target_within way) (entries_within (gate_at d row bridge))
 
-    -- the call, by whether the stream pauses
+    -- the call, both for a stream that pauses and for one that doesn't
     says_gate : (way : Option ℕ) (b : Bool) →
         Says ((if b then list_call d bridge variable gate row way else plain_call d variable gate row way) ++ 10 ∷ [])
         ((if b then list_call d bridge variable gate row way else plain_call d variable gate row way) ∷ []) []
@@ -403,7 +403,7 @@ ends_line pieces last behind calls wants within blank other none more = record {
   wanted = ap (λ (mine : List (List ℕ)). mine ++ flat_map wanted_by more.lines) none ∙ more.wanted;
 }
 
--- the head of a bridge's function, as the reading has it
+-- the head of a bridge's function, as it is read
 abbrev head_bridge : ℕ → List ℕ
 head_bridge bridge = head_of (function_of_bridge bridge)
 
@@ -493,7 +493,7 @@ module _ (d : Domain) (gates : ℕ → ℕ) (rows : List Row) (domain : IsDomain
     | inr other ↦ other
   ]
 
-  -- lines that begin with a blank are no head
+  -- lines that begin with a blank are not a head
   blanks_passed : (head : List ℕ) (lines more : List (List ℕ)) → list_all (begins is_blank) lines ≡ true →
       lines_behind (98 ∷ head) (lines ++ more) ≡ lines_behind (98 ∷ head) more
   blanks_passed head [] more inside = refl
@@ -517,7 +517,7 @@ module _ (d : Domain) (gates : ℕ → ℕ) (rows : List Row) (domain : IsDomain
       other_text [] blank = absurd cc
       other_text (byte ∷ line) blank = ap (λ (n : ℕ). is_text (n ∷ line) (codes "}")) (eqb-true byte 32 blank)
 
-  -- the functions of other bridges are passed over
+  -- the functions of other bridges are skipped
   function_passed : (bridge other : ℕ) (rest : List ℕ) → bridge < 2 ^ 64 → other < 2 ^ 64 → (other ≡ bridge → ⊥) →
       lines_behind (head_bridge bridge) (lines_of (bridge_text d gates rows other ++ rest)) ≡ lines_behind (head_bridge bridge) (lines_of rest)
   function_passed bridge other rest small_bridge small_other apart =
@@ -536,7 +536,7 @@ module _ (d : Domain) (gates : ℕ → ℕ) (rows : List Row) (domain : IsDomain
       ∙ functions_passed bridge count (bridge_text d gates rows count ++ rest) (omega (arith, few)) small
       ∙ function_passed bridge count rest small (omega (arith, few, small)) (λ same. absurd (omega (arith, few, same)))
 
-  -- behind its head the lines of a bridge's function are found
+  -- after its head the lines of a bridge's function are found
   function_found : (bridge count : ℕ) (rest : List ℕ) → bridge < count → bridge < 2 ^ 64 →
       lines_before (codes "}") (lines_behind (head_bridge bridge) (lines_of (each_below (bridge_text d gates rows) count ++ rest))) ≡ (is_function bridge).lines
   function_found bridge zero rest inside small = absurd (omega (arith, inside))
@@ -572,7 +572,7 @@ module _ (d : Domain) (gates : ℕ → ℕ) (rows : List Row) (domain : IsDomain
   called : (software : Bool) (bridge : ℕ) → bridge < length d.bridges → calls_at bridge (tc_text d software gates rows) ≡ calls_due d gates rows bridge
   called software bridge inside = ap (filter is_call) (function_lines software bridge inside) ∙ (is_function bridge).called
 
-  -- and so are the variables that it wants
+  -- and so are the variables that it requires
   pub wanted_are_due : (software : Bool) (bridge : ℕ) → bridge < length d.bridges →
       wanted_at bridge (tc_text d software gates rows) ≡ wants_due d rows bridge
   wanted_are_due software bridge inside = ap (flat_map wanted_by) (function_lines software bridge inside) ∙ (is_function bridge).wanted

@@ -1,4 +1,4 @@
--- The variables that a bridge's file sets are those that its function wants.
+-- The variables that a bridge's file sets are those that its function requires.
 use Rattle.std.proofs.Common.{ℕ, ◌≡◌, ◌<◌, ◌++◌, ◌==◌, ◌∙◌, ◌/◌, ◌%◌, Bool, true, false, not, List, [], ◌∷◌, Contains, Option, Some, None, ap, append-nil, arith}
 use Rattle.std.proofs.Common.{codes, decimal, length, refl, sym, suc, take, zero}
 use Rattle.std.specs.Prelude.{if◌then◌else◌, option_and_then, option_map, slice_get, slice_index}
@@ -64,7 +64,7 @@ sets_below text names zero each = sets_none
 sets_below text names (suc n) each =
     sets_then (each_below text n) (text n) (each_below names n) (names n) (sets_below text names n each) (each n)
 
--- values stand in one line
+-- each value is within one line
 interface_bytes : (name : List ℕ) → list_all is_interface_byte name ≡ true → IsWithin name
 interface_bytes [] form = refl
 interface_bytes (byte ∷ name) form =
@@ -142,7 +142,7 @@ vlan_of_within addresses number = of_vlan (vlan_of_stream addresses number)
 
 module _ (d : Domain) (domain : IsDomain d) (interfaces : List LinkInterfaces) (form : HaveForm interfaces) (addresses : List StreamAddress)
     (bridge : ℕ) where
-  -- the line that sets the variable of a link, behind what it begins with
+  -- the line that sets the variable of a link, after the variable's prefix
   link_equals : (link : ℕ) → list_all is_no_equals (link_variable d link) ≡ true
   link_equals link = link_all is_no_equals pass_equals d domain link
 

@@ -25,19 +25,19 @@ use Rattle.cqf_program_tc.specs.Words.{gate_words, tx_words}
 use Rattle.cqf_program_tc.proofs.Lines.{IsWithin, Reads, Skips, begins, behind_within, bridge_within, decimal_within, is_within, none_within}
 use Rattle.cqf_program_tc.proofs.Lines.{both_true, joined, reads_joined, skips, within_then}
 
--- the functions that are looked for begin with one of these bytes
+-- the heads of the functions that are searched begin with one of these bytes
 abbrev pub is_head_byte : ℕ → Bool
 is_head_byte byte = (byte == 98) || ((byte == 103) || (byte == 108))
 
 no_b : (x y : ℕ) (xs ys : List ℕ) → is_head_byte y ≡ true → not (is_head_byte x) ≡ true → is_text (x ∷ xs) (y ∷ ys) ≡ false
 no_b x y xs ys head other = grind (arith, nat_tests)
 
--- a line that begins with another byte is none of their heads
+-- a line that begins with another byte is none of these heads
 other_line : (y : ℕ) (head line : List ℕ) → is_head_byte y ≡ true → not (begins is_head_byte line) ≡ true → is_text line (y ∷ head) ≡ false
 other_line y head [] of_head other = refl
 other_line y head (x ∷ line) of_head other = no_b x y line head of_head other
 
--- such lines are passed over
+-- such lines are skipped
 pub passed_over : (y : ℕ) (head : List ℕ) (lines more : List (List ℕ)) → is_head_byte y ≡ true →
     list_all (λ (line : List ℕ). not (begins is_head_byte line)) lines ≡ true →
     lines_behind (y ∷ head) (lines ++ more) ≡ lines_behind (y ∷ head) more
@@ -83,7 +83,7 @@ given_skipped d rows =
 checks_skipped : Skips is_head_byte checks_text
 checks_skipped = skips is_head_byte checks_text refl refl
 
--- the digits of an octet stand in one line
+-- the digits of an octet are within one line
 digit_within : (n : ℕ) → is_within (48 + n) ≡ true
 digit_within n = grind (arith, nat_tests)
 
@@ -127,7 +127,7 @@ old_gates_skipped d = old_gates_by (nat_le (streams_within d.limits) 1024)
 no_gates_skipped : Skips is_head_byte no_gates_text
 no_gates_skipped = skips is_head_byte no_gates_text refl refl
 
--- the words of a list stand in one line
+-- the words of a list are within one line
 hex_within : (n : ℕ) → is_within (hex_digit n) ≡ true
 hex_within n = grind (arith, nat_tests)
 
@@ -154,7 +154,7 @@ list_within d software =
     end_of_port true = refl
     end_of_port false = refl
 
--- the words of a filter do
+-- so are the words of a filter
 filter_within : (software : Bool) → IsWithin (filter_words software)
 filter_within true = refl
 filter_within false = refl
@@ -193,7 +193,7 @@ gate_reads d software =
     subst (λ (text : List ℕ). Reads text (lines_of_gate d software)) same
     (reads_joined (lines_of_gate d software) (refl, (refl, (gate_within d software, (refl, (refl, (refl, tt)))))))
   where
-    -- however the command's pieces are joined
+    -- for hardware and for software
     same : joined (lines_of_gate d software) ≡ tc_gate_text d software
     same = by software
       where
@@ -201,7 +201,7 @@ gate_reads d software =
         by true = refl
         by false = refl
 
--- behind the head of a function in the script are the lines behind it among those of the functions
+-- the lines after a function's head in the script are those after it among the functions
 abbrev last_of : Domain → Bool → (ℕ → ℕ) → List Row → List ℕ
 last_of d software gates rows = bridges_text d gates rows ++ choice_text d software
 
@@ -246,7 +246,7 @@ module _ (d : Domain) (software : Bool) (gates : ℕ → ℕ) (rows : List Row) 
       ∙ ap (lines_behind (head_of (codes "link")))
       (link_reads d software ((old_gates_text (last_gate d)) ++ (no_gates_text ++ (tc_gate_text d software ++ rest_of d software gates rows)))))
 
-  -- behind that of a link, other functions are looked for among those of gates and of bridges
+  -- after the function of a link, other functions are searched among those of gates and of bridges
   to_gate : (y : ℕ) (head : List ℕ) → IsDomain d → is_head_byte y ≡ true → is_text (codes "link() {") (y ∷ head) ≡ false →
       lines_behind (y ∷ head) (lines_of (tc_text d software gates rows))
       ≡ lines_behind (y ∷ head) (lines_of (tc_gate_text d software ++ rest_of d software gates rows))
@@ -268,7 +268,7 @@ module _ (d : Domain) (software : Bool) (gates : ℕ → ℕ) (rows : List Row) 
       ap (lines_before (codes "}")) (to_gate 103 (codes "ate() {") domain refl refl
       ∙ ap (lines_behind (head_of (codes "gate"))) (gate_reads d software (rest_of d software gates rows)))
 
--- the lines of the function of lists
+-- the lines of the function that sets a gate by a list
 abbrev lines_of_by_list : Bool → List (List ℕ)
 lines_of_by_list software =
     codes "# stream gate $2 at the interface $1: address $3, VLAN $4, and behind these the entries of its list" ∷ codes "gate_by_list() {"
@@ -279,7 +279,7 @@ by_list_reads true = reads_joined (lines_of_by_list true) (refl, (refl, (refl, (
 by_list_reads false = reads_joined (lines_of_by_list false) (refl, (refl, (refl, (refl, (by_list_within false, (refl, (refl, (refl, tt))))))))
 
 module _ (d : Domain) (software : Bool) (gates : ℕ → ℕ) (rows : List Row) where
-  -- it is read where a stream pauses
+  -- it is read if a stream pauses
   pub by_list_found : IsDomain d → list_any pauses rows ≡ true →
       lines_of_function (codes "gate_by_list") (tc_text d software gates rows) ≡ by_list_lines software
   by_list_found domain some =
@@ -290,7 +290,7 @@ module _ (d : Domain) (software : Bool) (gates : ℕ → ℕ) (rows : List Row) 
       ∙ ap (λ (b : Bool). lines_behind head (lines_of ((if b then by_list_text software else []) ++ tail))) some
       ∙ ap (lines_behind head) (by_list_reads software tail))
 
-  -- and passed over where another is looked for
+  -- and is skipped if another function is searched
   lists_passed : (head : List ℕ) →
       lines_behind (98 ∷ head) (lines_of (rest_of d software gates rows)) ≡ lines_behind (98 ∷ head) (lines_of (last_of d software gates rows))
   lists_passed head = by_test (list_any pauses rows)
@@ -300,7 +300,7 @@ module _ (d : Domain) (software : Bool) (gates : ℕ → ℕ) (rows : List Row) 
       by_test true = ap (lines_behind (98 ∷ head)) (by_list_reads software (last_of d software gates rows))
       by_test false = refl
 
-  -- and those of bridges are looked for behind it
+  -- and the functions of bridges are searched after it
   pub to_bridges : (head : List ℕ) → IsDomain d →
       lines_behind (98 ∷ head) (lines_of (tc_text d software gates rows))
       ≡ lines_behind (98 ∷ head) (lines_of (bridges_text d gates rows ++ choice_text d software))

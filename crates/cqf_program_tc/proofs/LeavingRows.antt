@@ -29,7 +29,7 @@ none_from : (found : Option Hop) → is_some found ≡ false → found ≡ None
 none_from None e = refl
 none_from (Some hop) e = absurd (true≢false e)
 
--- a text that says nothing of a stream that doesn't leave the bridge
+-- a text that is empty for a stream that doesn't leave the bridge
 abbrev pub IsSilent : Domain → ℕ → (List Row → Row → List ℕ) → Type 0
 IsSilent d bridge text = (before : List Row) (row : Row) → first_hop d bridge row ≡ None → text before row ≡ []
 
@@ -49,14 +49,14 @@ env_silent d interfaces addresses rows bridge before row none =
     ap (λ (found : Option Hop). option_map_or (lines_by d interfaces addresses bridge (stream_variable rows row) row)
     (option_map (λ (hop : Hop). (hop.from, is_new d bridge before hop.from)) found) []) none
 
--- the texts of the rows so far are written, and it is noted by which links their streams came
+-- the texts of the rows so far are written, and it is noted over which links their streams arrived
 pub record AreSoFar (Written : List ℕ → Type 0) (text : List Row → Row → List ℕ) (d : Domain) (bridge : ℕ) (rows : List Row) (seen : List Bool)
     (count : ℕ) : Type 0 where
   pub put : Written (each_below (stream_at text rows) count)
   pub noted : IsSeenWay d bridge (take count rows) seen
 
 module _ (d : Domain) (bridge : ℕ) (rows : List Row) where
-  -- whether the stream of the row at a place leaves the bridge
+  -- whether the stream of the row at an index leaves the bridge
   abbrev leaving : ℕ → Bool
   leaving place = option_map_or (leaves_bridge d bridge) (slice_get rows place) false
 
@@ -72,13 +72,13 @@ module _ (d : Domain) (bridge : ℕ) (rows : List Row) where
     | inr past ↦ absurd (omega (arith, below, past.0))
   ]
 
-  -- a place of a stream that leaves the bridge is one of the rows'
+  -- the index of a stream that leaves the bridge is one of the rows'
   pub place_inside : (places : List ℕ) (i : ℕ) → places ≡ places_at d rows bridge → i < length places → get_or places i 0 < length rows
   place_inside places i are inside =
       (kept_number leaving (length rows) (get_or places i 0)
       (subst (λ (l : List ℕ). Contains l (get_or places i 0)) are (Contains-get_or places i 0 inside))).0
 
-  -- what holds behind so many of those places holds up to the next, where rows that don't leave the bridge change nothing
+  -- what holds after the first i of those indices holds up to the next one, if rows that don't leave the bridge change nothing
   pub to_next_place : (P : ℕ → Type 0) (places : List ℕ) (i : ℕ) → places ≡ places_at d rows bridge →
       ((k : ℕ) (row : Row) → slice_get rows k ≡ Some row → take (suc k) rows ≡ take k rows ++ row ∷ [] → first_hop d bridge row ≡ None → P k → P (suc k)) →
       i ≤ length places → P (behind places i) → P (get_or places i (length rows))
@@ -104,12 +104,12 @@ module _ (d : Domain) (bridge : ℕ) (rows : List Row) where
         AreSoFar Written text d bridge rows seen (behind places i) → AreSoFar Written text d bridge rows seen (get_or places i (length rows))
     so_far_next places i are within there = to_next_place (AreSoFar Written text d bridge rows seen) places i are so_far_same within there
 
-    -- up to the first of the places
+    -- up to the first of the indices
     pub so_far_none : (places : List ℕ) → places ≡ places_at d rows bridge → Written [] → IsSeenWay d bridge [] seen →
         AreSoFar Written text d bridge rows seen (get_or places 0 (length rows))
     so_far_none places are put noted = so_far_next places 0 are (omega arith) (record { put = put; noted = noted })
 
-    -- one more of the places
+    -- one more of the indices
     pub so_far_more : (places : List ℕ) (i : ℕ) (row : Row) → places ≡ places_at d rows bridge → i < length places →
         slice_get rows (get_or places i 0) ≡ Some row → take (get_or places i 0 + 1) rows ≡ take (get_or places i 0) rows ++ row ∷ [] →
         Written (each_below (stream_at text rows) (get_or places i 0) ++ text (take (get_or places i 0) rows) row) →
@@ -124,7 +124,7 @@ module _ (d : Domain) (bridge : ℕ) (rows : List Row) where
         subst (λ (n : ℕ). AreSoFar Written text d bridge rows seen (get_or places n (length rows))) (sym (add-one i))
         (so_far_next places (suc i) are (omega (arith, inside)) behind_it)
 
-  -- what is so far at a place
+  -- what is so far at an index
   pub so_far_here : {Written : List ℕ → Type 0} {text : List Row → Row → List ℕ} {seen : List Bool} (places : List ℕ) (i : ℕ) → i < length places →
       AreSoFar Written text d bridge rows seen (get_or places i (length rows)) → AreSoFar Written text d bridge rows seen (get_or places i 0)
   so_far_here {Written} {text} {seen} places i inside so_far =
@@ -136,7 +136,7 @@ module _ (d : Domain) (bridge : ℕ) (rows : List Row) where
   so_far_all Written text seen places i past so_far =
       (subst (AreSoFar Written text d bridge rows seen) (get_or_past places i (length rows) past) so_far).put
 
--- the lines of the streams so far, where they are put without what is noted
+-- the lines of the streams so far, for lines that don't depend on what is noted
 module _ (d : Domain) (bridge : ℕ) (rows : List Row) (gates : ℕ → ℕ) where
   abbrev lines : ℕ → List ℕ
   lines count = flat_map (stream_gates d gates rows bridge) (take count rows)

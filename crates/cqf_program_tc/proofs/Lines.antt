@@ -30,7 +30,7 @@ pub both_true : (a b : Bool) → (a && b) ≡ true → (a ≡ true) × (b ≡ tr
 both_true true b h = (refl, h)
 both_true false b h = absurd cc
 
--- a text in which no line ends
+-- a text without a line feed
 abbrev pub is_within : ℕ → Bool
 is_within byte = not (is_line_feed byte)
 
@@ -48,7 +48,7 @@ first_line line rest within =
     ap without_empty_last (slice_split_at is_line_feed line 10 rest none refl)
     ∙ without_empty_last-cons line (slice_split is_line_feed rest) (slice_split-some rest)
 
--- a text that has whole lines, before any other
+-- a text of whole lines, before any other text
 abbrev pub Reads : List ℕ → List (List ℕ) → Type 0
 Reads text lines = (rest : List ℕ) → lines_of (text ++ rest) ≡ lines ++ lines_of rest
 
@@ -77,7 +77,7 @@ pub reads_joined : (lines : List (List ℕ)) → AreLines lines → Reads (joine
 reads_joined [] each = reads_none
 reads_joined (line ∷ lines) each = reads_line line (joined lines) lines each.0 (reads_joined lines each.1)
 
--- pieces before a last one
+-- pieces before the last one
 abbrev pub onto : List (List ℕ) → List ℕ → List ℕ
 onto [] last = last
 onto (piece ∷ pieces) last = piece ++ onto pieces last
@@ -94,7 +94,7 @@ pub within_onto : (pieces : List (List ℕ)) (last : List ℕ) → AreWithin pie
 within_onto [] last within = within
 within_onto (piece ∷ pieces) last within = within_then piece (onto pieces last) within.0 (within_onto pieces last within.1)
 
--- a line of pieces
+-- a line made of pieces
 pub reads_pieces : (pieces : List (List ℕ)) (last behind : List ℕ) (lines : List (List ℕ)) → AreWithin pieces last → Reads behind lines →
     Reads (onto pieces (last ++ 10 ∷ behind)) (onto pieces last ∷ lines)
 reads_pieces pieces last behind lines within of_behind =
@@ -106,7 +106,7 @@ abbrev pub begins : (ℕ → Bool) → List ℕ → Bool
 begins test [] = false
 begins test (first ∷ line) = test first
 
--- whether no line of a text begins with one, where a line begins before it or doesn't, and whether one begins behind it
+-- whether no line of a text begins with such a byte, given whether the text is at the start of a line; and whether what follows the text is
 abbrev pub none_begins : (ℕ → Bool) → Bool → List ℕ → Bool
 none_begins test at [] = true
 none_begins test at (first ∷ text) = not (at && test first) && none_begins test (first == 10) text
@@ -115,7 +115,7 @@ abbrev pub one_begins_behind : Bool → List ℕ → Bool
 one_begins_behind at [] = at
 one_begins_behind at (first ∷ text) = one_begins_behind (first == 10) text
 
--- a text of whole lines of which none begins with one
+-- a text of whole lines; none begins with such a byte
 pub record Skips (test : ℕ → Bool) (text : List ℕ) : Type 0 where
   pub lines : List (List ℕ)
   pub reads : Reads text lines
@@ -128,7 +128,7 @@ skips_then test a b of_a of_b = record {
   other = list_all-append (λ (line : List ℕ). not (begins test line)) of_a.lines of_b.lines ∙ and_from _ _ of_a.other of_b.other;
 }
 
--- the part of a line that is read already
+-- the part of a line that was read already
 abbrev is_start : List ℕ → Bool
 is_start [] = true
 is_start (first ∷ line) = false
@@ -184,13 +184,13 @@ skips_from test (x ∷ text) line within other none end = elim (cases_Bool (x ==
     parts : (not (is_start line && test x) ≡ true) × (none_begins test (x == 10) text ≡ true)
     parts = both_true (not (is_start line && test x)) (none_begins test (x == 10) text) none
 
--- a text of which this is tested
+-- a text for which this was checked
 pub skips : (test : ℕ → Bool) (text : List ℕ) → none_begins test true text ≡ true → one_begins_behind true text ≡ true → Skips test text
 skips test text none end =
     let found = skips_from test text [] refl refl none end in
     record { lines = found.lines; reads = found.reads; other = found.other }
 
--- the tests pass over pieces within a line
+-- the checks skip pieces within a line
 pub none_within : (test : ℕ → Bool) (piece text : List ℕ) → IsWithin piece → none_begins test false text ≡ true → none_begins test false (piece ++ text) ≡ true
 none_within test [] text within none = none
 none_within test (x ∷ piece) text within none =

@@ -1,4 +1,4 @@
--- How variables are made: words byte by byte, which of them stand earlier, and the numbers behind these.
+-- How variables are made: words byte by byte, which of them occur earlier, and the numbers after these.
 use Rattle.std.proofs.Common.{ℕ, ◌≡◌, ◌<◌, ◌≤◌, ◌+◌, ◌++◌, ◌==◌, ◌∙◌, ◌&&◌, ◌||◌, ◌⊎◌, AllPairs, Bool, true, false, List, [], ◌∷◌, Option, Some, None}
 use Rattle.std.proofs.Common.{add-one, ap, append_assoc, arith, cond, get_or, inl, inr, is_some, length, map, position, refl, subst, suc, sym, take, zero}
 use Rattle.std.specs.Prelude.{if◌then◌else◌, nat_lt, slice_get}
@@ -21,7 +21,7 @@ use Rattle.cqf_program_tc.specs.Taken.{AreTaken, is_taken_at}
 use Rattle.cqf_program_tc.specs.Variables.{has_word_before, is_link_taken, is_stream_taken, link_variable, numbered, stream_variable}
 use Rattle.cqf_program_tc.specs.Variables.{variable_at, word_byte, word_of, word_of_link, word_of_stream}
 
--- one byte more of a name
+-- one more byte of a name
 pub word_more : (initial before after name : List ℕ) (k d byte : ℕ) → k < length name → before ≡ initial ++ word_of (take k name) →
     after ≡ before ++ byte ∷ [] → byte ≡ word_byte (get_or name k d) → after ≡ initial ++ word_of (take (k + 1) name)
 word_more initial before after name k d byte inside so_far more is =
@@ -30,7 +30,7 @@ word_more initial before after name k d byte inside so_far more is =
     ∙ ap (λ (rest : List ℕ). initial ++ rest)
     (sym (ap word_of (take_more name k d inside) ∙ map-append word_byte (take k name) (get_or name k d ∷ [])))
 
--- one word more of some things
+-- one more word in a list of words
 pub words_more : {X : Type 0} (word : X → List ℕ) (xs : List X) (k : ℕ) (d : X) (before after : List (Vec ℕ Global)) (last : Vec ℕ Global) →
     k < length xs → lists_of before ≡ map word (take k xs) → after ≡ before ++ last ∷ [] → last.items ≡ word (get_or xs k d) →
     lists_of after ≡ map word (take (k + 1) xs)
@@ -40,7 +40,7 @@ words_more {X} word xs k d before after last inside so_far more is =
     ∙ ap (λ (end : List ℕ). map word (take k xs) ++ end ∷ []) is
     ∙ sym (ap (map word) (take_more xs k d inside) ∙ map-append word (take k xs) (get_or xs k d ∷ []))
 
--- what stands under the words so far, and which of them are taken
+-- the index that is kept for each word so far, and which of the words are taken
 pub record AreTakenUpTo (words : List (Vec ℕ Global)) (under : List ℕ → Option ℕ) (taken : List Bool) (count : ℕ) : Type 0 where
   pub leads : (name : List ℕ) → under name ≡ position (λ (word : Vec ℕ Global). is_text word.items name) (take count words)
   pub one_each : length taken ≡ count
@@ -60,7 +60,7 @@ taken_all words under taken count all are =
     let many : length (lists_of words) ≡ length words = length-map words (λ (w : Vec ℕ Global). w.items) in
     record { one_each = are.one_each ∙ all ∙ sym many; each = λ place below. are.each place (omega (arith, below, all, many)) }
 
--- whether a word is known is whether it's taken
+-- a word is known if and only if it is taken
 pub known_is_taken : (words : List (Vec ℕ Global)) (under : List ℕ → Option ℕ) (k : ℕ) (word : Vec ℕ Global) → k < length words →
     word ≡ get_or words k word → ((name : List ℕ) → under name ≡ position (λ (w : Vec ℕ Global). is_text w.items name) (take k words)) →
     is_some (under word.items) ≡ is_taken_at (lists_of words) k
@@ -73,7 +73,7 @@ known_is_taken words under k word inside is leads =
     ∙ ap (list_any (λ (other : List ℕ). is_text other word.items)) (sym (take-map items k words))
     ∙ ap (λ (text : List ℕ). list_any (λ (other : List ℕ). is_text other text) (take k (lists_of words))) (sym own)
 
--- one word more
+-- one more word
 pub taken_more : (words : List (Vec ℕ Global)) (under later : List ℕ → Option ℕ) (before after : List Bool) (k : ℕ) (mark : Bool) →
     AreTakenUpTo words under before k → ((name : List ℕ) → later name ≡ position (λ (w : Vec ℕ Global). is_text w.items name) (take (k + 1) words)) →
     after ≡ before ++ mark ∷ [] → mark ≡ is_taken_at (lists_of words) k → AreTakenUpTo words later after (k + 1)
@@ -90,7 +90,7 @@ taken_more words under later before after k mark so_far leads more is = record {
         let same : place ≡ k = omega (arith, below, high) in
         get_or_push before mark false place (omega (arith, same, so_far.one_each)) ∙ is ∙ ap (is_taken_at (lists_of words)) (sym same)
 
--- of mapped things a word is taken where one before has the same
+-- for mapped elements a word is taken if an earlier element has the same word
 taken_of_map : {X : Type 0} (word : X → List ℕ) (xs : List X) (k : ℕ) (x : X) → k < length xs → x ≡ get_or xs k x →
     is_taken_at (map word xs) k ≡ list_any (λ (other : X). is_text (word other) (word x)) (take k xs)
 taken_of_map {X} word xs k x inside is =
@@ -99,7 +99,7 @@ taken_of_map {X} word xs k x inside is =
     ∙ ap (list_any (λ (other : List ℕ). is_text other (word x))) (take-map word k xs)
     ∙ list_any-map (λ (other : List ℕ). is_text other (word x)) word (take k xs)
 
--- a test that holds of none from a place on, and else is another
+-- a test that fails for all from an index on, and before it agrees with another test
 any_front : {X : Type 0} (p q : X → Bool) (xs : List X) (k : ℕ) →
     ((i : ℕ) (d : X) → i < length xs → i < k → p (get_or xs i d) ≡ q (get_or xs i d)) →
     ((i : ℕ) (d : X) → i < length xs → k ≤ i → p (get_or xs i d) ≡ false) → list_any p xs ≡ list_any q (take k xs)
@@ -113,7 +113,7 @@ any_front p q (x ∷ xs) (suc k) same none =
     ∙ ap (λ (b : Bool). q x || b) (any_front p q xs k (λ i d inside low. same (suc i) d (omega (arith, inside)) (omega (arith, low)))
     (λ i d inside high. none (suc i) d (omega (arith, inside)) (omega (arith, high))))
 
--- among rows of ascending numbers those of a lower one are those before
+-- among rows with ascending numbers, those with a lower number are those before
 rows_before : (rows : List Row) (k : ℕ) (row : Row) → AllPairs (λ (a b : Row). a.no < b.no) rows → k < length rows → row ≡ get_or rows k row →
     is_stream_taken rows row ≡ list_any (λ (other : Row). is_text (word_of_stream other) (word_of_stream row)) (take k rows)
 rows_before rows k row ascending inside is =
@@ -140,7 +140,7 @@ rows_before rows k row ascending inside is =
         let equal : (get_or rows i d).no ≡ row.no = ap (λ (n : ℕ). (get_or rows n d).no) same ∙ ap (λ (r : Row). r.no) (here d) in
         omega (arith, equal)
 
--- the word at a place, and the mark
+-- the word at an index, and the mark
 pub word_there : (words : List (Vec ℕ Global)) (place : ℕ) (text : List ℕ) (word : Vec ℕ Global) → place < length words →
     text ≡ (get_or words place word).items → text ≡ get_or (lists_of words) place []
 word_there words place text word inside is = is ∙ sym (get_or-map (λ (w : Vec ℕ Global). w.items) words place word [] inside)
@@ -148,14 +148,14 @@ word_there words place text word inside is = is ∙ sym (get_or-map (λ (w : Vec
 pub mark_there : (taken : List Bool) (place : ℕ) (mark : Bool) → place < length taken → mark ≡ get_or taken place mark → mark ≡ get_or taken place false
 mark_there taken place mark inside there = there ∙ get_or_default taken place mark false inside
 
--- there are as many words and marks as things
+-- there are as many words and marks as elements
 pub many_words : {X : Type 0} (word : X → List ℕ) (xs : List X) (words : List (Vec ℕ Global)) → lists_of words ≡ map word xs → length words ≡ length xs
 many_words word xs words are = sym (length-map words (λ (w : Vec ℕ Global). w.items)) ∙ ap length are ∙ length-map xs word
 
 pub many_marks : (words : List (Vec ℕ Global)) (taken : List Bool) → AreTaken (lists_of words) taken → length taken ≡ length words
 many_marks words taken are = are.one_each ∙ length-map words (λ (w : Vec ℕ Global). w.items)
 
--- the link of a number, in its list
+-- the link with a number, in its list
 pub link_here : (d : Domain) (k : ℕ) (link : Link) → slice_get d.links k ≡ Some link → link ≡ get_or d.links k link
 link_here d k link there = elim ((slice_get_cases d.links k).1) [
   | inl h ↦
@@ -190,7 +190,7 @@ link_named_so d words taken k place link word variable mark are marked at there 
     made ∙ ap (λ (text : List ℕ). numbered text mark k) own ∙ ap (λ (b : Bool). numbered (word_of_link d link) b k) told
     ∙ sym (ap (λ (found : Option Link). option_map_or (λ (l : Link). numbered (word_of_link d l) (is_link_taken d k l) k) found []) there)
 
--- and one that is of a stream
+-- and a variable that was made for a stream is the stream's
 pub stream_named_so : (rows : List Row) (words : List (Vec ℕ Global)) (taken : List Bool) (k : ℕ) (row : Row) (word variable : List ℕ) (mark : Bool) →
     AllPairs (λ (a b : Row). a.no < b.no) rows → lists_of words ≡ map word_of_stream rows → AreTaken (lists_of words) taken → k < length rows →
     row ≡ get_or rows k row → word ≡ get_or (lists_of words) k [] → mark ≡ get_or taken k false → variable ≡ numbered word mark row.no →

@@ -1,11 +1,11 @@
--- What holds where nothing passes a test carries over the numbers that don't pass, up to the next that does.
+-- What holds across the numbers that fail a test holds up to the next number that passes.
 use Rattle.std.proofs.Common.{ℕ, zero, suc, ◌≡◌, ◌∙◌, ◌<◌, ◌≤◌, ◌+◌, ◌++◌, ◌⊎◌, Bool, true, false, List, [], ◌∷◌, if◌then◌else◌, inl, inr}
 use Rattle.std.proofs.Common.{ap, append-nil, arith, get_or, length, length-append, refl, subst, sym}
 use Rattle.std.proofs.lemmas.Bool.{cases_lt}
 use Rattle.std.proofs.lemmas.List.{get_or_append_left, get_or_default, get_or_past, get_or_push}
 use Rattle.cqf_lists.proofs.Numbers.{kept_below}
 
--- behind so many numbers of a list
+-- the number after the first i of a list
 abbrev pub behind : List ℕ → ℕ → ℕ
 behind xs zero = 0
 behind xs (suc i) = suc (get_or xs i 0)
@@ -19,7 +19,7 @@ behind_last xs n zero more within = absurd (omega (arith, more))
 behind_last xs n (suc i) more within = ap suc (get_or_push xs n 0 i (omega (arith, more, within, length-append xs (n ∷ []))))
 
 module _ (P : ℕ → Type 0) where
-  -- with a number more that passes
+  -- with one more number that passes
   one_passes : (xs : List ℕ) (n i : ℕ) → i ≤ length (xs ++ n ∷ []) → (i ≤ length xs → P (behind xs i) → P (get_or xs i n)) →
       P (behind (xs ++ n ∷ []) i) → (i < length xs) ⊎ (length xs ≤ i) → P (get_or (xs ++ n ∷ []) i (suc n))
   one_passes xs n i within carried there (inl low) =
@@ -34,7 +34,7 @@ module _ (P : ℕ → Type 0) where
         (carried less (subst P (behind_front xs (n ∷ []) i less) there))
   ]
 
-  -- with one that doesn't
+  -- with one more number that fails
   none_passes : (xs : List ℕ) (n i : ℕ) → i ≤ length xs → (P (behind xs i) → P (get_or xs i n)) → (P n → P (suc n)) → P (behind xs i) →
       (i < length xs) ⊎ (length xs ≤ i) → P (get_or xs i (suc n))
   none_passes xs n i within carried idle there (inl low) = subst P (get_or_default xs i n (suc n) low) (carried there)
@@ -51,7 +51,7 @@ module _ (P : ℕ → Type 0) where
       subst (λ (l : List ℕ). P (get_or l i (suc n))) (sym same)
       (none_passes xs n i inside (carried inside) (idle refl) (subst (λ (l : List ℕ). P (behind l i)) same there) (cases_lt i (length xs)))
 
-  -- from behind a number that passes to the next that does, or to the end
+  -- from just after a number that passes to the next one that passes, or to the end
   pub to_next : (test : ℕ → Bool) (n i : ℕ) → ((k : ℕ) → k < n → test k ≡ false → P k → P (suc k)) → i ≤ length (kept_below test n) →
       P (behind (kept_below test n) i) → P (get_or (kept_below test n) i n)
   to_next test zero zero idle within there = there

@@ -1,4 +1,4 @@
--- Places noted at bridges.
+-- Indices noted at bridges.
 use Rattle.std.proofs.Common.{ℕ, zero, suc, ◌≡◌, ◌∙◌, ◌<◌, ◌≤◌, ◌+◌, ◌-◌, ◌++◌, ◌==◌, ◌||◌, Bool, true, false, List, [], ◌∷◌, Some, Option}
 use Rattle.std.proofs.Common.{add-one, ap, append-nil, arith, get_or, inl, inr, length, refl, subst, sym}
 use Rattle.std.specs.Prelude.{find, if◌then◌else◌, is_some, slice_get}
@@ -19,7 +19,7 @@ use Rattle.cqf_model.specs.declared.topology.Row.{Row}
 use Rattle.cqf_model.specs.Domain.{Domain, leaves}
 use Rattle.cqf_program_tc.specs.Rows.{AreBelow, IsNoted, IsNotedBy, is_last, leaves_bridge, places_below, places_in, with_place}
 
--- with no place noted
+-- with no index noted
 abbrev pub no_place : ℕ → List ℕ
 no_place bridge = []
 
@@ -30,11 +30,11 @@ below_none d rows lists count all are = record {
   each = λ bridge none below. are.each bridge none (omega (arith, below, all));
 }
 
--- there are as many lists as are seen
+-- the view has the same number of lists
 pub length-places : (lists : List (Vec ℕ Global)) → length (places_in lists) ≡ length lists
 length-places lists = length-map lists (λ (places : Vec ℕ Global). places.items)
 
--- the last of some places
+-- the last of these indices
 pub is_last-at : (place : ℕ) (places : List ℕ) →
     is_last place places ≡ option_map_or (λ (last : ℕ). last == place) (slice_get places (length places - 1)) false
 is_last-at place [] = refl
@@ -51,12 +51,12 @@ is_last-push place [] last = refl
 is_last-push place (first ∷ []) last = refl
 is_last-push place (first ∷ second ∷ rest) last = is_last-push place (second ∷ rest) last
 
--- a place isn't among those below it
+-- an index isn't among those below it
 not_last : (test : ℕ → Bool) (n place : ℕ) → n ≤ place → is_last place (kept_below test n) ≡ false
 not_last test zero place low = refl
 not_last test (suc n) place low = by (test n) (not_last test n place (omega (arith, low)))
   where
-    -- by whether the number before it is kept
+    -- whether the number before it is kept
     by : (b : Bool) → is_last place (kept_below test n) ≡ false → is_last place (kept_below test n ++ (if b then n ∷ [] else [])) ≡ false
     by true before = is_last-push place (kept_below test n) n ∙ ne_eqb n place (λ same. omega (arith, low, same))
     by false before = ap (is_last place) (append-nil (kept_below test n)) ∙ before
@@ -70,7 +70,7 @@ module _ (lists : List (Vec ℕ Global)) (at bridge : ℕ) (list d : Vec ℕ Glo
       ∙ get_or-map (λ (places : Vec ℕ Global). places.items) lists at d none below
       ∙ ap (λ (places : Vec ℕ Global). places.items) (sym there)
 
-  -- with a place that is its last nothing is noted
+  -- if the index is its last one, nothing is noted
   pub noted_before : (place : ℕ) → is_last place list.items ≡ true → IsNoted (places_in lists) (places_in lists) bridge place
   noted_before place last = record {
     one_each = refl;
@@ -80,7 +80,7 @@ module _ (lists : List (Vec ℕ Global)) (at bridge : ℕ) (list d : Vec ℕ Glo
     others = λ other none apart. refl;
   }
 
-  -- and else it is put behind them
+  -- else the index is appended
   pub noted_now : (place : ℕ) (after : List (List ℕ)) → is_last place list.items ≡ false → AddsTo (places_in lists) after bridge place →
       IsNoted (places_in lists) after bridge place
   noted_now place after last adds = record {
@@ -102,7 +102,7 @@ noted_by_none d link place lists past = record {
       sym (cond-false (leaves d link bridge) (with_place place here) here none_leaves);
 }
 
--- and else one bridge alone
+-- any other link leaves only one bridge
 pub noted_by_link : (d : Domain) (link place : ℕ) (l : Link) (before after : List (List ℕ)) → slice_get d.links link ≡ Some l →
     l.from < length before → IsNoted before after l.from place → IsNotedBy d link place before after
 noted_by_link d link place l before after there inside noted = record {
@@ -121,7 +121,7 @@ noted_by_link d link place l before after there inside noted = record {
       ];
 }
 
--- whether one of some hops leaves a bridge
+-- whether one of these hops leaves a bridge
 abbrev pub some_leaves : Domain → ℕ → List Hop → Bool
 some_leaves d bridge hops = list_any (λ (hop : Hop). leaves d hop.link bridge) hops
 
@@ -129,12 +129,12 @@ any_found : {X : Type 0} (test : X → Bool) (xs : List X) → list_any test xs 
 any_found test [] = refl
 any_found {X} test (x ∷ xs) = by (test x) (any_found test xs)
   where
-    -- the first, or one of the others
+    -- the first hop, or one of the others
     by : (b : Bool) → list_any test xs ≡ is_some (find test xs) → (b || list_any test xs) ≡ is_some (if b then Some x else find test xs)
     by true others = refl
     by false others = others
 
--- the places of the rows before, and the next where one of these hops leaves a bridge
+-- the indices of the rows before, and the next index if one of these hops leaves a bridge
 pub record AreUpTo (d : Domain) (rows : List Row) (place : ℕ) (hops : List Hop) (lists : List (List ℕ)) : Type 0 where
   pub one_each : length lists ≡ length d.bridges
   pub each : (bridge : ℕ) (none : List ℕ) → bridge < length d.bridges →
@@ -146,7 +146,7 @@ up_to_none d rows place lists are = record {
   each = λ bridge none below. are.each bridge none below ∙ sym (append-nil (places_below d rows bridge place));
 }
 
--- a place is noted once
+-- an index is noted once
 noted_once : (place : ℕ) (before : List ℕ) (noted leaving : Bool) → is_last place before ≡ false →
     (if leaving then with_place place (before ++ (if noted then place ∷ [] else [])) else before ++ (if noted then place ∷ [] else []))
     ≡ before ++ (if noted || (leaving || false) then place ∷ [] else [])
@@ -178,7 +178,7 @@ up_to_more d rows place hops more hop before after is noted are = record {
       ∙ ap (λ (b : Bool). so_far ++ (if b then place ∷ [] else [])) (sym any);
 }
 
--- with all hops of the row the places are those of one row more
+-- with all hops of the row, the indices are those of one more row
 pub below_more : (d : Domain) (rows : List Row) (place : ℕ) (row : Row) (lists : List (List ℕ)) → slice_get rows place ≡ Some row →
     AreUpTo d rows place row.tree.items lists → AreBelow d rows (place + 1) lists
 below_more d rows place row lists there are = record {

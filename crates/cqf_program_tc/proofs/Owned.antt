@@ -1,4 +1,4 @@
--- Links that have a guard time of their own.
+-- Links that have a guard band of their own.
 use Rattle.std.proofs.Common.{◌≡◌, ◌∙◌, ◌+◌, ◌<◌, ◌++◌, ◌||◌, ℕ, Bool, true, false, List, [], Option, Some, None, ap, ap₂, arith, codes, get_or, if◌then◌else◌, inl, inr}
 use Rattle.std.proofs.Common.{length, refl, slice_get, subst, sym, take}
 use Rattle.std.specs.List.{list_any}
@@ -13,11 +13,11 @@ use Rattle.cqf_model.specs.Network.{compiled_lists}
 use Rattle.cqf_program_tc.specs.Bridge.{has_own_guard, list_of_own, own_list}
 use Rattle.cqf_program_tc.specs.Words.{tx_words}
 
--- whether the link of a number does
+-- whether the link with this number has one
 abbrev pub owns : List Link → ℕ → Bool
 owns links l = option_map_or has_own_guard (slice_get links l) false
 
--- one that does is a link
+-- a link that has one is a link of the domain
 pub owner_inside : (links : List Link) (l : ℕ) → owns links l ≡ true → l < length links
 owner_inside links l own =
     elim (slice_get_cases links l).1 [
@@ -34,7 +34,7 @@ list_of_owner d l own = by (slice_get d.links l) own
     by None e = absurd (cc)
     by (Some link) e = ap (λ (b : Bool). if b then codes " \"" ++ (tx_words (port_list d.cycle_time (guard_by d.guard link)) ++ codes "\"") else []) e
 
--- and those of another aren't
+-- and those of another link aren't
 pub no_list_of_other : (d : Domain) (l : ℕ) → owns d.links l ≡ false → own_list d l ≡ []
 no_list_of_other d l other = by (slice_get d.links l) other
   where
@@ -42,7 +42,7 @@ no_list_of_other d l other = by (slice_get d.links l) other
     by None e = refl
     by (Some link) e = ap (λ (b : Bool). if b then codes " \"" ++ (tx_words (port_list d.cycle_time (guard_by d.guard link)) ++ codes "\"") else []) e
 
--- where the links so far have none, and the next has none
+-- if the links so far have none, and the next one has none
 pub none_so_far : (links : List Link) (k : ℕ) → k < length links → owns links k ≡ false → list_any has_own_guard (take k links) ≡ false →
     list_any has_own_guard (take (k + 1) links) ≡ false
 none_so_far links k inside other so_far =
@@ -53,7 +53,7 @@ none_so_far links k inside other so_far =
       | inr w ↦ absurd (omega (arith, inside, w.0))
     ]
 
--- and where one has one, some link has
+-- and if one has one, some link has
 pub some_has : (links : List Link) (k : ℕ) → owns links k ≡ true → list_any has_own_guard links ≡ true
 some_has links k own =
     elim (slice_get_cases links k).1 [

@@ -1,4 +1,4 @@
--- What an output is told from is ready, whoever has it.
+-- A ready plan stays ready if its parts are replaced by equal ones.
 use Rattle.std.proofs.Common.{ℕ, ◌≡◌, List, subst, sym}
 use Rattle.std.specs.Global.{Global}
 use Rattle.std.specs.declared.vec.Vec.{Vec}

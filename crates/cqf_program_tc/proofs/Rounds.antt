@@ -15,11 +15,11 @@ use Rattle.std.proofs.Math.Nat.{add-mod-mod, div-add-mod, mod_self, mul-add-mod_
 use Rattle.cqf_program_tc.specs.Laws.{InstantsFit, IsNextMultiple, ListsBeginAnew, begins_from}
 use Rattle.cqf_program_tc.specs.Text.{rounds_in}
 
--- the cycles of a gate whose stream pauses so long go into 80, unless those of its pace don't
+-- the cycles of a gate with a stream of this pause divide 80, if those of its pace do
 abbrev goes_into : ℕ → Bool
 goes_into pause = not (most_every % (pause + 1) == 0) || (most_every % gate_cycles (record { pause = pause; phase = 0 }) == 0)
 
--- so it is of all that pause less than so long
+-- the same for all shorter pauses
 abbrev all_below : ℕ → Bool
 all_below zero = true
 all_below (suc n) = goes_into n && all_below n
@@ -33,11 +33,11 @@ one_below (suc n) k less e =
       | inr other ↦ one_below n k (omega (arith, less, other)) parts.1
     ]
 
--- all there are were looked at
+-- all possible pauses were checked
 every_one : all_below 80 ≡ true
 every_one = refl
 
--- the cycles of a gate go into 80
+-- the cycles of a gate divide 80
 into_all : (pace : Pace) → most_every % (pace.pause + 1) ≡ 0 → most_every % gate_cycles pace ≡ 0
 into_all pace divides =
     let few : pace.pause + 1 ≤ 80 = le_of_dvd (omega arith) (dvd_of_mod-eq-zero (pace.pause + 1) divides) in
@@ -46,7 +46,7 @@ into_all pace divides =
     by : (rest : ℕ) → rest ≡ 0 → (not (rest == 0) || (most_every % gate_cycles pace == 0)) ≡ true → most_every % gate_cycles pace ≡ 0
     by rest none e = eqb-true (most_every % gate_cycles pace) 0 (ap (λ (n : ℕ). not (n == 0) || (most_every % gate_cycles pace == 0)) (sym none) ∙ e)
 
--- where none pauses, this one doesn't
+-- if no stream pauses, this one doesn't
 never : (rows : List Row) (row : Row) → Contains rows row → list_any pauses rows ≡ false → row.pace.pause ≡ 0
 never rows row there none = by (row.pace.pause == 0) refl
   where

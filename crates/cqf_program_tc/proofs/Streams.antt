@@ -1,4 +1,4 @@
--- The streams of a bridge, one more with each step, and what is noted of the ways by which they come.
+-- The streams of a bridge, one more at each step, and what is noted of the ways by which they arrive.
 use Rattle.std.proofs.Common.{ℕ, ◌≡◌, ◌<◌, ◌+◌, ◌++◌, ◌==◌, ◌∙◌, ◌||◌, Bool, true, false, not, List, [], ◌∷◌, Option}
 use Rattle.std.proofs.Common.{Some, None, add-one, ap, arith, cond, eq-eqb, get_or, inl, inr, length, refl, set, subst}
 use Rattle.std.proofs.Common.{sym, take}
@@ -18,7 +18,7 @@ use Rattle.cqf_program_tc.specs.Bridge.{comes_by, is_new, stream_at}
 use Rattle.cqf_compile.specs.BridgeGates.{first_hop}
 use Rattle.cqf_program_tc.specs.Ways.{IsSeenWay, NotesWay, is_unseen}
 
--- the row at a place of a loop, and the rows up to it
+-- the row at an index of a loop, and the rows up to it
 pub row_at : (rows : List Row) (k : ℕ) (row : Row) → k < length rows → row ≡ get_or rows k row →
     (slice_get rows k ≡ Some row) × (take (k + 1) rows ≡ take k rows ++ row ∷ [])
 row_at rows k row inside is = (
@@ -26,7 +26,7 @@ row_at rows k row inside is = (
   take_more rows k row inside ∙ ap (λ (x : Row). take k rows ++ x ∷ []) (sym is),
 )
 
--- one more text behind those so far
+-- one more text after those so far
 pub stream_more : (text : List Row → Row → List ℕ) (rows : List Row) (k : ℕ) (row : Row) → slice_get rows k ≡ Some row →
     each_below (stream_at text rows) (k + 1) ≡ each_below (stream_at text rows) k ++ text (take k rows) row
 stream_more text rows k row there =
@@ -41,7 +41,7 @@ unequal : (b : Bool) → b ≡ true → b ≡ false → ⊥
 unequal true one other = cc
 unequal false one other = cc
 
--- nothing more is noted where a stream comes from its talker, and where it comes by a link that alone
+-- a stream that arrives from its talker notes nothing; one that arrives over a link notes only that link
 pub notes_none : (seen : List Bool) → NotesWay seen None seen
 notes_none seen = record { size = refl; each = λ link low. refl }
 
@@ -85,7 +85,7 @@ module _ (d : Domain) (bridge : ℕ) (before : List Row) (row : Row) (seen : Lis
         ∙ sym (list_any-append p before (row ∷ []));
   }
 
-  -- one that doesn't leave it isn't
+  -- a stream that doesn't leave it isn't noted
   pub seen_same : first_hop d bridge row ≡ None → IsSeenWay d bridge (before ++ row ∷ []) seen
   seen_same there = record {
     size = now.size;
@@ -98,7 +98,7 @@ module _ (d : Domain) (bridge : ℕ) (before : List Row) (row : Row) (seen : Lis
         ∙ sym (list_any-append p before (row ∷ []));
   }
 
-  -- a way is new where it isn't noted
+  -- a way is new if it isn't noted
   pub new_where_unseen : (way : Option ℕ) → ((link : ℕ) → way ≡ Some link → link < 65536) → is_unseen seen way ≡ is_new d bridge before way
   new_where_unseen None range = refl
   new_where_unseen (Some link) range = ap not (now.each link (range link refl))

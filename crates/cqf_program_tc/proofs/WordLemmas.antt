@@ -38,7 +38,7 @@ use Rattle.cqf_program_tc.specs.Text.{common_words}
 use Rattle.cqf_program_tc.specs.Words.{before_others, closed_words, entry_words, list_words, octets_of_word, open_words}
 use Rattle.cqf_program_tc.specs.Words.{gate_of_parts, gate_of_words, gate_words, in_front, lines_of_words, parted, tx_of_words, tx_words}
 
--- a byte that may stand in a word
+-- a byte that may occur in a word
 abbrev is_in_word : ℕ → Bool
 is_in_word byte = not (byte == 32)
 
@@ -50,7 +50,7 @@ both_true : (a b : Bool) → (a && b) ≡ true → (a ≡ true) × (b ≡ true)
 both_true true b h = (refl, h)
 both_true false b h = cc
 
--- a word, and what stands behind it, where that begins with a space or is nothing
+-- a word, followed by something that begins with a space or is empty
 parted_behind : (word rest : List ℕ) (words : List (List ℕ)) → list_all is_in_word word ≡ true → parted rest ≡ [] ∷ words → parted (word ++ rest) ≡ word ∷ words
 parted_behind [] rest words h e = e
 parted_behind (byte ∷ word) rest words h e =
@@ -94,7 +94,7 @@ tx_words-push (first ∷ entries) entry =
     ap (λ (rest : List ℕ). codes " sched-entry S " ++ (line_of_gates first ++ rest)) (tx_words-push entries entry)
     ∙ ap (λ (rest : List ℕ). codes " sched-entry S " ++ rest) (sym (append_assoc (line_of_gates first) (tx_words entries) more))
 
--- those of the first entries of a list and the next one
+-- the words of the first entries of a list and of the next one
 pub tx_words-more : (entries : List Entry) (k : ℕ) (d : Entry) → k < length entries →
     tx_words (take (k + 1) entries) ≡ tx_words (take k entries) ++ (codes " sched-entry S " ++ line_of_gates (get_or entries k d))
 tx_words-more entries k d inside = ap tx_words (take_more entries k d inside) ∙ tx_words-push (take k entries) (get_or entries k d)
@@ -152,7 +152,7 @@ gate_parted cycle_time small =
     (ap (λ (words : List (List ℕ)). [] ∷ codes "6" ∷ codes "\"$5\"" ∷ codes "sched-entry" ∷ codes "open" ∷ words) second) in
     ap (λ (words : List (List ℕ)). [] ∷ codes "sched-entry" ∷ codes "open" ∷ words) first
 
--- and those of a gate as its list, with the octets that the parameter has
+-- and those of a gate as its list, with the parameter's octets
 pub gate_again : (cycle_time octets : ℕ) → cycle_time < 2 ^ 32 → gate_of_words octets (gate_words cycle_time) ≡ Some (reserved_spans cycle_time octets each_cycle 0)
 gate_again cycle_time octets small =
     ap (λ (words : List (List ℕ)). gate_of_parts octets (drop 1 words)) (gate_parted cycle_time small)
@@ -166,7 +166,7 @@ plain_spans n octets pace depth none =
     ++ (open_in n octets turn ∷ ((if (pause + 1) % 2 == 0 then [] else closed_for n pause ++ open_in n octets (turn + (pause + 1)) ∷ []) ++ closed_for n (pause - turn))) in
     ap (λ pause. spans pause ((pace.phase + depth) % (pause + 1))) none ∙ ap (spans 0) (mod-one (pace.phase + depth))
 
--- an entry of an octet maximum, and its words, where it is closed or isn't
+-- an entry with an octet maximum, and its words, whether it is closed or not
 abbrev limited : ℕ → ℕ → ℕ → StreamEntry
 limited value time most = record { ipv = value; interval = time; octet_max = Some most }
 
@@ -239,7 +239,7 @@ one_again false octets value time most more is good =
     ∙ ap (λ (number : Option ℕ). before_others (told (Some time) number (octets_of_word octets (decimal most))) others) (decimal_read value good.value_small)
     ∙ ap (λ (number : Option ℕ). before_others (told (Some time) (Some value) number) others) (octets_read octets most good.most_small)
 
--- entries that are read as themselves, before others
+-- entries that are read back unchanged, before others
 record AreRead (entries : List StreamEntry) : Type 0 where
   pub parts : List (List ℕ)
   pub parting : (rest : List ℕ) (more : List (List ℕ)) → parted rest ≡ [] ∷ more → parted (list_words entries ++ rest) ≡ [] ∷ (parts ++ more)
@@ -281,14 +281,14 @@ both_read a b of_a of_b = record {
       ∙ ap Some (sym (append_assoc a b others));
 }
 
--- the words of the first entries of a list and the next one
+-- the words of the first entries of a list and of the next one
 pub list_words-more : (entries : List StreamEntry) (k : ℕ) (d : StreamEntry) → k < length entries →
     list_words (take (k + 1) entries) ≡ list_words (take k entries) ++ entry_words (get_or entries k d)
 list_words-more entries k d inside =
     ap list_words (take_more entries k d inside) ∙ words_then (take k entries) (get_or entries k d ∷ [])
     ∙ ap (λ (text : List ℕ). list_words (take k entries) ++ text) (append-nil (entry_words (get_or entries k d)))
 
--- the spans of a reservation are
+-- so are the spans of a reservation
 closed_read : (n cycles : ℕ) → cycles * n < 2 ^ 32 → AreRead (closed_for n cycles)
 closed_read n cycles small = by_test (cycles == 0)
   where
@@ -341,7 +341,7 @@ each_of_four : (P : Entry → Type 0) (a b c e : Entry) → P a → P b → P c 
 each_of_four P a b c e on_a on_b on_c on_e =
     All-cons P a (b ∷ c ∷ e ∷ []) on_a (All-cons P b (c ∷ e ∷ []) on_b (All-cons P c (e ∷ []) on_c (All-cons P e [] on_e (All-nil P))))
 
--- the list of a port is one, with numbers in range
+-- the list of a port is read back, with numbers in range
 port_is_list : (cycle_time guard : ℕ) → 0 < guard → guard < cycle_time → IsTxList (port_list cycle_time guard)
 port_is_list cycle_time guard some short =
     let open_time : 0 < cycle_time - guard = omega (arith, short) in
@@ -359,13 +359,13 @@ port_in_range cycle_time guard small short =
     each_of_four (λ (entry : Entry). (entry.0 < 256) × (entry.1 < 2 ^ 32)) (0xBF, cycle_time - guard) (0x00, guard) (0x7F, cycle_time - guard) (0x00, guard)
     (omega arith, open_time) (omega arith, closed_time) (omega arith, open_time) (omega arith, closed_time)
 
--- the words of a list by a guard time are read as it
+-- the words of a list with a guard band are read back as that list
 read_by : (cycle_time guard : ℕ) → cycle_time < 2 ^ 32 → 0 < guard → guard < cycle_time →
     tx_of_words (tx_words (port_list cycle_time guard)) ≡ Some (Ok (port_list cycle_time guard))
 read_by cycle_time guard small some short =
     tx_again (port_list cycle_time guard) (port_is_list cycle_time guard some short) (port_in_range cycle_time guard small short)
 
--- so are those of a link, whether or not it has a guard time of its own
+-- so are those of a link, whether or not it has a guard band of its own
 read_of : (cycle_time guard : ℕ) (time : Option ℕ) → cycle_time < 2 ^ 32 → 0 < unwrap_or time guard → unwrap_or time guard < cycle_time →
     tx_of_words (if is_some time then tx_words (port_list cycle_time (unwrap_or time guard)) else tx_words (port_list cycle_time guard))
     ≡ Some (Ok (port_list cycle_time (unwrap_or time guard)))

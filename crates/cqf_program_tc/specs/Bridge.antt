@@ -1,4 +1,4 @@
--- What a bridge does in the script, line by line.
+-- The function of a bridge in the script, line by line.
 use Rattle.std.specs.Prelude.{ℕ, ◌++◌, ◌==◌, List, [], Bool, true, false, Option, Some, None, codes, decimal}
 use Rattle.std.specs.Prelude.{if◌then◌else◌, is_some, length, not, option_map, slice_get, take}
 use Rattle.std.specs.Option.{option_map_or}
@@ -16,26 +16,26 @@ use Rattle.cqf_program_plans.specs.EndNames.{name_of_end}
 use Rattle.cqf_program_tc.specs.Variables.{link_variable, stream_variable}
 use Rattle.cqf_program_tc.specs.Words.{list_words, tx_words}
 
--- the variable of the interface by which a stream comes, where the stream's own variable is given
+-- the variable of the interface over which a stream arrives, from the stream's own variable
 abbrev pub way_in : Domain → List ℕ → Option ℕ → List ℕ
 way_in d variable None = codes "TALKER_" ++ variable
 way_in d variable (Some link) = codes "IN_" ++ link_variable d link
 
--- whether a stream comes to a bridge by a link
+-- whether a stream arrives at a bridge over a link
 abbrev pub comes_by : Domain → ℕ → ℕ → Row → Bool
 comes_by d bridge link row = option_map_or (λ (hop : Hop). same_way hop.from (Some link)) (first_hop d bridge row) false
 
--- whether none of the streams before comes to the bridge that way. No two come from one talker's interface
+-- whether none of the streams before arrives at the bridge this way; no two streams share a talker's interface
 abbrev pub is_new : Domain → ℕ → List Row → Option ℕ → Bool
 is_new d bridge before None = true
 is_new d bridge before (Some link) = not (list_any (comes_by d bridge link) before)
 
--- the way by which a stream comes to a bridge that it leaves, and whether it's new
+-- the way by which a stream arrives at a bridge that it leaves, and whether that way is new
 abbrev pub way_at : Domain → ℕ → List Row → Row → Option (Option ℕ × Bool)
 way_at d bridge before row = option_map (λ (hop : Hop). (hop.from, is_new d bridge before hop.from)) (first_hop d bridge row)
 
--- the lines that end the script where a variable isn't set or is no good: the variable's name and value, the node that the interface
--- leads to, where it isn't a talker, and what it is
+-- the lines that end the script if a variable isn't set or has a bad value: the variable's name and value, the node to which the interface
+-- leads, empty for a talker, and a description
 abbrev pub out_need : Domain → ℕ → ℕ → List ℕ
 out_need d bridge link =
     codes "    port OUT_"
@@ -65,7 +65,7 @@ way_need d bridge variable row None =
     ++ (codes ":-}\" \"\" \"interface of " ++ (name_of_bridge d bridge ++ (codes " to the talker of " ++ (row.name ++ codes "\"\n")))))))
 way_need d bridge variable row (Some link) = link_need d bridge link
 
--- likewise for the frames of a stream whose gate has this index
+-- the same for the frames of a stream whose gate has this index
 abbrev pub frame_needs : List ℕ → ℕ → Row → List ℕ
 frame_needs variable gate row =
     codes "    frames "
@@ -73,15 +73,15 @@ frame_needs variable gate row =
     ++ (codes " \"${MAC_"
     ++ (variable ++ (codes ":-}\" \"${VLAN_" ++ (variable ++ (codes ":-}\" " ++ (row.name ++ (codes " " ++ (decimal gate ++ codes "\n")))))))))
 
--- the line that takes the gates of an earlier plan off the interface by which a stream comes
+-- the line that removes the gates of an earlier plan from the interface over which a stream arrives
 abbrev pub way_clearing : Domain → List ℕ → Option ℕ → List ℕ
 way_clearing d variable way = codes "    no_gates \"$" ++ (way_in d variable way ++ codes "\"\n")
 
--- whether a link has a guard time of its own, and so a list of its own
+-- whether a link has a guard band of its own, and so a list of its own
 abbrev pub has_own_guard : Link → Bool
 has_own_guard link = is_some link.guard
 
--- the words of the list of a link that has a guard time of its own, as the second parameter of a call; none of another
+-- the words of the list of a link with a guard band of its own, as the second parameter of a call; empty for another link
 abbrev pub list_of_own : Domain → Link → List ℕ
 list_of_own d link =
     if has_own_guard link then codes " \"" ++ (tx_words (port_list d.cycle_time (guard_by d.guard link)) ++ codes "\"") else []
@@ -104,28 +104,29 @@ way_out d bridge hop = if leaves d hop.link bridge then codes " OUT_" ++ link_va
 abbrev pub ways_out : Domain → ℕ → Row → List ℕ
 ways_out d bridge row = flat_map (way_out d bridge) row.tree.items
 
--- whether a stream pauses between two cycles of its own
+-- whether a stream pauses between two of its own cycles
 abbrev pub pauses : Row → Bool
 pauses row = not (row.pace.pause == 0)
 
--- what a call says of a stream's gate before its list: the interface by which the stream comes, the gate's index, and the frames
+-- the parameters of a call before the list of a stream's gate: the interface over which the stream arrives, the gate's index, and the
+-- frames
 abbrev pub gate_target : Domain → List ℕ → ℕ → Option ℕ → List ℕ
 gate_target d variable gate way =
     way_in d variable way
     ++ (codes "\" " ++ (decimal gate ++ (codes " \"$MAC_" ++ (variable ++ (codes "\" \"$VLAN_" ++ (variable ++ codes "\""))))))
 
--- the call that sets the gate of a stream that is offered in each cycle and comes this way, with the octets of its reservation
+-- the call that sets the gate of a stream that is offered in each cycle and arrives this way, with the octets of its reservation
 abbrev pub plain_call : Domain → List ℕ → ℕ → Row → Option ℕ → List ℕ
 plain_call d variable gate row way = codes "    gate \"$" ++ (gate_target d variable gate way ++ (codes " " ++ decimal row.octets))
 
--- and of one that pauses, with its gate's list at the bridge
+-- the same for a stream that pauses, with its gate's list at the bridge
 abbrev pub list_call : Domain → ℕ → List ℕ → ℕ → Row → Option ℕ → List ℕ
 list_call d bridge variable gate row way = codes "    gate_by_list \"$" ++ (gate_target d variable gate way ++ list_words (gate_at d row bridge))
 
 abbrev pub gate_call : Domain → ℕ → List ℕ → ℕ → Row → Option ℕ → List ℕ
 gate_call d bridge variable gate row way = if pauses row then list_call d bridge variable gate row way else plain_call d variable gate row way
 
--- the lines of the stream: by which interfaces it leaves, and its gate
+-- the lines of the stream: the interfaces by which it leaves, and its gate
 abbrev pub stream_lines : Domain → ℕ → List ℕ → ℕ → Row → Option ℕ → List ℕ
 stream_lines d bridge variable gate row way =
     codes "    # stream "
@@ -146,29 +147,29 @@ stream_at text rows place = option_map_or (text (take place rows)) (slice_get ro
 abbrev pub each_stream : (List Row → Row → List ℕ) → List Row → List ℕ
 each_stream text rows = each_below (stream_at text rows) (length rows)
 
--- what a stream needs that isn't needed before it: the interface by which it comes, its frames' destination address and their VLAN
+-- what a stream needs that isn't needed before it: the interface over which it arrives, its frames' destination address and their VLAN
 abbrev pub needs_by : Domain → ℕ → List ℕ → ℕ → Row → (Option ℕ × Bool) → List ℕ
 needs_by d bridge variable gate row way = (if way.1 then way_need d bridge variable row way.0 else []) ++ frame_needs variable gate row
 
--- of all streams these are the rows, and these the indexes of their gates, by number
+-- the needs of a stream at the bridge; rows are the rows of all streams, and gates the indexes of their gates by number
 abbrev pub stream_needs : Domain → (ℕ → ℕ) → List Row → ℕ → List Row → Row → List ℕ
 stream_needs d gates rows bridge before row =
     option_map_or (needs_by d bridge (stream_variable rows row) (gates row.no) row) (way_at d bridge before row) []
 
--- the interface by which it comes is cleared once
+-- each interface over which streams arrive is cleared once
 abbrev pub clearing_by : Domain → List ℕ → (Option ℕ × Bool) → List ℕ
 clearing_by d variable way = if way.1 then way_clearing d variable way.0 else []
 
 abbrev pub stream_clearing : Domain → List Row → ℕ → List Row → Row → List ℕ
 stream_clearing d rows bridge before row = option_map_or (clearing_by d (stream_variable rows row)) (way_at d bridge before row) []
 
--- its lines
+-- the lines of a stream, if it leaves the bridge
 abbrev pub stream_gates : Domain → (ℕ → ℕ) → List Row → ℕ → Row → List ℕ
 stream_gates d gates rows bridge row =
     option_map_or (λ (hop : Hop). stream_lines d bridge (stream_variable rows row) (gates row.no) row hop.from) (first_hop d bridge row) []
 
--- the function of a bridge: each variable once, in the order in which it uses them first, so that a bridge that lacks one is left as
--- it was; the end of what is checked; the interfaces by which streams come, cleared; its links; its streams
+-- the function of a bridge. First it requires each variable once, in the order in which it uses them, so that a bridge that lacks one is
+-- not changed. Then come the end of the checks, the clearing of the interfaces over which streams arrive, its links, and its streams
 abbrev pub bridge_text : Domain → (ℕ → ℕ) → List Row → ℕ → List ℕ
 bridge_text d gates rows bridge =
     codes "bridge_"

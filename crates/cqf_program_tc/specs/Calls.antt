@@ -1,4 +1,4 @@
--- What a script does at a bridge, read back from its lines.
+-- What a script sets at a bridge, read back from its lines.
 use Rattle.std.specs.Prelude.{ℕ, ◌≡◌, ◌<◌, ◌++◌, ◌||◌, Bool, true, List, [], ◌∷◌, codes, decimal, filter, if◌then◌else◌, length, take}
 use Rattle.std.specs.List.{flat_map, list_any}
 use Rattle.std.specs.Option.{option_map_or}
@@ -14,17 +14,17 @@ use Rattle.cqf_program_tc.specs.Bridge.{gate_call, link_call, pauses}
 use Rattle.cqf_program_tc.specs.Variables.{stream_variable}
 use Rattle.cqf_program_tc.specs.Text.{by_list_lines, gate_command, list_command, tc_text, undo_gate, undo_list}
 
--- the lines behind the first that is this one
+-- the lines after the first line equal to this one
 abbrev pub lines_behind : List ℕ → List (List ℕ) → List (List ℕ)
 lines_behind line [] = []
 lines_behind line (first ∷ lines) = if is_text first line then lines else lines_behind line lines
 
--- and those before it
+-- the lines before the first line equal to this one
 abbrev pub lines_before : List ℕ → List (List ℕ) → List (List ℕ)
 lines_before line [] = []
 lines_before line (first ∷ lines) = if is_text first line then [] else first ∷ lines_before line lines
 
--- the line at which a function of the script begins, and its lines: those behind, up to the line `}`
+-- the line at which a function of the script begins; and its lines: those after it, up to the line `}`
 abbrev pub head_of : List ℕ → List ℕ
 head_of name = name ++ codes "() {"
 
@@ -38,15 +38,15 @@ begins_with front line = is_text (take (length front) line) front
 abbrev pub is_call : List ℕ → Bool
 is_call line = begins_with (codes "    link ") line || (begins_with (codes "    gate ") line || begins_with (codes "    gate_by_list ") line)
 
--- what a script calls for at a bridge, in its order
+-- the calls that a script makes at a bridge, in order
 abbrev pub function_of_bridge : ℕ → List ℕ
 function_of_bridge bridge = codes "bridge_" ++ decimal bridge
 
 abbrev pub calls_at : ℕ → List ℕ → List (List ℕ)
 calls_at bridge script = filter is_call (lines_of_function (function_of_bridge bridge) script)
 
--- what is due there: one call for each link that leaves the bridge, by number, and behind these one for each stream that leaves it,
--- with the way by which it comes, and the index that its gate is to have
+-- the calls due at a bridge: one call for each link that leaves it, by number, followed by one call for each stream that leaves it, with
+-- the way by which the stream arrives and the index of its gate
 abbrev pub link_calls : Domain → ℕ → ℕ → List (List ℕ)
 link_calls d bridge link = if leaves d link bridge then link_call d link ∷ [] else []
 
@@ -57,15 +57,15 @@ gate_calls d gates rows bridge row =
 abbrev pub calls_due : Domain → (ℕ → ℕ) → List Row → ℕ → List (List ℕ)
 calls_due d gates rows bridge = each_below (link_calls d bridge) (length d.links) ++ flat_map (gate_calls d gates rows bridge) rows
 
--- the script sets at each bridge what is due there and nothing else; what it calls sets the list that each port is compiled to, and
--- the gate's list with the octets of the call, or, where a stream pauses, the list of the call
+-- the script makes exactly the calls due at each bridge. Its functions set the list to which each port is compiled, and the gate's list
+-- with the octets of the call or, if a stream pauses, the list of the call
 pub record IsScriptOf (d : Domain) (software : Bool) (gates : ℕ → ℕ) (rows : List Row) (script : List ℕ) : Type 0 where
   pub list : lines_of_function (codes "link") script ≡ list_command d software ∷ undo_list ∷ []
   pub gate : lines_of_function (codes "gate") script ≡ gate_command d software ∷ undo_gate ∷ []
   pub by_list : list_any pauses rows ≡ true → lines_of_function (codes "gate_by_list") script ≡ by_list_lines software
   pub calls : (bridge : ℕ) → bridge < length d.bridges → calls_at bridge script ≡ calls_due d gates rows bridge
 
--- the names of nodes and streams have the form of names, so that none is read as a line
+-- in every domain and with rows whose names have the form of names, so that no name is read as a line, the script is such a script
 abbrev pub ScriptsCallWhatIsDue : Type 0
 ScriptsCallWhatIsDue =
     (d : Domain) (software : Bool) (gates : ℕ → ℕ) (rows : List Row) → IsDomain d → HaveNames rows →

@@ -1,5 +1,5 @@
--- The functions of the script that check all before anything is changed, and that take back what was set. They are the
--- same in each script.
+-- The functions of the script that check everything before anything is changed, and that undo what was set. They are the same in each
+-- script.
 use Rattle.std.specs.Prelude.{ℕ, ◌++◌, List, codes}
 
 -- whether one interface may lead to two nodes
@@ -9,7 +9,7 @@ agree_text =
     ++ (codes "    [ \"$1\" != \"$2\" ] || return 0\n    case $bridges in\n    *\" $1 \"* | *\" $2 \"*) return 1 ;;\n    esac\n"
     ++ codes "    [ -z \"$1\" ] || [ -z \"$2\" ]\n}\n\n")
 
--- where the gates are in another chain than 0, only a jump of chain 0 leads to them
+-- if the gates are in a chain other than 0, only a jump in chain 0 leads to them
 abbrev pub jump_text : List ℕ
 jump_text =
     codes "# where CHAIN isn't 0, a filter of chain 0 at the interface $2, which is $1, has to go on to it\njump() {\n"
@@ -17,7 +17,7 @@ jump_text =
     ++ (codes "    $tc filter show dev \"$2\" ingress chain 0 2>/dev/null | grep -Eq \"goto chain $chain( |\\$)\" ||\n"
     ++ codes "        refuse \"$1: no filter of chain 0 at $2 has goto chain $chain, so no frame would come to a gate: add one\"\n}\n\n"))
 
--- an interface is given, is there, and leads to one node
+-- an interface is given, exists, and leads to one node
 abbrev pub port_text : List ℕ
 port_text =
     codes "# the variable $1 has to be the interface $2, which is there and leads to the node $3 and nowhere else: $4\nport() {\n    case $2 in\n"
@@ -29,7 +29,7 @@ port_text =
     ++ (codes "        jump \"$1\" \"$2\"\n        ways=\"$ways $at \" old=\"$old\n$(old_gates \"$2\")\"\n"
     ++ codes "        ;;\n    esac\n}\n\n"))))))
 
--- a stream's frames have an address and a VLAN that no other stream's have
+-- a stream's frames have an address and a VLAN that no other stream's frames have
 abbrev pub frames_text : List ℕ
 frames_text =
     codes "# the frames of stream $4 have to have an address MAC_$1, $2, and a VLAN VLAN_$1, $3, which no other stream has both. Their gate is $5\n"
@@ -43,7 +43,7 @@ frames_text =
     ++ (codes "    *\" $both \"*) refuse \"MAC_$1 and VLAN_$1 are another stream's too: $2 and $3\" ;;\n    esac\n"
     ++ codes "    streams=\"$streams $both \" gates=\"$gates $5\"\n}\n\n"))))))))
 
--- no other filter has a gate that is wanted. The instant at which the lists begin is told, and from here on a failure is taken back
+-- no other filter has a required gate. The instant at which the lists begin is printed, and from here on a failure is undone
 abbrev pub ready_text : List ℕ
 ready_text =
     codes "# no filter but those of an earlier plan may have a gate. From here on, what is set is taken back where a command fails\nready() {\n"
@@ -52,7 +52,7 @@ ready_text =
     ++ (codes "        [ \"${shown%% *}\" = \"$(printf '%s\\n' \"$old\" | grep -c \"^pref $index \")\" ] || refuse \"gate $index belongs to another"
     ++ codes " filter\"\n    done\n    echo \"# BASE is $BASE\"\n    trap take_back EXIT\n    trap 'exit 1' HUP INT TERM\n}\n\n")))
 
--- what this run has set is taken back
+-- what this run has set is undone
 abbrev pub take_back_text : List ℕ
 take_back_text =
     codes "# takes back what this run has set, the last first\ntake_back() {\n    trap '' HUP INT TERM\n    set +e\n"

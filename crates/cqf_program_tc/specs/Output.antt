@@ -1,5 +1,5 @@
--- What the commands `compile --format tc` and `compile --format env` give for their input: the script or the file, or the line of
--- the input's first fault.
+-- The result of the commands `compile --format tc` and `compile --format env` for their input: the script or the variable file, or the line
+-- of the input's first fault.
 use Rattle.cqf_model.specs.declared.limits.Limits.{Limits}
 use Rattle.std.specs.Prelude.{ℕ, ◌≡◌, ◌<◌, ◌++◌, Bool, List, [], Option, Some, None, Result, Ok, Err, codes, length}
 use Rattle.std.specs.Global.{Global}
@@ -26,27 +26,27 @@ use Rattle.cqf_program_tc.specs.Text.{tc_text}
 use Rattle.cqf_program_tc.specs.Variables.{AreNamed}
 use Rattle.cqf_program_tc.specs.Words.{gate_words}
 
--- a domain, the streams that are asked for, and what the input says of links and streams in real bridges
+-- a domain, the requested streams, and the interfaces and addresses of links and streams in real bridges
 pub record Addressed : Type 0 where
   pub domain : Domain
   pub streams : List Asked
   pub interfaces : List LinkInterfaces
   pub addresses : List StreamAddress
 
--- what two texts say of links and of streams
+-- the interfaces of links and the addresses of streams in two texts
 abbrev pub keys_of : Limits → (List ℕ × List ℕ) → Result (List LinkInterfaces × List StreamAddress) (List ℕ)
 keys_of limits parts =
     and_then (or_line interfaces_line (interfaces_of_text parts.0)) (λ interfaces.
     and_then (or_line stream_addresses_line (addresses_of_text limits parts.1)) (λ addresses. Ok (interfaces, addresses)))
 
--- an input with its keys, or the line of the first fault: first those that `compile` finds, then of the keys of links and of streams
+-- an input with its keys, or the line of the first fault: first those that `compile` finds, then those of the keys of links and of streams
 abbrev pub addressed_input : Limits → List ℕ → Result Addressed (List ℕ)
 addressed_input limits input =
     and_then (compile_input limits input) (λ found.
     and_then (and_then (two_parts (parts_of input)) (keys_of limits)) (λ keys.
     Ok (record { domain = found.0; streams = found.1; interfaces = keys.0; addresses = keys.1 })))
 
--- the rows of an input's streams, all of them admitted before cycle 0, or the line of the first that isn't admitted
+-- the rows of an input's streams, all of them admitted before cycle 0, or the line of the first stream that isn't admitted
 abbrev pub rows_of : Addressed → Result (List Row) (List ℕ)
 rows_of found = and_then (admitted_from found.domain [] 1 found.streams) (λ entries. Ok (held_in found.domain entries 0))
 
@@ -57,7 +57,7 @@ tc_of software found = and_then (rows_of found) (λ rows. Ok (tc_text found.doma
 abbrev pub tc_of_input : Limits → Bool → List ℕ → Result (List ℕ) (List ℕ)
 tc_of_input limits software input = and_then (addressed_input limits input) (tc_of software)
 
--- the file of a bridge for an input, or the line of its first fault; last of all that the domain lacks the bridge
+-- the variable file of a bridge for an input, or the line of its first fault; last, that the domain lacks the bridge
 abbrev pub unknown_bridge : List ℕ → List ℕ
 unknown_bridge name = fault_line (codes "compile") (codes "UnknownBridge " ++ name)
 
@@ -78,7 +78,7 @@ env_of name found =
 abbrev pub env_of_input : Limits → List ℕ → List ℕ → Result (List ℕ) (List ℕ)
 env_of_input limits name input = and_then (addressed_input limits input) (env_of name)
 
--- what a script is told from, and what a bridge's file is
+-- a script and a bridge's variable file, before they are written
 pub record TcScript : Type 0 where
   pub domain : Domain
   pub rows : List Row
@@ -99,19 +99,19 @@ text_of_tc script = tc_text script.domain script.software (gate_index script.add
 abbrev pub text_of_env : EnvFile → List ℕ
 text_of_env file = env_text file.domain file.interfaces file.addresses file.rows file.bridge
 
--- what both are told from can be: the rows' paces are good, it is known which of them leave a bridge, and links and streams have their
--- variables
+-- the data of both outputs are ready: the rows' paces are good, it is known which of them leave each bridge, and links and streams have
+-- their variables
 pub record IsReadyPlan (d : Domain) (rows : List Row) (places : List (List ℕ)) (links streams : List (Vec ℕ Global)) : Type 0 where
   pub paced : AreOfGoodPaces rows
   pub by_bridge : AreByBridge d rows places
   pub named : AreNamed d rows links streams
 
--- and where it is a script, there are the words of each stream's gate
+-- the same for a script, with the words of each stream's gate
 pub record IsReadyScript (d : Domain) (rows : List Row) (places : List (List ℕ)) (links streams : List (Vec ℕ Global)) (gates : List ℕ) : Type 0 where
   pub plan : IsReadyPlan d rows places links streams
   pub words : gates ≡ gate_words d.cycle_time
 
--- of one of the domain's bridges
+-- the same for the file of one of the domain's bridges
 pub record IsReadyFile (d : Domain) (rows : List Row) (places : List (List ℕ)) (links streams : List (Vec ℕ Global)) (bridge : ℕ) : Type 0 where
   pub plan : IsReadyPlan d rows places links streams
   pub inside : bridge < length d.bridges

@@ -1,5 +1,5 @@
--- The program of bpf that gives a frame its class, 6 or 7 by the parity of the cycle of its coming, where gates are in software:
--- an object of 456 octets, for a little-endian machine. Its text is the section tc of that object, eight instructions.
+-- The program of bpf that gives a frame its class if gates are in software: 6 or 7 by the parity of the cycle in which the frame arrives.
+-- It is an object of 456 octets for a little-endian machine. Its code is the section tc of that object, eight instructions.
 use Rattle.std.specs.Prelude.{ℕ, ◌+◌, ◌/◌, ◌%◌, ◌++◌, Bool, List, [], ◌∷◌, codes, if◌then◌else◌}
 use Rattle.cqf_model.specs.Domain.{Domain}
 
@@ -11,7 +11,7 @@ octal octet = 92 ∷ (48 + octet / 64) ∷ (48 + octet / 8 % 8) ∷ (48 + octet 
 abbrev pub octal_word : ℕ → List ℕ
 octal_word number = octal (number % 256) ++ (octal (number / 256 % 256) ++ (octal (number / 65536 % 256) ++ octal (number / 16777216 % 256)))
 
--- what stands behind the cycle time
+-- what follows the cycle time
 abbrev pub object_end : List ℕ
 object_end =
     codes "W\\0\\0\\0\\1\\0\\0\\0\\7\\0\\0\\0\\6\\0\\0\\0'\n"
@@ -38,6 +38,6 @@ object_text cycle_time =
     ++ (octal_word cycle_time
     ++ object_end)))))
 
--- it is written where gates are in software
+-- the function is written if gates are in software
 abbrev pub program_text : Domain → Bool → List ℕ
 program_text d software = if software then object_text d.cycle_time else []

@@ -1,13 +1,13 @@
--- What is noted of words that stand twice.
+-- Words that occur more than once.
 use Rattle.std.specs.Prelude.{ℕ, ◌≡◌, ◌<◌, Bool, List, [], false, length, slice_index_or, take}
 use Rattle.std.specs.List.{list_any}
 use Rattle.cqf_model.specs.Domain.{is_text}
 
--- whether the word at a place is among those before it
+-- whether the word at an index occurs earlier in the list
 abbrev pub is_taken_at : List (List ℕ) → ℕ → Bool
 is_taken_at words place = list_any (λ (other : List ℕ). is_text other (slice_index_or words place [])) (take place words)
 
--- it's noted of each
+-- a mark for each word: whether it occurs earlier
 pub record AreTaken (words : List (List ℕ)) (taken : List Bool) : Type 0 where
   pub one_each : length taken ≡ length words
   pub each : (place : ℕ) → place < length words → slice_index_or taken place false ≡ is_taken_at words place

@@ -12,15 +12,15 @@ use Rattle.cqf_program_tc.specs.Checks.{checks_text}
 use Rattle.cqf_program_tc.specs.Program.{program_text}
 use Rattle.cqf_program_tc.specs.Words.{gate_words, tx_words}
 
--- how many cycles pass before all lists begin anew: two, or where a stream pauses as many as all paces repeat in
+-- the number of cycles after which all lists begin anew: two, or if a stream pauses the number after which all paces repeat
 abbrev pub rounds_in : List Row → ℕ
 rounds_in rows = if list_any pauses rows then most_every else 2
 
--- the instant that the lists begin at is a multiple of this, in nanoseconds
+-- the instant at which the lists begin is a multiple of this number of nanoseconds
 abbrev pub multiple : Domain → List Row → List ℕ
 multiple d rows = decimal (rounds_in rows * d.cycle_time)
 
--- what the script is, and the variables that it takes
+-- what the script is, and its variables
 abbrev pub usage_text : Domain → List Row → List ℕ
 usage_text d rows =
     codes "#!/bin/sh\n# Written by cqf compile --format tc. Each bridge runs it as root with its own name as the only argument, its links up and\n"
@@ -40,7 +40,7 @@ usage_text d rows =
     ++ (codes "# All of this is checked before anything is changed. Where a command fails then, what this run has set is taken back; what it\n"
     ++ codes "# replaced is gone.\n# Forwarding is yours: a stream may leave a bridge by the interfaces that its line here names, and by no others.\n"))))))))))))))
 
--- what is to be known of the gates of Linux
+-- the notes on the gates of Linux
 abbrev pub offload_notes : List ℕ
 offload_notes =
     codes "# A gate in software doesn't give frames the class in its list (IPV), so the filters are for hardware alone (skip_sw). Where\n"
@@ -59,14 +59,14 @@ notes_text software =
     ++ (codes "# What the bridge itself sends, as IPv6 neighbour discovery and MLD, may have class 7: keep it off these interfaces.\n"
     ++ codes "# Where CHAIN isn't 0, only a filter of yours in chain 0 with goto chain CHAIN leads frames to the gates.\n")))
 
--- the names of the bridges, a space before each
+-- the names of the bridges, each after a space
 abbrev pub name_text : Domain → ℕ → List ℕ
 name_text d bridge = codes " " ++ name_of_bridge d bridge
 
 abbrev pub names_text : Domain → List ℕ
 names_text d = each_below (name_text d) (length d.bridges)
 
--- the commands, the names of the bridges, and what is noted of interfaces, gates and streams
+-- the commands, the names of the bridges, and the variables in which the script records interfaces, gates and streams
 abbrev pub opening_text : Domain → List ℕ
 opening_text d =
     codes "set -euf\nexport LC_ALL=C\ntc=${TC:-tc} ip=${IP:-} chain=${CHAIN:-0} bridges=\""
@@ -74,7 +74,7 @@ opening_text d =
     ++ (codes " \"\nused=\"\" ways=\"\" old=\"\" streams=\"\" gates=\"\" undo=\"\" object=\"\"\n\n# ends the script where nothing is changed yet\nrefuse() {\n"
     ++ codes "    printf '%s\\n' \"$*\" >&2\n    exit 1\n}\n\n"))
 
--- a bridge and an instant have to be given; the lists begin at the next such multiple, which is below 2^63
+-- a bridge and an instant must be given; the lists begin at the next such multiple, which is below 2^63
 abbrev pub given_text : Domain → List Row → List ℕ
 given_text d rows =
     codes "[ \"$#\" -eq 1 ] || refuse \"name one bridge:$bridges\"\ncase ${BASE:=} in\n"
@@ -90,33 +90,33 @@ given_text d rows =
     ++ (codes "command -v \"${tc%% *}\" >/dev/null || refuse \"TC: there is no command $tc\"\n"
     ++ codes "command -v \"${ip%% *}\" >/dev/null || refuse \"IP: there is no command $ip\"\n\n"))))))))))
 
--- the words behind a port's list: the interface has it, or it goes by the clock that gates in software have
+-- the words after a port's list: the interface executes it, or it follows the clock that gates in software use
 abbrev pub port_end : Bool → List ℕ
 port_end software = if software then codes " clockid CLOCK_TAI" else codes " flags 0x2"
 
--- the words of the list of each other link
+-- the words of the list of each link that has no guard band of its own
 abbrev pub common_words : Domain → List ℕ
 common_words d = tx_words (port_list d.cycle_time d.guard)
 
--- those of the second parameter, if it is given, and else these
+-- the words of the second parameter, if it is given, and else the common ones
 abbrev pub given_words : Domain → List ℕ
 given_words d = codes " ${2:-" ++ (common_words d ++ codes "}")
 
--- the words in the command: where some link has a guard time of its own, those of the second parameter, if it is given
+-- the words in the command: if some link has a guard band of its own, those of the second parameter, if it is given
 abbrev pub port_words : Domain → List ℕ
 port_words d = if list_any has_own_guard d.links then given_words d else common_words d
 
--- the command that sets the transmission gates of an interface, with priority, traffic class and queue p alike for p from 0 to 7
+-- the command that sets the transmission gates of an interface; priority, traffic class and queue are the same for 0 to 7
 abbrev pub list_command : Domain → Bool → List ℕ
 list_command d software =
     codes "    $tc qdisc replace dev \"$1\" parent root handle 100: taprio num_tc 8 map 0 1 2 3 4 5 6 7 0 0 0 0 0 0 0 0"
     ++ (codes " queues 1@0 1@1 1@2 1@3 1@4 1@5 1@6 1@7 base-time \"$BASE\"" ++ (port_words d ++ port_end software))
 
--- the words behind it that note how it is taken back
+-- the words after it that record how it is undone
 abbrev pub undo_list : List ℕ
 undo_list = codes "    undo=\"qdisc del dev $1 root/$undo\""
 
--- where some link has a guard time of its own, a comment for checkers of scripts: that parameter is to be split into its words
+-- a comment for script checkers if some link has a guard band of its own: that parameter must be split into its words
 abbrev pub link_note : Domain → List ℕ
 link_note d = if list_any has_own_guard d.links then codes "# shellcheck disable=SC2086\n" else []
 
@@ -124,7 +124,7 @@ abbrev pub link_text : Domain → Bool → List ℕ
 link_text d software =
     codes "# the transmission gates of the interface $1\nlink() {\n" ++ (list_command d software ++ (codes "\n" ++ (undo_list ++ codes "\n}\n\n")))
 
--- the greatest index of a gate of an earlier plan: as many as streams may be held where limits are set as in the profile, or more
+-- the greatest index of a gate of an earlier plan: 1,024, or 16,384 if the domain's limits allow more than 1,024 streams
 abbrev pub last_gate : Domain → List ℕ
 last_gate d = if nat_le (streams_within d.limits) 1024 then codes "1024" else codes "16384"
 
@@ -147,7 +147,7 @@ old_gates_text last =
     ++ (codes "        $1 == \"number\" && kind == \"\" && /gate-state/ { kind = \"gate\" }\n        $1 == \"index\" { number = $2 }\n"
     ++ codes "        END { tell() }'\n}\n\n")))))))))))))
 
--- takes the gates of an earlier plan off an interface
+-- removes the gates of an earlier plan from an interface
 abbrev pub no_gates_text : List ℕ
 no_gates_text =
     codes "# takes the stream gates of an earlier plan off the interface $1\nno_gates() {\n"
@@ -155,7 +155,7 @@ no_gates_text =
     ++ (codes "    old_gates \"$1\" | while read -r words; do\n        # shellcheck disable=SC2086\n"
     ++ codes "        $tc filter del dev \"$1\" ingress chain \"$chain\" $words </dev/null\n    done\n}\n\n"))
 
--- the words of a filter between its kind and its keys, and those of its action before the gate: in software a program gives frames
+-- the words of a filter between its kind and its keys, and the words of its action before the gate: in software a program gives frames
 -- their class, 6 or 7 by the cycle
 abbrev pub filter_words : Bool → List ℕ
 filter_words software = if software then [] else codes " skip_sw"
@@ -171,7 +171,7 @@ gate_command d software =
     ++ (codes " dst_mac \"$3\" vlan_id \"$4\""
     ++ (class_words software ++ (codes " action gate index \"$2\" base-time \"$BASE\"" ++ gate_words d.cycle_time))))
 
--- the words behind it that note how it is taken back
+-- the words after it that record how it is undone
 abbrev pub undo_gate : List ℕ
 undo_gate = codes "    undo=\"filter del dev $1 ingress chain $chain protocol 802.1Q pref $2 handle $2 flower/$undo\""
 
@@ -180,7 +180,7 @@ tc_gate_text d software =
     codes "# stream gate $2 at the interface $1: address $3, VLAN $4, at most $5 octets a cycle\ngate() {\n"
     ++ (gate_command d software ++ (codes "\n" ++ (undo_gate ++ codes "\n}\n\n")))
 
--- the command that sets the gate of a stream that pauses by the list that is given
+-- the command that sets the gate of a stream that pauses by the list passed to it
 abbrev pub by_list_command : Bool → List ℕ
 by_list_command software =
     codes "    $tc filter add dev \"$gate_at\" ingress chain \"$chain\" protocol 802.1Q pref \"$gate_no\" handle \"$gate_no\" flower"
@@ -188,7 +188,7 @@ by_list_command software =
     ++ (codes " dst_mac \"$gate_mac\" vlan_id \"$gate_vlan\""
     ++ (class_words software ++ codes " action gate index \"$gate_no\" base-time \"$BASE\" \"$@\"")))
 
--- and the lines of its function
+-- the lines of its function, and the function
 abbrev pub by_list_lines : Bool → List (List ℕ)
 by_list_lines software =
     codes "    gate_at=$1 gate_no=$2 gate_mac=$3 gate_vlan=$4"
@@ -204,19 +204,19 @@ by_list_text software =
     ++ (by_list_command software
     ++ codes "\n    undo=\"filter del dev $gate_at ingress chain $chain protocol 802.1Q pref $gate_no handle $gate_no flower/$undo\"\n}\n\n"))
 
--- they are written where a stream pauses
+-- the function is written if a stream pauses
 abbrev pub list_gates_text : Bool → List Row → List ℕ
 list_gates_text software rows = if list_any pauses rows then by_list_text software else []
 
--- a function a bridge, by number
+-- one function per bridge, by number
 abbrev pub bridges_text : Domain → (ℕ → ℕ) → List Row → List ℕ
 bridges_text d gates rows = each_below (bridge_text d gates rows) (length d.bridges)
 
--- the function that is run is the one of the bridge of the name given
+-- the function that is run is that of the bridge with the given name
 abbrev pub choice_line : Domain → ℕ → List ℕ
 choice_line d bridge = codes "\"" ++ (name_of_bridge d bridge ++ (codes "\") bridge_" ++ (decimal bridge ++ codes " ;;\n")))
 
--- in software the program of bpf stands in a file of its own meanwhile
+-- in software the program of bpf is in a temporary file meanwhile
 abbrev pub making_text : Bool → List ℕ
 making_text software = if software then codes "\nobject=$(mktemp)\ntrap 'rm -f \"$object\"' EXIT\nprogram >\"$object\"\n" else []
 
@@ -238,7 +238,7 @@ functions_text d software rows =
     ++ (link_note d
     ++ (link_text d software ++ (old_gates_text (last_gate d) ++ (no_gates_text ++ (tc_gate_text d software ++ list_gates_text software rows))))))
 
--- the script of a domain and the rows of its streams, with the indexes of their gates by number, by hardware or in software
+-- the script of a domain and the rows of its streams, with the indexes of their gates by number, in hardware or in software
 abbrev pub tc_text : Domain → Bool → (ℕ → ℕ) → List Row → List ℕ
 tc_text d software gates rows =
     usage_text d rows

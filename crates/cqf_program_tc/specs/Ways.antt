@@ -1,4 +1,4 @@
--- What is noted of the ways by which streams come to a bridge.
+-- What is noted of the ways by which streams arrive at a bridge.
 use Rattle.std.specs.Prelude.{ℕ, ◌≡◌, ◌<◌, List, Bool, true, false, Option, Some, None, if◌then◌else◌, length, not, slice_index_or}
 use Rattle.std.specs.List.{list_any}
 use Rattle.cqf_model.specs.declared.topology.Row.{Row}
@@ -6,17 +6,17 @@ use Rattle.cqf_model.specs.Domain.{Domain}
 use Rattle.cqf_model.specs.Table.{same_way}
 use Rattle.cqf_program_tc.specs.Bridge.{comes_by}
 
--- by link it's noted whether some stream comes by it
+-- for each link it is noted whether some stream arrives over it
 pub record IsSeenWay (d : Domain) (bridge : ℕ) (before : List Row) (seen : List Bool) : Type 0 where
   pub size : length seen ≡ 65536
   pub each : (link : ℕ) → link < 65536 → slice_index_or seen link false ≡ list_any (comes_by d bridge link) before
 
--- whether no stream was noted that comes that way
+-- whether no stream was noted that arrives this way
 abbrev pub is_unseen : List Bool → Option ℕ → Bool
 is_unseen seen None = true
 is_unseen seen (Some link) = not (slice_index_or seen link false)
 
--- one way more is noted
+-- one more way is noted
 pub record NotesWay (before : List Bool) (way : Option ℕ) (after : List Bool) : Type 0 where
   pub size : length after ≡ length before
   pub each : (link : ℕ) → link < length before → slice_index_or after link false ≡ (if same_way way (Some link) then true else slice_index_or before link false)

@@ -1,4 +1,4 @@
--- Gate lists as words of `tc`, and what these words are read as (after man tc-taprio and man tc-gate).
+-- Gate lists as words of `tc`, and how these words are read (after man tc-taprio and man tc-gate).
 use Rattle.std.specs.Prelude.{ℕ, ◌++◌, ◌==◌, ◌&&◌, List, [], ◌∷◌, Option, Some, None, Result, codes, decimal, drop, if◌then◌else◌, option_map}
 use Rattle.std.specs.Option.{option_and_then}
 use Rattle.cqf_text.specs.Decimal.{decimal_value}
@@ -10,20 +10,20 @@ use Rattle.cqf_gates.specs.GateListText.{line_of_gates}
 use Rattle.cqf_gates.specs.StreamText.{is_shut}
 use Rattle.cqf_gates.specs.TxText.{list_of_text}
 
--- the list of a port: for each entry its states, where bit k is class k, in hexadecimal, and its interval in nanoseconds, as
--- `sched-entry S BF 120000`
+-- the list of a port: for each entry its states in hexadecimal, in which bit k is class k, and its interval in nanoseconds, as `sched-entry
+-- S BF 120000`
 abbrev pub tx_words : List Entry → List ℕ
 tx_words [] = []
 tx_words (entry ∷ entries) = codes " sched-entry S " ++ (line_of_gates entry ++ tx_words entries)
 
--- the list of a stream's gate: for each cycle its length in nanoseconds, the internal priority value, and as octets the fifth
--- parameter of the function that they stand in
+-- the list of a stream's gate: for each cycle its length in nanoseconds, the internal priority value, and as octets the fifth parameter of
+-- the function that contains the words
 abbrev pub gate_words : ℕ → List ℕ
 gate_words cycle_time =
     codes " sched-entry open " ++ (decimal cycle_time ++ (codes " 6 \"$5\" sched-entry open " ++ (decimal cycle_time ++ codes " 7 \"$5\"")))
 
--- a list that is given entry by entry: `sched-entry open` or `close`, the interval in nanoseconds, the internal priority value and the
--- octets, or -1 for each of these where nothing passes, and for octets where there is no limit
+-- a list given entry by entry: `sched-entry open` or `close`, the interval in nanoseconds, the internal priority value and the octets. Both
+-- of the latter are -1 if nothing passes, and the octets are -1 if there is no limit
 abbrev pub octets_word : Option ℕ → List ℕ
 octets_word None = codes "-1"
 octets_word (Some most) = decimal most
@@ -42,7 +42,7 @@ abbrev pub list_words : List StreamEntry → List ℕ
 list_words [] = []
 list_words (entry ∷ entries) = entry_words entry ++ list_words entries
 
--- the words of a text, where a space parts one from the next
+-- the words of a text, separated by spaces
 abbrev pub in_front : ℕ → List (List ℕ) → List (List ℕ)
 in_front byte [] = (byte ∷ []) ∷ []
 in_front byte (word ∷ words) = (byte ∷ word) ∷ words
@@ -51,11 +51,11 @@ abbrev pub parted : List ℕ → List (List ℕ)
 parted [] = [] ∷ []
 parted (byte ∷ text) = if byte == 32 then [] ∷ parted text else in_front byte (parted text)
 
--- those of a text in which a space stands before each
+-- the words of a text with a space before each
 abbrev pub words_of_tc : List ℕ → List (List ℕ)
 words_of_tc text = drop 1 (parted text)
 
--- the gate list of a port as the lines that it's written in, by words that tell its entries; no other words do
+-- the gate list of a port as written in lines, from words for its entries; no other words give one
 abbrev pub lines_of_words : List (List ℕ) → Option (List ℕ)
 lines_of_words [] = Some []
 lines_of_words (word ∷ command ∷ states ∷ interval ∷ words) =
@@ -64,15 +64,15 @@ lines_of_words (word ∷ command ∷ states ∷ interval ∷ words) =
     else None
 lines_of_words _ = None
 
--- the list that words of `tc` are read as, or the fault of the list that they tell
+-- the list as which words of `tc` are read, or the fault of that list
 abbrev pub tx_of_words : List ℕ → Option (Result (List Entry) TextFault)
 tx_of_words text = option_map list_of_text (lines_of_words (words_of_tc text))
 
--- octets as the fifth parameter has them, or as a number
+-- octets, either as the fifth parameter or as a number
 abbrev pub octets_of_word : ℕ → List ℕ → Option ℕ
 octets_of_word octets word = if is_text word (codes "\"$5\"") then Some octets else decimal_value word
 
--- an entry of a stream's gate that words tell, where the fifth parameter is so many octets
+-- an entry of a stream's gate from words, if the fifth parameter is this number of octets
 abbrev pub gate_entry : ℕ → List ℕ → List ℕ → List ℕ → Option StreamEntry
 gate_entry octets interval ipv most =
     option_and_then (λ (time : ℕ). option_and_then (λ (value : ℕ). option_map (λ (limit : ℕ). record { ipv = value; interval = time; octet_max = Some limit })
@@ -82,17 +82,17 @@ gate_entry octets interval ipv most =
 abbrev pub shut_for : List ℕ → Option StreamEntry
 shut_for interval = option_map (λ (time : ℕ). record { ipv = 6; interval = time; octet_max = Some 0 }) (decimal_value interval)
 
--- the entry of a state: `open`, or `close`, which has no class and no octets
+-- the entry for a state: `open`, or `close`, which has no class and no octets
 abbrev pub entry_of_state : ℕ → List ℕ → List ℕ → List ℕ → List ℕ → Option StreamEntry
 entry_of_state octets state interval ipv most =
     if is_text state (codes "open") then gate_entry octets interval ipv most
     else (if is_text state (codes "close") && is_text ipv (codes "-1") && is_text most (codes "-1") then shut_for interval else None)
 
--- an entry before others, where all are there
+-- an entry before others, if all are there
 abbrev pub before_others : Option StreamEntry → Option (List StreamEntry) → Option (List StreamEntry)
 before_others entry others = option_and_then (λ (first : StreamEntry). option_map (λ (rest : List StreamEntry). first ∷ rest) others) entry
 
--- the list of a stream's gate that words tell, where the fifth parameter is so many octets; no other words do
+-- the list of a stream's gate from words, if the fifth parameter is this number of octets; no other words give one
 abbrev pub gate_of_parts : ℕ → List (List ℕ) → Option (List StreamEntry)
 gate_of_parts octets [] = Some []
 gate_of_parts octets (word ∷ state ∷ interval ∷ ipv ∷ most ∷ words) =

@@ -1,4 +1,4 @@
-//! What a bridge does in the script.
+//! The function of a bridge in the script.
 ghost use Rattle.std.specs.Prelude.{◌≡◌, ◌<◌, ◌++◌, [], Some, None, codes, false, if◌then◌else◌, length, slice_get};
 ghost use Rattle.std.specs.List.{flat_map};
 ghost use Rattle.std.specs.Option.{option_map_or};
@@ -27,7 +27,7 @@ use cqf_model::{Hop, Row};
 use cqf_press::{Press, Sink};
 use cqf_topology::{Domain, put_bridge, put_link, put_node};
 
-/// Puts the name of the node that a link ends in. A link that the domain lacks ends in none.
+/// Puts the name of the node in which a link ends; nothing for a link that the domain lacks.
 pub(crate) fn put_end<W: Sink>(press: &mut Press<'_, W>, domain: &Domain, link: u16)
     ensures { Puts W.contents press.old press.new (name_of_end domain.now link) }
 {
@@ -36,7 +36,7 @@ pub(crate) fn put_end<W: Sink>(press: &mut Press<'_, W>, domain: &Domain, link: 
     }
 }
 
-/// The number of the bridge that a link leaves.
+/// Returns the number of the bridge that a link leaves.
 pub(crate) fn bridge_of(domain: &Domain, link: u16) -> u16
     ensures { result ≡ bridge_of domain.now link }
 {
@@ -47,7 +47,7 @@ pub(crate) fn bridge_of(domain: &Domain, link: u16) -> u16
     }
 }
 
-/// Puts the variable of the interface by which a stream of a variable comes.
+/// Puts the variable of the interface over which a stream with this variable arrives.
 fn put_way<W: Sink>(press: &mut Press<'_, W>, plan: Plan<'_>, variable: &[u8], way: Option<u16>)
     requires { AreNamed plan.domain.now plan.rows.now plan.links.now plan.streams.now }
     ensures { Puts W.contents press.old press.new (way_in plan.entry.domain.now variable.now way) }
@@ -64,7 +64,7 @@ fn put_way<W: Sink>(press: &mut Press<'_, W>, plan: Plan<'_>, variable: &[u8], w
     }
 }
 
-/// Puts the line that wants the interface of a link that leaves the bridge.
+/// Puts the line that requires the interface of a link that leaves the bridge.
 fn put_out_need<W: Sink>(press: &mut Press<'_, W>, plan: Plan<'_>, bridge: u16, link: u16)
     requires { AreNamed plan.domain.now plan.rows.now plan.links.now plan.streams.now }
     ensures { Puts W.contents press.old press.new (out_need plan.entry.domain.now bridge link) }
@@ -82,7 +82,7 @@ fn put_out_need<W: Sink>(press: &mut Press<'_, W>, plan: Plan<'_>, bridge: u16, 
     press.put(b"\"\n");
 }
 
-/// Puts the line that wants the interface by which a stream comes from its talker.
+/// Puts the line that requires the interface over which a stream arrives from its talker.
 fn put_talker_need<W: Sink>(
     press: &mut Press<'_, W>,
     domain: &Domain,
@@ -102,7 +102,7 @@ fn put_talker_need<W: Sink>(
     press.put(b"\"\n");
 }
 
-/// Puts the line that wants the interface by which streams come over a link.
+/// Puts the line that requires the interface over which streams arrive from a link.
 fn put_link_need<W: Sink>(press: &mut Press<'_, W>, plan: Plan<'_>, bridge: u16, link: u16)
     requires { AreNamed plan.domain.now plan.rows.now plan.links.now plan.streams.now }
     ensures { Puts W.contents press.old press.new (link_need plan.entry.domain.now bridge link) }
@@ -121,7 +121,7 @@ fn put_link_need<W: Sink>(press: &mut Press<'_, W>, plan: Plan<'_>, bridge: u16,
     press.put(b"\"\n");
 }
 
-/// Puts the line that wants the interface by which a stream comes.
+/// Puts the line that requires the interface over which a stream arrives.
 fn put_way_need<W: Sink>(
     press: &mut Press<'_, W>,
     plan: Plan<'_>,
@@ -138,7 +138,7 @@ fn put_way_need<W: Sink>(
     }
 }
 
-/// Puts the line that wants the destination address and the VLAN of a stream's frames, with the index of its gate.
+/// Puts the line that requires the destination address and the VLAN of a stream's frames, with the index of its gate.
 fn put_frame_needs<W: Sink>(press: &mut Press<'_, W>, stream: Stream<'_>)
     ensures { Puts W.contents press.old press.new (frame_needs stream.entry.variable.now stream.entry.gate stream.entry.row.now) }
 {
@@ -155,7 +155,7 @@ fn put_frame_needs<W: Sink>(press: &mut Press<'_, W>, stream: Stream<'_>)
     press.put(b"\n");
 }
 
-/// Puts the line that clears the interface by which a stream of a variable comes.
+/// Puts the line that clears the interface over which a stream with this variable arrives.
 fn put_clearing<W: Sink>(
     press: &mut Press<'_, W>,
     plan: Plan<'_>,
@@ -170,7 +170,7 @@ fn put_clearing<W: Sink>(
     press.put(b"\"\n");
 }
 
-/// Whether a link has a guard time of its own, and so a list of its own. A link that the domain lacks hasn't.
+/// Returns whether a link has a guard band of its own, and so a list of its own; false for a link that the domain lacks.
 pub(crate) fn has_own_list(domain: &Domain, link: u16) -> bool
     ensures { result ≡ option_map_or has_own_guard (slice_get domain.now.links link) false }
 {
@@ -187,7 +187,7 @@ fn put_list_parameter<W: Sink>(press: &mut Press<'_, W>, domain: &Domain, link: 
     press.put(b"\"");
 }
 
-/// Puts the words of the list of a link that has a guard time of its own, as a parameter; nothing of another.
+/// Puts the words of the list of a link with a guard band of its own, as a parameter; nothing for another link.
 fn put_own_list<W: Sink>(press: &mut Press<'_, W>, domain: &Domain, link: u16)
     ensures { Puts W.contents press.old press.new (own_list domain.now link) }
 {
@@ -221,7 +221,7 @@ fn put_link_lines<W: Sink>(press: &mut Press<'_, W>, plan: Plan<'_>, link: u16)
     press.put(b"\n");
 }
 
-/// Puts the interface of a hop, where it leaves the bridge.
+/// Puts the interface of a hop, if the hop leaves the bridge.
 fn put_way_out<W: Sink>(press: &mut Press<'_, W>, plan: Plan<'_>, bridge: u16, hop: &Hop)
     requires { AreNamed plan.domain.now plan.rows.now plan.links.now plan.streams.now }
     ensures { Puts W.contents press.old press.new (way_out plan.entry.domain.now bridge hop.now) }
@@ -242,7 +242,7 @@ fn put_ways_out<W: Sink>(press: &mut Press<'_, W>, plan: Plan<'_>, bridge: u16, 
     }
 }
 
-/// Puts the interface by which a stream comes, its gate's index, and its frames.
+/// Puts the interface over which a stream arrives, its gate's index, and its frames.
 fn put_gate_target<W: Sink>(
     press: &mut Press<'_, W>,
     plan: Plan<'_>,
@@ -278,7 +278,7 @@ fn put_plain_call<W: Sink>(
     press.put_number(stream.row.octets);
 }
 
-/// Puts the call that sets the gate of one that pauses, by its list at the bridge.
+/// Puts the call that sets the gate of a stream that pauses, by its list at the bridge.
 fn put_list_call<W: Sink>(
     press: &mut Press<'_, W>,
     plan: Plan<'_>,
@@ -296,7 +296,7 @@ fn put_list_call<W: Sink>(
     put_list_words(press, &gate_of(plan.domain, stream.row, bridge));
 }
 
-/// Puts the call that sets a stream's gate at the interface by which it comes.
+/// Puts the call that sets a stream's gate at the interface over which it arrives.
 fn put_gate_call<W: Sink>(
     press: &mut Press<'_, W>,
     plan: Plan<'_>,
@@ -316,7 +316,7 @@ fn put_gate_call<W: Sink>(
     }
 }
 
-/// Puts the lines of a stream that comes that way.
+/// Puts the lines of a stream that arrives this way.
 fn put_stream_lines<W: Sink>(
     press: &mut Press<'_, W>,
     plan: Plan<'_>,
@@ -340,7 +340,7 @@ fn put_stream_lines<W: Sink>(
     press.put(b"\n");
 }
 
-/// Puts the line that wants the interface of a link, where it leaves the bridge.
+/// Puts the line that requires the interface of a link, if the link leaves the bridge.
 fn put_out_need_of<W: Sink>(press: &mut Press<'_, W>, plan: Plan<'_>, bridge: u16, link: u16)
     requires { AreNamed plan.domain.now plan.rows.now plan.links.now plan.streams.now }
     ensures { Puts W.contents press.old press.new (if_left plan.entry.domain.now bridge (out_need plan.entry.domain.now bridge) link) }
@@ -350,7 +350,7 @@ fn put_out_need_of<W: Sink>(press: &mut Press<'_, W>, plan: Plan<'_>, bridge: u1
     }
 }
 
-/// Puts the lines that want the interfaces of the links that leave the bridge.
+/// Puts the lines that require the interfaces of the links that leave the bridge.
 fn put_out_needs<W: Sink>(press: &mut Press<'_, W>, plan: Plan<'_>, bridge: u16)
     requires { AreNamed plan.domain.now plan.rows.now plan.links.now plan.streams.now }
     ensures { Puts W.contents press.old press.new (each_link plan.entry.domain.now bridge (out_need plan.entry.domain.now bridge)) }
@@ -360,7 +360,7 @@ fn put_out_needs<W: Sink>(press: &mut Press<'_, W>, plan: Plan<'_>, bridge: u16)
     }
 }
 
-/// Puts the lines of a link, where it leaves the bridge.
+/// Puts the lines of a link, if the link leaves the bridge.
 fn put_lines_of_link<W: Sink>(press: &mut Press<'_, W>, plan: Plan<'_>, bridge: u16, link: u16)
     requires { AreNamed plan.domain.now plan.rows.now plan.links.now plan.streams.now }
     ensures { Puts W.contents press.old press.new (if_left plan.entry.domain.now bridge (link_lines plan.entry.domain.now) link) }
@@ -380,7 +380,7 @@ fn put_links<W: Sink>(press: &mut Press<'_, W>, plan: Plan<'_>, bridge: u16)
     }
 }
 
-/// Puts the line that wants the interface by which a stream comes, where it's new.
+/// Puts the line that requires the interface over which a stream arrives, if that interface is new.
 fn put_new_need<W: Sink>(
     press: &mut Press<'_, W>,
     plan: Plan<'_>,
@@ -397,7 +397,7 @@ fn put_new_need<W: Sink>(
     }
 }
 
-/// Puts what a stream needs that comes that way.
+/// Puts what a stream that arrives this way needs.
 fn put_needs_by<W: Sink>(
     press: &mut Press<'_, W>,
     plan: Plan<'_>,
@@ -413,7 +413,7 @@ fn put_needs_by<W: Sink>(
     put_frame_needs(press, stream);
 }
 
-/// Puts what a stream needs, where it leaves the bridge.
+/// Puts what a stream needs, if it leaves the bridge.
 fn put_needs_of<W: Sink>(
     press: &mut Press<'_, W>,
     plan: Plan<'_>,
@@ -430,7 +430,7 @@ fn put_needs_of<W: Sink>(
     }
 }
 
-/// Puts what the streams need that leave the bridge.
+/// Puts what the streams that leave the bridge need.
 fn put_needs<W: Sink>(press: &mut Press<'_, W>, plan: Plan<'_>, bridge: u16, places: &[usize])
     requires named { AreNamed plan.domain.now plan.rows.now plan.links.now plan.streams.now }
     requires at { places.now ≡ places_at plan.domain.now plan.rows.now bridge }
@@ -445,7 +445,7 @@ fn put_needs<W: Sink>(press: &mut Press<'_, W>, plan: Plan<'_>, bridge: u16, pla
     }
 }
 
-/// Puts the line that clears the interface by which a stream of a variable comes, where it's new.
+/// Puts the line that clears the interface over which a stream with this variable arrives, if that interface is new.
 fn put_clearing_by<W: Sink>(
     press: &mut Press<'_, W>,
     plan: Plan<'_>,
@@ -460,7 +460,7 @@ fn put_clearing_by<W: Sink>(
     }
 }
 
-/// Puts the line that clears the interface by which it comes, where it leaves the bridge and the interface is new.
+/// Puts the line that clears the interface over which the stream arrives, if the stream leaves the bridge and the interface is new.
 fn put_clearing_of<W: Sink>(
     press: &mut Press<'_, W>,
     plan: Plan<'_>,
@@ -475,7 +475,7 @@ fn put_clearing_of<W: Sink>(
     }
 }
 
-/// Puts the lines that clear the interfaces by which streams come.
+/// Puts the lines that clear the interfaces over which streams arrive.
 fn put_clearings<W: Sink>(press: &mut Press<'_, W>, plan: Plan<'_>, bridge: u16, places: &[usize])
     requires named { AreNamed plan.domain.now plan.rows.now plan.links.now plan.streams.now }
     requires at { places.now ≡ places_at plan.domain.now plan.rows.now bridge }
@@ -489,7 +489,7 @@ fn put_clearings<W: Sink>(press: &mut Press<'_, W>, plan: Plan<'_>, bridge: u16,
     }
 }
 
-/// Puts the lines of a stream, where it leaves the bridge.
+/// Puts the lines of a stream, if it leaves the bridge.
 fn put_stream<W: Sink>(press: &mut Press<'_, W>, plan: Plan<'_>, bridge: u16, stream: Stream<'_>)
     requires named { AreNamed plan.domain.now plan.rows.now plan.links.now plan.streams.now }
     requires paced { IsGoodPace stream.row.now.pace }
@@ -515,7 +515,8 @@ fn put_streams<W: Sink>(press: &mut Press<'_, W>, plan: Plan<'_>, bridge: u16, p
     }
 }
 
-/// Puts the function of a bridge, which the streams of the rows at some places leave. The time grows with these and with the links.
+/// Puts the function of a bridge. The streams of the rows at these indices leave the bridge. The time grows with their number and with the
+/// number of links.
 pub(crate) fn put_bridge_function<W: Sink>(
     press: &mut Press<'_, W>,
     plan: Plan<'_>,

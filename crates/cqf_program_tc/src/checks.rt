@@ -1,10 +1,10 @@
-//! The script's functions that check all before anything is changed, and that take back what was set.
+//! The script's functions that check everything before anything is changed, and that undo what was set.
 ghost use Rattle.cqf_press.specs.Press.{Puts};
 ghost use Rattle.cqf_program_tc.specs.Checks.{agree_text, checks_text, frames_text, jump_text, port_text, ready_text, take_back_text};
 
 use cqf_press::{Press, Sink};
 
-/// Puts the function that says whether one interface may lead to two nodes.
+/// Puts the function that returns whether one interface may lead to two nodes.
 fn put_agree<W: Sink>(press: &mut Press<'_, W>)
     ensures { Puts W.contents press.old press.new agree_text }
 {
@@ -17,7 +17,7 @@ fn put_agree<W: Sink>(press: &mut Press<'_, W>)
     press.put(b"    [ -z \"$1\" ] || [ -z \"$2\" ]\n}\n\n");
 }
 
-/// Puts the function that wants a jump to the gates' chain.
+/// Puts the function that requires a jump to the gates' chain.
 fn put_jump<W: Sink>(press: &mut Press<'_, W>)
     ensures { Puts W.contents press.old press.new jump_text }
 {
@@ -33,7 +33,7 @@ fn put_jump<W: Sink>(press: &mut Press<'_, W>)
     );
 }
 
-/// Puts the function that wants an interface.
+/// Puts the function that requires an interface.
 fn put_port<W: Sink>(press: &mut Press<'_, W>)
     ensures { Puts W.contents press.old press.new port_text }
 {
@@ -61,7 +61,7 @@ fn put_port<W: Sink>(press: &mut Press<'_, W>)
     press.put(b"        ;;\n    esac\n}\n\n");
 }
 
-/// Puts the function that wants the address and the VLAN of a stream's frames.
+/// Puts the function that requires the address and the VLAN of a stream's frames.
 fn put_frames<W: Sink>(press: &mut Press<'_, W>)
     ensures { Puts W.contents press.old press.new frames_text }
 {
@@ -114,7 +114,7 @@ fn put_ready<W: Sink>(press: &mut Press<'_, W>)
     );
 }
 
-/// Puts the function that takes back what was set.
+/// Puts the function that undoes what was set.
 fn put_take_back<W: Sink>(press: &mut Press<'_, W>)
     ensures { Puts W.contents press.old press.new take_back_text }
 {
@@ -132,7 +132,7 @@ fn put_take_back<W: Sink>(press: &mut Press<'_, W>)
     );
 }
 
-/// Puts the functions that check all before anything is changed, and that take back what was set.
+/// Puts the functions that check everything before anything is changed, and that undo what was set.
 pub(crate) fn put_checks<W: Sink>(press: &mut Press<'_, W>)
     ensures { Puts W.contents press.old press.new checks_text }
 {

@@ -1,4 +1,5 @@
-//! The commands `compile --format tc` and `compile --format env`: the script for a domain and its streams, and the file of a bridge.
+//! The commands `compile --format tc` and `compile --format env`: the script for a domain and its streams, and the variable file of a
+//! bridge.
 ghost use Rattle.std.specs.Prelude.{◌≡◌, ◌<◌, AllPairs, Ok, IfOk, IfErr, length, map, string_bytes};
 ghost use Rattle.cqf_admission.specs.Asking.{asked_paced};
 ghost use Rattle.cqf_admission.specs.Turns.{AreOfGoodPaces};
@@ -21,7 +22,7 @@ use cqf_topology::{Domain, PacedRequest};
 use cqf_units::Memory;
 use std::alloc::{AllocError, Global};
 
-/// What is read of an input: a domain, the streams that are asked for, and what is said of links and streams in real bridges.
+/// What is read of an input: a domain, the requested streams, and the interfaces and addresses of links and streams in real bridges.
 #[derive(Drop)]
 struct Found {
     domain: Domain,
@@ -30,7 +31,7 @@ struct Found {
     addresses: Vec<StreamAddress>,
 }
 
-/// What two parts say of links and of streams.
+/// Reads the interfaces of links and the addresses of streams from the two parts.
 fn read_keys(
     alloc: Global,
     limits: Limits,
@@ -45,7 +46,7 @@ fn read_keys(
     Ok((interfaces, addresses))
 }
 
-/// What an input says that is read within some limits.
+/// Reads an input within some limits.
 fn read_input(alloc: Global, limits: Limits, input: &[u8]) -> Result<Found, Stop>
     ensures ok { IfOk result (λ found. addressed_input limits input.now ≡ Ok (record {
       domain = found.domain;
@@ -66,7 +67,7 @@ fn read_input(alloc: Global, limits: Limits, input: &[u8]) -> Result<Found, Stop
     })
 }
 
-/// What was found, with the rows of its streams, ready for either output.
+/// Returns what was found with the rows of its streams, ready for either output.
 fn plan_ready(alloc: Global, found: Found, rows: Vec<Row>) -> Result<ReadyPlan, Memory>
     requires paced { AreOfGoodPaces rows.items }
     requires numbers { AllPairs (λ (a b : ARow). a.no < b.no) rows.items }
@@ -96,7 +97,7 @@ fn plan_ready(alloc: Global, found: Found, rows: Vec<Row>) -> Result<ReadyPlan, 
     })
 }
 
-/// The script of a plan, ready to be told.
+/// Returns the script of a plan, ready to be written.
 fn script_ready(alloc: Global, software: bool, plan: ReadyPlan) -> Result<TcOutput, Memory>
     requires { IsReadyPlan plan.domain plan.rows.items (places_in plan.places.items) plan.links.items plan.streams.items }
     ensures { IfOk result (λ output. output ≡ record {
@@ -116,7 +117,7 @@ fn script_ready(alloc: Global, software: bool, plan: ReadyPlan) -> Result<TcOutp
     })
 }
 
-/// The plan of what was found, where all of its streams are admitted before cycle 0.
+/// Returns the plan of what was found, with all of its streams admitted before cycle 0.
 fn plan_of(alloc: Global, found: Found) -> Result<ReadyPlan, Stop>
     ensures ok { IfOk result (λ plan. rows_of (record {
       domain = found.domain;
@@ -142,7 +143,7 @@ fn plan_of(alloc: Global, found: Found) -> Result<ReadyPlan, Stop>
     }
 }
 
-/// The script of what was found, ready to be told.
+/// Returns the script of what was found, ready to be written.
 fn script_of(alloc: Global, software: bool, found: Found) -> Result<TcOutput, Stop>
     ensures ok { IfOk result (λ output. tc_of software (record {
       domain = found.domain;
@@ -164,13 +165,13 @@ fn script_of(alloc: Global, software: bool, found: Found) -> Result<TcOutput, St
     }
 }
 
-/// The output of `compile --format tc` for an input that is read within some limits, ready to be told: the script for the domain and its
-/// streams, with gates in hardware, or in software where that is asked.
+/// Returns the output of `compile --format tc` for an input that is read within some limits, ready to be written: the script for the domain
+/// and its streams, with gates in hardware, or in software if `software`.
 ///
 /// # Errors
-/// Those of `cqf_program_plans::compile_output`, with status 1 and the line of the first fault of the input, of its parts, of the
-/// domain, of the streams, then of the keys that say how the plan is put into real bridges ([`cqf_addressing`]), or of the first stream that
-/// isn't admitted; and with status 3 for want of memory.
+/// With status 1 and the line of the first fault of the input: first the faults of `cqf_program_plans::compile_output`, of its parts, of the
+/// domain, of the streams, then those of the keys that say how the plan is put into real bridges ([`cqf_addressing`]), or of the first stream
+/// that isn't admitted. With status 3 if an allocation fails.
 pub fn tc_output(
     alloc: Global,
     limits: Limits,
@@ -184,7 +185,7 @@ pub fn tc_output(
     script_of(alloc, software, found)
 }
 
-/// The line where a domain lacks a bridge.
+/// Returns the line for a bridge that the domain lacks.
 fn unknown_line(alloc: Global, name: &str) -> Result<String, AllocError>
     ensures { IfOk result (λ line. string_bytes line ≡ unknown_bridge name.now) }
 {
@@ -192,14 +193,14 @@ fn unknown_line(alloc: Global, name: &str) -> Result<String, AllocError>
     Ok(line)
 }
 
-/// The end where a domain lacks a bridge.
+/// Returns the end of a command whose domain lacks the bridge.
 fn unknown_stop(alloc: Global, name: &str) -> Stop
     ensures { EndsWith 1 (unknown_bridge name.now) result }
 {
     Stop::with_text(alloc, REFUSED, unknown_line(alloc, name))
 }
 
-/// The number of the bridge of a name.
+/// Returns the number of the bridge with this name.
 fn bridge_of_name(alloc: Global, domain: &Domain, name: &str) -> Result<u16, Stop>
     ensures ok { IfOk result (λ bridge. bridge_named domain.now name.now ≡ Ok bridge) }
     ensures inside { IfOk result (λ bridge. bridge < length domain.now.bridges) }
@@ -211,7 +212,7 @@ fn bridge_of_name(alloc: Global, domain: &Domain, name: &str) -> Result<u16, Sto
     }
 }
 
-/// The file of a bridge of a plan, ready to be told.
+/// Returns the variable file of a bridge of a plan, ready to be written.
 fn file_ready(alloc: Global, plan: ReadyPlan, bridge: u16) -> Result<EnvOutput, Memory>
     requires ready { IsReadyPlan plan.domain plan.rows.items (places_in plan.places.items) plan.links.items plan.streams.items }
     requires inside { bridge < length plan.domain.bridges }
@@ -231,7 +232,7 @@ fn file_ready(alloc: Global, plan: ReadyPlan, bridge: u16) -> Result<EnvOutput, 
     })
 }
 
-/// The file of a bridge, ready to be told.
+/// Returns the variable file of a bridge, ready to be written.
 fn file_of(alloc: Global, name: &str, found: Found) -> Result<EnvOutput, Stop>
     ensures ok { IfOk result (λ output. env_of name.now (record {
       domain = found.domain;
@@ -254,11 +255,11 @@ fn file_of(alloc: Global, name: &str, found: Found) -> Result<EnvOutput, Stop>
     }
 }
 
-/// The output of `compile --format env` for an input that is read within some limits, ready to be told: the file of the variables of the
-/// bridge of a name.
+/// Returns the output of `compile --format env` for an input that is read within some limits, ready to be written: the variable file of the
+/// bridge with this name.
 ///
 /// # Errors
-/// Those of [`tc_output`]; and with status 1 and the line `cqf: compile: UnknownBridge NAME` where the domain has no bridge of the name.
+/// Those of [`tc_output`]; and with status 1 and the line `cqf: compile: UnknownBridge NAME` if the domain has no bridge of this name.
 pub fn env_output(
     alloc: Global,
     limits: Limits,

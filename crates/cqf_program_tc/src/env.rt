@@ -1,4 +1,4 @@
-//! The file of the variables of a bridge.
+//! The variable file of a bridge.
 ghost use Rattle.std.specs.Prelude.{◌≡◌, ◌<◌, [], None, if◌then◌else◌, length, option_map};
 ghost use Rattle.std.specs.Option.{option_map_or};
 ghost use Rattle.cqf_addressing.specs.Links.{far_interface, near_interface};
@@ -23,7 +23,7 @@ use cqf_compile::leaves;
 use cqf_press::{Press, Sink, Told};
 use cqf_topology::{Domain, put_bridge};
 
-/// Puts the name of an interface, where there is one.
+/// Puts the name of an interface, if there is one.
 fn put_interface<W: Sink>(press: &mut Press<'_, W>, name: Option<&InterfaceName>)
     ensures { Puts W.contents press.old press.new (value_text (option_map (λ n. n.now) name.entry)) }
 {
@@ -32,7 +32,7 @@ fn put_interface<W: Sink>(press: &mut Press<'_, W>, name: Option<&InterfaceName>
     }
 }
 
-/// Puts the destination address of the frames of the stream of a number, where it is given.
+/// Puts the destination address of the frames of the stream with this number, if it is given.
 fn put_mac_of<W: Sink>(press: &mut Press<'_, W>, addresses: &[StreamAddress], number: u32)
     ensures { Puts W.contents press.old press.new (mac_of addresses.now number) }
 {
@@ -41,7 +41,7 @@ fn put_mac_of<W: Sink>(press: &mut Press<'_, W>, addresses: &[StreamAddress], nu
     }
 }
 
-/// Puts their VLAN, where it is given.
+/// Puts their VLAN, if it is given.
 fn put_vlan_of<W: Sink>(press: &mut Press<'_, W>, addresses: &[StreamAddress], number: u32)
     ensures { Puts W.contents press.old press.new (vlan_of addresses.now number) }
 {
@@ -72,7 +72,7 @@ fn put_out_lines<W: Sink>(
     press.put(b"\n");
 }
 
-/// Puts the lines of the interface by which streams come over a link.
+/// Puts the lines of the interface over which streams arrive from a link.
 fn put_in_lines<W: Sink>(
     press: &mut Press<'_, W>,
     plan: Plan<'_>,
@@ -95,7 +95,7 @@ fn put_in_lines<W: Sink>(
     press.put(b"\n");
 }
 
-/// Puts the lines of the interface by which a stream comes from its talker.
+/// Puts the lines of the interface over which a stream arrives from its talker.
 fn put_talker_lines<W: Sink>(
     press: &mut Press<'_, W>,
     domain: &Domain,
@@ -115,7 +115,7 @@ fn put_talker_lines<W: Sink>(
     press.put(b"=\n");
 }
 
-/// Puts the lines of the interface by which a stream comes.
+/// Puts the lines of the interface over which a stream arrives.
 fn put_way_lines<W: Sink>(
     press: &mut Press<'_, W>,
     plan: Plan<'_>,
@@ -157,7 +157,7 @@ fn put_frame_lines<W: Sink>(
     press.put(b"\n");
 }
 
-/// Puts the lines of the interface by which a stream comes, where it's new.
+/// Puts the lines of the interface over which a stream arrives, if that interface is new.
 fn put_new_lines<W: Sink>(
     press: &mut Press<'_, W>,
     plan: Plan<'_>,
@@ -175,7 +175,7 @@ fn put_new_lines<W: Sink>(
     }
 }
 
-/// Puts the lines of a stream that comes that way.
+/// Puts the lines of a stream that arrives this way.
 fn put_lines_by<W: Sink>(
     press: &mut Press<'_, W>,
     plan: Plan<'_>,
@@ -192,7 +192,7 @@ fn put_lines_by<W: Sink>(
     put_frame_lines(press, plan.addresses, stream);
 }
 
-/// Puts the lines of a stream, where it leaves the bridge.
+/// Puts the lines of a stream, if it leaves the bridge.
 fn put_lines_of<W: Sink>(
     press: &mut Press<'_, W>,
     plan: Plan<'_>,
@@ -231,7 +231,7 @@ fn put_stream_lines<W: Sink>(
     }
 }
 
-/// Puts the lines of the interface of a link, where it leaves the bridge.
+/// Puts the lines of the interface of a link, if the link leaves the bridge.
 fn put_lines_of_link<W: Sink>(
     press: &mut Press<'_, W>,
     plan: Plan<'_>,
@@ -264,7 +264,7 @@ fn put_links_out<W: Sink>(
     }
 }
 
-/// Puts what the file is, and the variables that go for all of the script.
+/// Puts what the file is, and the variables that hold for the whole script.
 fn put_head<W: Sink>(press: &mut Press<'_, W>, domain: &Domain, bridge: u16)
     ensures { Puts W.contents press.old press.new (head_text domain.now bridge) }
 {
@@ -280,7 +280,7 @@ fn put_head<W: Sink>(press: &mut Press<'_, W>, domain: &Domain, bridge: u16)
     press.put(b"# filter chain of the gates, 0 if left out\nCHAIN=\n");
 }
 
-/// Puts the file of a bridge of a plan, of which it is known which streams leave a bridge.
+/// Puts the variable file of a bridge of a plan. It is known which streams leave each bridge.
 fn put_file<W: Sink>(
     press: &mut Press<'_, W>,
     plan: Plan<'_>,
@@ -300,7 +300,7 @@ fn put_file<W: Sink>(
 }
 
 impl EnvOutput {
-    /// Tells the output: the file of the bridge's variables. It asks for no memory.
+    /// Writes the output: the bridge's variable file. It allocates no memory.
     pub fn tell<W: Sink>(self, told: &mut Told<W>)
         ensures { HasTold (writing W.contents told.old told.new) (text_of_env self) }
     {

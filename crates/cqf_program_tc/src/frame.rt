@@ -1,4 +1,4 @@
-//! The script's parts that are the same for each bridge.
+//! The parts of the script that are the same for each bridge.
 ghost use Rattle.std.specs.Prelude.{◌≡◌, if◌then◌else◌, length};
 ghost use Rattle.std.specs.List.{list_any};
 ghost use Rattle.cqf_lists.specs.Lists.{each_below};
@@ -18,14 +18,14 @@ use cqf_model::Row;
 use cqf_press::{Press, Sink};
 use cqf_topology::{Domain, put_bridge};
 
-/// Puts how long it takes before all lists begin anew, in nanoseconds.
+/// Puts the time after which all lists begin anew, in nanoseconds.
 fn put_multiple<W: Sink>(press: &mut Press<'_, W>, domain: &Domain, rows: &[Row])
     ensures { Puts W.contents press.old press.new (multiple domain.now rows.now) }
 {
     press.put_number(rounds_in(rows) * domain.cycle_time().0);
 }
 
-/// Puts what the script is, and the variables that it takes.
+/// Puts what the script is, and its variables.
 pub(crate) fn put_usage<W: Sink>(press: &mut Press<'_, W>, domain: &Domain, rows: &[Row])
     ensures { Puts W.contents press.old press.new (usage_text domain.now rows.now) }
 {
@@ -67,7 +67,7 @@ pub(crate) fn put_usage<W: Sink>(press: &mut Press<'_, W>, domain: &Domain, rows
     );
 }
 
-/// Puts what is to be known of gates in hardware.
+/// Puts the notes on gates in hardware.
 fn put_offload_notes<W: Sink>(press: &mut Press<'_, W>)
     ensures { Puts W.contents press.old press.new offload_notes }
 {
@@ -79,7 +79,7 @@ fn put_offload_notes<W: Sink>(press: &mut Press<'_, W>)
     );
 }
 
-/// Puts what is to be known of gates in software.
+/// Puts the notes on gates in software.
 fn put_software_notes<W: Sink>(press: &mut Press<'_, W>)
     ensures { Puts W.contents press.old press.new software_notes }
 {
@@ -91,7 +91,7 @@ fn put_software_notes<W: Sink>(press: &mut Press<'_, W>)
     );
 }
 
-/// Puts what is to be known of gates of this kind.
+/// Puts the notes on gates of this kind.
 fn put_kind_notes<W: Sink>(press: &mut Press<'_, W>, software: bool)
     ensures { Puts W.contents press.old press.new (if software then software_notes else offload_notes) }
 {
@@ -102,7 +102,7 @@ fn put_kind_notes<W: Sink>(press: &mut Press<'_, W>, software: bool)
     }
 }
 
-/// Puts what is to be known of the gates of Linux.
+/// Puts the notes on the gates of Linux.
 pub(crate) fn put_notes<W: Sink>(press: &mut Press<'_, W>, software: bool)
     ensures { Puts W.contents press.old press.new (notes_text software) }
 {
@@ -121,7 +121,7 @@ pub(crate) fn put_notes<W: Sink>(press: &mut Press<'_, W>, software: bool)
     );
 }
 
-/// Puts the name of a bridge, and a space before it.
+/// Puts the name of a bridge, after a space.
 fn put_name<W: Sink>(press: &mut Press<'_, W>, domain: &Domain, bridge: u16)
     ensures { Puts W.contents press.old press.new (name_text domain.now bridge) }
 {
@@ -129,7 +129,7 @@ fn put_name<W: Sink>(press: &mut Press<'_, W>, domain: &Domain, bridge: u16)
     put_bridge(press, domain, bridge);
 }
 
-/// Puts the names of the bridges, a space before each.
+/// Puts the names of the bridges, each after a space.
 fn put_names<W: Sink>(press: &mut Press<'_, W>, domain: &Domain)
     ensures { Puts W.contents press.old press.new (names_text domain.now) }
 {
@@ -138,7 +138,7 @@ fn put_names<W: Sink>(press: &mut Press<'_, W>, domain: &Domain)
     }
 }
 
-/// Puts the commands, the names of the bridges, and what is noted of interfaces, gates and streams.
+/// Puts the commands, the names of the bridges, and the variables in which the script records interfaces, gates and streams.
 pub(crate) fn put_opening<W: Sink>(press: &mut Press<'_, W>, domain: &Domain)
     ensures { Puts W.contents press.old press.new (opening_text domain.now) }
 {
@@ -150,7 +150,8 @@ pub(crate) fn put_opening<W: Sink>(press: &mut Press<'_, W>, domain: &Domain)
     press.put(b"    printf '%s\\n' \"$*\" >&2\n    exit 1\n}\n\n");
 }
 
-/// Puts what ends the script where a bridge or an instant isn't given, and takes the next multiple of all lists from the instant on.
+/// Puts the lines that end the script if a bridge or an instant isn't given, and that compute the next multiple of the time after which all
+/// lists begin anew, from the instant on.
 pub(crate) fn put_given<W: Sink>(press: &mut Press<'_, W>, domain: &Domain, rows: &[Row])
     ensures { Puts W.contents press.old press.new (given_text domain.now rows.now) }
 {
@@ -172,7 +173,7 @@ pub(crate) fn put_given<W: Sink>(press: &mut Press<'_, W>, domain: &Domain, rows
     press.put(b"command -v \"${ip%% *}\" >/dev/null || refuse \"IP: there is no command $ip\"\n\n");
 }
 
-/// The words behind a port's list.
+/// Returns the words after a port's list.
 fn port_end(software: bool) -> &'static [u8]
     ensures { result.now ≡ port_end software }
 {
@@ -183,7 +184,7 @@ fn port_end(software: bool) -> &'static [u8]
     }
 }
 
-/// Whether some link has a guard time of its own, and so a list of its own.
+/// Returns whether some link has a guard band of its own, and so a list of its own.
 fn has_own_guards(domain: &Domain) -> bool
     ensures { result ≡ list_any has_own_guard domain.now.links }
 {
@@ -195,7 +196,7 @@ fn has_own_guards(domain: &Domain) -> bool
     false
 }
 
-/// Puts the words of the list of each link that has no guard time of its own.
+/// Puts the words of the list of each link that has no guard band of its own.
 fn put_common_words<W: Sink>(press: &mut Press<'_, W>, domain: &Domain)
     ensures { Puts W.contents press.old press.new (common_words domain.now) }
 {
@@ -203,7 +204,7 @@ fn put_common_words<W: Sink>(press: &mut Press<'_, W>, domain: &Domain)
     put_tx_words(press, &list);
 }
 
-/// Puts the words of the second parameter, if it is given, and else of that list.
+/// Puts the words of the second parameter, if it is given, and else those of that list.
 fn put_given_words<W: Sink>(press: &mut Press<'_, W>, domain: &Domain)
     ensures { Puts W.contents press.old press.new (given_words domain.now) }
 {
@@ -212,7 +213,7 @@ fn put_given_words<W: Sink>(press: &mut Press<'_, W>, domain: &Domain)
     press.put(b"}");
 }
 
-/// Puts the words of the list in the command: where some link has a guard time of its own, those of the second parameter, if it is given.
+/// Puts the words of the list in the command: if some link has a guard band of its own, those of the second parameter, if it is given.
 fn put_port_words<W: Sink>(press: &mut Press<'_, W>, domain: &Domain)
     ensures { Puts W.contents press.old press.new (port_words domain.now) }
 {
@@ -235,7 +236,7 @@ fn put_list_command<W: Sink>(press: &mut Press<'_, W>, domain: &Domain, software
     press.put(port_end(software));
 }
 
-/// Puts a comment for checkers of scripts, where some link has a guard time of its own: its list comes as one parameter.
+/// Puts a comment for script checkers if some link has a guard band of its own: the link's list is passed as one parameter.
 pub(crate) fn put_link_note<W: Sink>(press: &mut Press<'_, W>, domain: &Domain)
     ensures { Puts W.contents press.old press.new (link_note domain.now) }
 {
@@ -255,7 +256,7 @@ pub(crate) fn put_link_function<W: Sink>(press: &mut Press<'_, W>, domain: &Doma
     press.put(b"\n}\n\n");
 }
 
-/// The greatest index of a gate of an earlier plan, as a text.
+/// Returns the greatest index of a gate of an earlier plan, as a text.
 fn last_gate(domain: &Domain) -> &'static [u8]
     ensures { result.now ≡ last_gate domain.now }
 {
@@ -306,7 +307,7 @@ pub(crate) fn put_old_gates_function<W: Sink>(press: &mut Press<'_, W>, domain: 
     press.put(b"        END { tell() }'\n}\n\n");
 }
 
-/// Puts the function that takes the gates of an earlier plan off an interface.
+/// Puts the function that removes the gates of an earlier plan from an interface.
 pub(crate) fn put_no_gates_function<W: Sink>(press: &mut Press<'_, W>)
     ensures { Puts W.contents press.old press.new no_gates_text }
 {
@@ -374,7 +375,7 @@ fn put_choice_line<W: Sink>(press: &mut Press<'_, W>, domain: &Domain, bridge: u
     press.put(b" ;;\n");
 }
 
-/// Puts a line a bridge that chooses it by its name.
+/// Puts one line per bridge that chooses it by its name.
 fn put_choice_lines<W: Sink>(press: &mut Press<'_, W>, domain: &Domain)
     ensures { Puts W.contents press.old press.new (each_below (choice_line domain.now) (length domain.now.bridges)) }
 {
@@ -383,7 +384,7 @@ fn put_choice_lines<W: Sink>(press: &mut Press<'_, W>, domain: &Domain)
     }
 }
 
-/// The lines that put the program of bpf into a file, where gates are in software.
+/// Returns the lines that put the program of bpf into a file, if gates are in software.
 fn making_text(software: bool) -> &'static [u8]
     ensures { result.now ≡ making_text software }
 {
@@ -394,7 +395,7 @@ fn making_text(software: bool) -> &'static [u8]
     }
 }
 
-/// The line that takes the file away again.
+/// Returns the line that removes the file.
 fn removing_text(software: bool) -> &'static [u8]
     ensures { result.now ≡ removing_text software }
 {
@@ -405,7 +406,7 @@ fn removing_text(software: bool) -> &'static [u8]
     }
 }
 
-/// Puts the choice of a bridge by the name given.
+/// Puts the choice of a bridge by the given name.
 pub(crate) fn put_choice<W: Sink>(press: &mut Press<'_, W>, domain: &Domain, software: bool)
     ensures { Puts W.contents press.old press.new (choice_text domain.now software) }
 {

@@ -1,25 +1,25 @@
 //! The commands `compile --format tc` and `compile --format env`: the compiled gates as scripts for Linux, by `tc`, and the variables that
-//! such a script wants of a bridge.
+//! such a script requires of a bridge.
 //!
-//! - [`tc_output`]: a POSIX shell script that sets the compiled gates on each bridge by `tc` ([`TcOutput`]), by the hardware of its interfaces
-//!   or in software. `put_tx_words` and `write_gate_words` have gate lists as words of `tc`, and [`scripts_hold_the_lists`] says that the
-//!   words of each script are read as the lists that are compiled. [`scripts_call_what_is_due`] reads the script's lines back: each bridge
-//!   sets these lists at each of its links, and the gate of each stream with its index and its octets, and no others.
-//! - [`env_output`]: the file of a bridge's variables, with the values that the input gives ([`EnvOutput`]). It has just those that the
-//!   script wants ([`env_has_what_the_script_wants`]).
-//! - Variables go by the names of links and streams, and no two by one ([`variables_are_apart`]).
-//! - The lists begin at the first multiple of the cycles in which all of them begin anew ([`lists_begin_anew`]) from an instant on; it is
+//! - [`tc_output`]: a POSIX shell script that sets the compiled gates on each bridge by `tc` ([`TcOutput`]), in the hardware of its interfaces
+//!   or in software. `put_tx_words` and `write_gate_words` write gate lists as words of `tc`. [`scripts_hold_the_lists`] proves that the words of
+//!   each script are read as the compiled lists. [`scripts_call_what_is_due`] reads the script's lines back: each bridge sets these lists at each
+//!   of its links, and the gate of each stream with its index and its octets, and no others.
+//! - [`env_output`]: the file of a bridge's variables, with the values that the input gives ([`EnvOutput`]). It has exactly those that the
+//!   script requires ([`env_has_what_the_script_wants`]).
+//! - Variables are named after links and streams, and no two have the same name ([`variables_are_apart`]).
+//! - The lists begin at an instant: the first multiple, from BASE on, of the cycles after which all lists begin anew ([`lists_begin_anew`]). It is
 //!   below 2^63 ([`instants_fit`]).
-//! - [`places_by_bridge`] says which streams leave each bridge.
+//! - [`places_by_bridge`] returns which streams leave each bridge.
 //!
-//! `specs/` has the values of an input (`Output`), what the outputs tell (`Text` with `Checks`, `Bridge`, `Program` and `Words`, and `Env`), the
-//! variables (`Variables`), and how a script and a file are read back (`Calls`, `Wanted`).
+//! `specs/` defines the values of an input (`Output`), the texts of the outputs (`Text` with `Checks`, `Bridge`, `Program` and `Words`, and `Env`),
+//! the variables (`Variables`), and how a script and a file are read back (`Calls`, `Wanted`).
 //!
-//! Of `b"..\nlinks = [{ from = \"a-1\", to = \"s\", rate = 1000, delay = 500, interface = \"eth1\" }]\n%%\nstreams = []\n"`, where a cycle is
-//! 125,000 ns and the guard 5,000:
+//! For `b"..\nlinks = [{ from = \"a-1\", to = \"s\", rate = 1000, delay = 500, interface = \"eth1\" }]\n%%\nstreams = []\n"`, with a cycle
+//! of 125,000 ns and a guard band of 5,000 ns:
 //!
 //! ```text
-//! tc_output tells a script with the lines
+//! tc_output writes a script with the lines
 //!     bridge_0() {
 //!         # a-1
 //!         port OUT_a_1_s "${OUT_a_1_s:-}" s "interface of a-1 to s"
@@ -27,7 +27,7 @@
 //!         # link 0 a-1>s
 //!         link "$OUT_a_1_s"
 //!     }
-//! env_output of a-1 tells a file with the lines
+//! env_output of a-1 writes a file with the lines
 //!     # interface of a-1 to s
 //!     OUT_a_1_s=eth1
 //! ```

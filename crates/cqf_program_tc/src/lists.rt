@@ -10,24 +10,24 @@ use cqf_gates::{StreamEntry, StreamList, is_shut};
 use cqf_model::{MOST_EVERY, Row};
 use cqf_press::{Press, Sink};
 
-/// How many cycles pass before the lists of streams of each cycle and of ports begin anew.
+/// After how many cycles the lists of ports and of streams of each cycle begin anew.
 const ROUND: u64 = 2;
 
-/// Whether the stream pauses between two cycles of its own.
+/// Returns whether the stream pauses between two of its own cycles.
 pub(crate) fn pauses(row: &Row) -> bool
     ensures { result ≡ pauses row.now }
 {
     row.pace.pause != 0
 }
 
-/// Whether one of the streams does.
+/// Returns whether one of the streams pauses.
 fn some_pauses(rows: &[Row]) -> bool
     ensures { result ≡ list_any pauses rows.now }
 {
     rows.iter().any(|row| pauses(row))
 }
 
-/// How many cycles pass before all lists begin anew.
+/// Returns after how many cycles all lists begin anew.
 pub(crate) fn rounds_in(rows: &[Row]) -> u64
     ensures value { result ≡ rounds_in rows.now }
     ensures few { result < 81 }
@@ -39,7 +39,7 @@ pub(crate) fn rounds_in(rows: &[Row]) -> u64
     }
 }
 
-/// Puts octets, or -1 where there is no limit.
+/// Puts octets, or -1 if there is no limit.
 fn put_octets<W: Sink>(press: &mut Press<'_, W>, octet_max: Option<u32>)
     ensures { Puts W.contents press.old press.new (octets_word octet_max) }
 {
@@ -61,7 +61,7 @@ fn put_open_words<W: Sink>(press: &mut Press<'_, W>, entry: StreamEntry)
     put_octets(press, entry.octet_max);
 }
 
-/// Puts the words of one in which none passes.
+/// Puts the words of an entry in which no frames may pass.
 fn put_closed_words<W: Sink>(press: &mut Press<'_, W>, interval: u32)
     ensures { Puts W.contents press.old press.new (closed_words interval) }
 {
@@ -81,7 +81,7 @@ fn put_entry_words<W: Sink>(press: &mut Press<'_, W>, entry: StreamEntry)
     }
 }
 
-/// Puts the words of a gate's list, a space before each.
+/// Puts the words of a gate's list, each after a space.
 pub(crate) fn put_list_words<W: Sink>(press: &mut Press<'_, W>, gate: &StreamList)
     ensures { Puts W.contents press.old press.new (list_words gate.now) }
 {
@@ -90,7 +90,7 @@ pub(crate) fn put_list_words<W: Sink>(press: &mut Press<'_, W>, gate: &StreamLis
     }
 }
 
-/// The words of a filter between its kind and its keys.
+/// Returns the words of a filter between its kind and its keys.
 pub(crate) fn filter_words(software: bool) -> &'static [u8]
     ensures { result.now ≡ filter_words software }
 {
@@ -101,7 +101,7 @@ pub(crate) fn filter_words(software: bool) -> &'static [u8]
     }
 }
 
-/// The words of a filter's action before its gate.
+/// Returns the words of a filter's action before its gate.
 pub(crate) fn class_words(software: bool) -> &'static [u8]
     ensures { result.now ≡ class_words software }
 {
@@ -112,7 +112,7 @@ pub(crate) fn class_words(software: bool) -> &'static [u8]
     }
 }
 
-/// Puts the command that sets a stream's gate by the list that its function is given.
+/// Puts the command that sets a stream's gate by the list passed to its function.
 fn put_by_list_command<W: Sink>(press: &mut Press<'_, W>, software: bool)
     ensures { Puts W.contents press.old press.new (by_list_command software) }
 {
@@ -125,7 +125,7 @@ fn put_by_list_command<W: Sink>(press: &mut Press<'_, W>, software: bool)
     press.put(b" action gate index \"$gate_no\" base-time \"$BASE\" \"$@\"");
 }
 
-/// Puts the function that sets a stream's gate by the list that it is given.
+/// Puts the function that sets a stream's gate by the list passed to it.
 fn put_by_list<W: Sink>(press: &mut Press<'_, W>, software: bool)
     ensures { Puts W.contents press.old press.new (by_list_text software) }
 {
@@ -139,7 +139,7 @@ fn put_by_list<W: Sink>(press: &mut Press<'_, W>, software: bool)
     );
 }
 
-/// Puts it where a stream pauses.
+/// Puts that function if a stream pauses.
 pub(crate) fn put_list_gates<W: Sink>(press: &mut Press<'_, W>, software: bool, rows: &[Row])
     ensures { Puts W.contents press.old press.new (list_gates_text software rows.now) }
 {

@@ -1,4 +1,4 @@
-//! The outputs of `compile --format tc` and `compile --format env`, before they are told.
+//! The outputs of `compile --format tc` and `compile --format env`, before they are written.
 ghost use Rattle.std.specs.Prelude.{◌≡◌};
 
 use crate::plan::Plan;
@@ -8,8 +8,8 @@ use cqf_press::Sheet;
 use cqf_topology::Domain;
 use std::marker::Model;
 
-/// What both are told from: a domain, the rows of its streams by number, what its text says of links and streams in real bridges, for each
-/// bridge the places of the rows whose streams leave it, and the variables of links and of streams.
+/// The data of both outputs: a domain, the rows of its streams by number, the interfaces and addresses of links and streams in real
+/// bridges, for each bridge the indices of the rows whose streams leave it, and the variables of links and of streams.
 #[derive(Drop)]
 pub(crate) struct ReadyPlan {
     pub domain: Domain,
@@ -22,7 +22,7 @@ pub(crate) struct ReadyPlan {
 }
 
 impl ReadyPlan {
-    /// The plan, as the parts of a text take it.
+    /// Returns the plan in the form that the parts of a text take.
     pub(crate) fn as_plan(&self) -> Plan<'_>
         ensures domain { result.domain.now ≡ self.now.domain }
         ensures rows { result.rows.now ≡ self.now.rows.items }
@@ -40,7 +40,8 @@ impl ReadyPlan {
     }
 }
 
-/// What the output of `compile --format tc` is told from: a plan, the words of the list that each stream's gate has, whether the gates are to be in software, and a sheet.
+/// The output of `compile --format tc` before it is written: a plan, the words of the list of each stream's gate, whether the gates are in
+/// software, and a sheet.
 #[derive(Drop)]
 pub struct TcOutput {
     pub(crate) plan: ReadyPlan,
@@ -61,7 +62,7 @@ impl Model for TcOutput {
         o.gate_words.items };
 }
 
-/// What the output of `compile --format env` is told from: a plan, the number of a bridge, and a sheet.
+/// The output of `compile --format env` before it is written: a plan, the number of a bridge, and a sheet.
 #[derive(Drop)]
 pub struct EnvOutput {
     pub(crate) plan: ReadyPlan,

@@ -1,4 +1,4 @@
-//! What a script is told from, as its parts take it.
+//! The data of a script, in the form that its parts take.
 ghost use Rattle.std.specs.Prelude.{◌≡◌, ◌<◌, length, slice_index_or};
 ghost use Rattle.cqf_addressing.specs.Streams.{gate_index};
 ghost use Rattle.cqf_press.specs.Press.{Puts};
@@ -9,7 +9,7 @@ use cqf_model::Row;
 use cqf_press::{Press, Sink};
 use cqf_topology::Domain;
 
-/// A domain, the rows of its streams, their addresses by number, and the variables of its links by number and of its rows by place.
+/// A domain, the rows of its streams, their addresses by number, and the variables of its links by number and of its rows by index.
 #[derive(Clone, Copy)]
 pub(crate) struct Plan<'r> {
     pub domain: &'r Domain,
@@ -19,7 +19,7 @@ pub(crate) struct Plan<'r> {
     pub streams: &'r [Vec<u8>],
 }
 
-/// A stream as the script has it: its row, its variable, and the index of its gate.
+/// A stream in the script: its row, its variable, and the index of its gate.
 #[derive(Clone, Copy)]
 pub(crate) struct Stream<'r> {
     pub row: &'r Row,
@@ -27,7 +27,7 @@ pub(crate) struct Stream<'r> {
     pub gate: u64,
 }
 
-/// The variable of a link. A link that the domain lacks has none.
+/// Returns the variable of a link; an empty one for a link that the domain lacks.
 fn link_variable<'r>(plan: Plan<'r>, link: u16) -> &'r [u8]
     requires { AreNamed plan.domain.now plan.rows.now plan.links.now plan.streams.now }
     ensures { result.now ≡ link_variable plan.entry.domain.now link }
@@ -39,7 +39,7 @@ fn link_variable<'r>(plan: Plan<'r>, link: u16) -> &'r [u8]
     }
 }
 
-/// Puts the variable of a link, without what it begins with. A link that the domain lacks has none.
+/// Puts the variable of a link, without its prefix; nothing for a link that the domain lacks.
 pub(crate) fn put_link_variable<W: Sink>(press: &mut Press<'_, W>, plan: Plan<'_>, link: u16)
     requires { AreNamed plan.domain.now plan.rows.now plan.links.now plan.streams.now }
     ensures { Puts W.contents press.old press.new (link_variable plan.entry.domain.now link) }
@@ -47,7 +47,7 @@ pub(crate) fn put_link_variable<W: Sink>(press: &mut Press<'_, W>, plan: Plan<'_
     press.put(link_variable(plan, link));
 }
 
-/// The stream of the row at a place.
+/// Returns the stream of the row at this index.
 pub(crate) fn stream_at<'r>(plan: Plan<'r>, place: usize) -> Stream<'r>
     requires named { AreNamed plan.domain.now plan.rows.now plan.links.now plan.streams.now }
     requires inside { place < length plan.rows.now }

@@ -5,7 +5,7 @@ ghost use Rattle.cqf_program_tc.specs.Program.{object_text, octal, octal_word, p
 use cqf_press::{Press, Sink};
 use cqf_topology::Domain;
 
-/// Puts an octet as three octal digits behind a backslash.
+/// Puts an octet as three octal digits after a backslash.
 fn put_octal<W: Sink>(press: &mut Press<'_, W>, octet: u8)
     ensures { Puts W.contents press.old press.new (octal octet) }
 {
@@ -25,7 +25,7 @@ fn put_octal_word<W: Sink>(press: &mut Press<'_, W>, number: u32)
     put_octal(press, (number / 16777216 % 256) as u8);
 }
 
-/// Puts the function that writes the object of the program, where cycles last so many nanoseconds.
+/// Puts the function that writes the object of the program, for cycles of `cycle_time` nanoseconds.
 fn put_object<W: Sink>(press: &mut Press<'_, W>, cycle_time: u32)
     ensures { Puts W.contents press.old press.new (object_text cycle_time) }
 {
@@ -79,14 +79,14 @@ fn put_object<W: Sink>(press: &mut Press<'_, W>, cycle_time: u32)
     );
 }
 
-/// Puts it for a domain.
+/// Puts that function for a domain.
 fn put_object_of<W: Sink>(press: &mut Press<'_, W>, domain: &Domain)
     ensures { Puts W.contents press.old press.new (object_text domain.now.cycle_time) }
 {
     put_object(press, domain.cycle_time().0 as u32);
 }
 
-/// Puts it where gates are in software.
+/// Puts that function if gates are in software.
 pub(crate) fn put_program<W: Sink>(press: &mut Press<'_, W>, domain: &Domain, software: bool)
     ensures { Puts W.contents press.old press.new (program_text domain.now software) }
 {

@@ -9,7 +9,7 @@ use cqf_topology::Domain;
 use cqf_units::Memory;
 use std::alloc::Global;
 
-/// A list a bridge, with nothing in it.
+/// Returns one empty list per bridge.
 fn no_places(alloc: Global, domain: &Domain) -> Result<Vec<Vec<usize>>, Memory>
     ensures { IfOk result (λ lists. (rows : List ARow) → AreBelow domain.now rows 0 (places_in lists.items)) }
 {
@@ -20,7 +20,7 @@ fn no_places(alloc: Global, domain: &Domain) -> Result<Vec<Vec<usize>>, Memory>
     Ok(lists)
 }
 
-/// Whether a place is the last of some.
+/// Returns whether this index is the last of a list.
 fn ends_in(places: &[usize], place: usize) -> bool
     ensures { result ≡ is_last place places.now }
 {
@@ -30,7 +30,7 @@ fn ends_in(places: &[usize], place: usize) -> bool
     }
 }
 
-/// Puts a place behind those at a bridge.
+/// Appends an index to those at a bridge.
 fn put_place(lists: &mut Vec<Vec<usize>>, bridge: u16, place: usize) -> Result<(), Memory>
     requires { bridge < length lists.old.items }
     ensures { OnOk result (AddsTo (places_in lists.old.items) (places_in lists.new.items) bridge place) }
@@ -39,7 +39,7 @@ fn put_place(lists: &mut Vec<Vec<usize>>, bridge: u16, place: usize) -> Result<(
     Ok(())
 }
 
-/// Notes a place at a bridge, behind those that are noted there, unless it is the last of them.
+/// Notes an index at a bridge, after those that are noted there, unless it is the last of them.
 fn note(lists: &mut Vec<Vec<usize>>, bridge: u16, place: usize) -> Result<(), Memory>
     requires { bridge < length lists.old.items }
     ensures { OnOk result (IsNoted (places_in lists.old.items) (places_in lists.new.items) bridge place) }
@@ -51,7 +51,7 @@ fn note(lists: &mut Vec<Vec<usize>>, bridge: u16, place: usize) -> Result<(), Me
     Ok(())
 }
 
-/// Notes a place at the bridge that a link leaves. A link that the domain lacks leaves none.
+/// Notes an index at the bridge that a link leaves; nowhere if the domain lacks the link.
 fn note_link(
     domain: &Domain,
     lists: &mut Vec<Vec<usize>>,
@@ -62,7 +62,7 @@ fn note_link(
     ensures { OnOk result (IsNotedBy domain.now link place (places_in lists.old.items) (places_in lists.new.items)) }
 {
     if link < domain.links() {
-        // each link leaves a bridge of the domain: a fact
+        // a fact of the domain: each link leaves a bridge of it
         domain.know();
         let from = domain.link(link).from;
         note(lists, from, place)?;
@@ -70,7 +70,7 @@ fn note_link(
     Ok(())
 }
 
-/// Notes the row at a place, behind those before it, at each bridge that its stream leaves.
+/// Notes the row at this index, after those before it, at each bridge that its stream leaves.
 fn note_row(
     domain: &Domain,
     rows: &[Row],
@@ -89,8 +89,8 @@ fn note_row(
     Ok(())
 }
 
-/// For each bridge of a domain, by number, the places of the rows whose streams leave it, in their order. The time grows with the hops of
-/// all rows.
+/// Returns, for each bridge of a domain by number, the indices of the rows whose streams leave it, in order. The time grows with the hops
+/// of all rows.
 pub fn places_by_bridge(
     alloc: Global,
     domain: &Domain,

@@ -1,4 +1,4 @@
-//! The script, told line by line.
+//! The script, written line by line.
 ghost use Rattle.cqf_addressing.specs.Streams.{gate_index};
 ghost use Rattle.cqf_press.specs.Edge.{HasTold, writing};
 ghost use Rattle.cqf_press.specs.Press.{Puts};
@@ -22,7 +22,7 @@ use cqf_model::Row;
 use cqf_press::{Press, Sink, Told};
 use cqf_topology::Domain;
 
-/// Puts a function a bridge.
+/// Puts one function per bridge.
 fn put_bridges<W: Sink>(press: &mut Press<'_, W>, plan: Plan<'_>, places: &[Vec<usize>])
     requires { IsReadyPlan plan.domain.now plan.rows.now (places_in places.now) plan.links.now plan.streams.now }
     ensures { Puts W.contents press.old press.new
@@ -55,7 +55,7 @@ fn put_functions<W: Sink>(
     put_list_gates(press, software, rows);
 }
 
-/// Puts the script of a plan, of which it is known which streams leave a bridge, with the words of the lists of gates.
+/// Puts the script of a plan, with the words of the lists of gates. It is known which streams leave each bridge.
 fn put_script<W: Sink>(
     press: &mut Press<'_, W>,
     plan: Plan<'_>,
@@ -78,7 +78,7 @@ fn put_script<W: Sink>(
 }
 
 impl TcOutput {
-    /// Tells the output: the script. It asks for no memory.
+    /// Writes the output: the script. It allocates no memory.
     pub fn tell<W: Sink>(self, told: &mut Told<W>)
         ensures { HasTold (writing W.contents told.old told.new) (text_of_tc self) }
     {

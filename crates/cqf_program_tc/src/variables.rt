@@ -1,4 +1,4 @@
-//! The variables of a script, made before it is told.
+//! The variables of a script, made before it is written.
 ghost use Rattle.std.specs.Prelude.{◌≡◌, ◌<◌, ◌++◌, AllPairs, IfOk, OnOk, codes, decimal, length, map};
 ghost use Rattle.cqf_lists.specs.ByNumber.{AreListsBy, lists_of};
 ghost use Rattle.cqf_model.specs.declared.topology.Row.{Row as ARow};
@@ -12,14 +12,14 @@ use cqf_units::Memory;
 use std::alloc::Global;
 use std::collections::BTreeMap;
 
-/// A byte of a name as it stands in a variable.
+/// Returns a byte of a name as it appears in a variable.
 fn word_byte(byte: u8) -> u8
     ensures { result ≡ word_byte byte }
 {
     if byte == b'-' { b'_' } else { byte }
 }
 
-/// Puts a name behind a word, as it stands in a variable.
+/// Appends a name to a word, as it appears in a variable.
 fn push_word(word: &mut Vec<u8>, name: &[u8]) -> Result<(), Memory>
     ensures { OnOk result (word.new.items ≡ word.old.items ++ word_of name.now) }
 {
@@ -29,7 +29,7 @@ fn push_word(word: &mut Vec<u8>, name: &[u8]) -> Result<(), Memory>
     Ok(())
 }
 
-/// Puts the name of a bridge behind a word, likewise. A bridge that the domain lacks has none.
+/// Appends the name of a bridge to a word, likewise; nothing for a bridge that the domain lacks.
 fn push_bridge(word: &mut Vec<u8>, domain: &Domain, bridge: u16) -> Result<(), Memory>
     ensures { OnOk result (word.new.items ≡ word.old.items ++ word_of (name_of_bridge domain.now bridge)) }
 {
@@ -39,7 +39,7 @@ fn push_bridge(word: &mut Vec<u8>, domain: &Domain, bridge: u16) -> Result<(), M
     Ok(())
 }
 
-/// Puts the name of a station behind a word, likewise.
+/// Appends the name of a station to a word, likewise; nothing for a station that the domain lacks.
 fn push_station(word: &mut Vec<u8>, domain: &Domain, station: u16) -> Result<(), Memory>
     ensures { OnOk result (word.new.items ≡ word.old.items ++ word_of (name_of_node domain.now (Node.Station station))) }
 {
@@ -49,7 +49,7 @@ fn push_station(word: &mut Vec<u8>, domain: &Domain, station: u16) -> Result<(),
     Ok(())
 }
 
-/// Puts the name of a node behind a word, likewise.
+/// Appends the name of a node to a word, likewise.
 fn push_node(word: &mut Vec<u8>, domain: &Domain, node: Node) -> Result<(), Memory>
     ensures { OnOk result (word.new.items ≡ word.old.items ++ word_of (name_of_node domain.now node)) }
 {
@@ -60,7 +60,7 @@ fn push_node(word: &mut Vec<u8>, domain: &Domain, node: Node) -> Result<(), Memo
     Ok(())
 }
 
-/// The word of a link.
+/// Returns the word of a link.
 fn link_word(alloc: Global, domain: &Domain, link: Link) -> Result<Vec<u8>, Memory>
     ensures { IfOk result (λ word. word.items ≡ word_of_link domain.now link) }
 {
@@ -71,7 +71,7 @@ fn link_word(alloc: Global, domain: &Domain, link: Link) -> Result<Vec<u8>, Memo
     Ok(word)
 }
 
-/// The words of a domain's links, by number.
+/// Returns the words of a domain's links, by number.
 fn link_words(alloc: Global, domain: &Domain) -> Result<Vec<Vec<u8>>, Memory>
     ensures { IfOk result (λ words. lists_of words.items ≡ map (word_of_link domain.now) domain.now.links) }
 {
@@ -83,7 +83,7 @@ fn link_words(alloc: Global, domain: &Domain) -> Result<Vec<Vec<u8>>, Memory>
     Ok(words)
 }
 
-/// The word of a stream.
+/// Returns the word of a stream.
 fn stream_word(alloc: Global, row: &Row) -> Result<Vec<u8>, Memory>
     ensures { IfOk result (λ word. word.items ≡ word_of row.now.name) }
 {
@@ -92,7 +92,7 @@ fn stream_word(alloc: Global, row: &Row) -> Result<Vec<u8>, Memory>
     Ok(word)
 }
 
-/// The words of rows' streams, by place.
+/// Returns the words of the rows' streams, by index.
 fn stream_words(alloc: Global, rows: &[Row]) -> Result<Vec<Vec<u8>>, Memory>
     ensures { IfOk result (λ words. lists_of words.items ≡ map word_of_stream rows.now) }
 {
@@ -104,7 +104,7 @@ fn stream_words(alloc: Global, rows: &[Row]) -> Result<Vec<Vec<u8>>, Memory>
     Ok(words)
 }
 
-/// Which of some words stand among those before them. Words are found by their order, whichever they are.
+/// Returns which of these words occur earlier in the list. Words are found by an ordered search, so that no choice of words makes it slow.
 fn are_taken(alloc: Global, words: &[Vec<u8>]) -> Result<Vec<bool>, Memory>
     ensures { IfOk result (λ taken. AreTaken (lists_of words.now) taken.items) }
 {
@@ -122,7 +122,7 @@ fn are_taken(alloc: Global, words: &[Vec<u8>]) -> Result<Vec<bool>, Memory>
     Ok(taken)
 }
 
-/// Puts a number behind a word.
+/// Appends a number to a word.
 fn push_number(alloc: Global, word: &mut Vec<u8>, number: u32) -> Result<(), Memory>
     ensures { OnOk result (word.new.items ≡ word.old.items ++ (codes "_N" ++ decimal number)) }
 {
@@ -131,7 +131,7 @@ fn push_number(alloc: Global, word: &mut Vec<u8>, number: u32) -> Result<(), Mem
     Ok(())
 }
 
-/// A word as a variable, with its number behind it where it is taken.
+/// Returns a word as a variable, followed by its number if the word is taken.
 fn numbered(alloc: Global, word: &[u8], is_taken: bool, number: u32) -> Result<Vec<u8>, Memory>
     ensures { IfOk result (λ variable. variable.items ≡ numbered word.now is_taken number) }
 {
@@ -142,7 +142,7 @@ fn numbered(alloc: Global, word: &[u8], is_taken: bool, number: u32) -> Result<V
     Ok(variable)
 }
 
-/// The variables of a domain's links by number, in a time that grows with the links and with the logarithm of how many there are.
+/// Returns the variables of a domain's links by number. The time grows with the number of links and its logarithm.
 pub(crate) fn link_variables(alloc: Global, domain: &Domain) -> Result<Vec<Vec<u8>>, Memory>
     ensures { IfOk result (λ variables. AreListsBy (link_variable domain.now) (length domain.now.links) (lists_of variables.items)) }
 {
@@ -164,7 +164,7 @@ pub(crate) fn link_variables(alloc: Global, domain: &Domain) -> Result<Vec<Vec<u
     Ok(variables)
 }
 
-/// The variables of the streams of rows by place, whose numbers ascend, likewise.
+/// Returns the variables of the streams of rows by index, likewise. The rows' numbers ascend.
 pub(crate) fn stream_variables(alloc: Global, rows: &[Row]) -> Result<Vec<Vec<u8>>, Memory>
     requires { AllPairs (λ (a b : ARow). a.no < b.no) rows.now }
     ensures { IfOk result (λ variables. AreListsBy (variable_at rows.now) (length rows.now) (lists_of variables.items)) }

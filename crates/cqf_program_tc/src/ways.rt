@@ -1,4 +1,4 @@
-//! By which interfaces streams come to a bridge.
+//! The interfaces over which streams arrive at a bridge.
 ghost use Rattle.std.specs.Prelude.{ℕ, ◌≡◌, ◌<◌, ◌++◌, ◌∷◌, [], List, Some};
 ghost use Rattle.cqf_model.specs.declared.topology.Row.{Row as ARow};
 ghost use Rattle.cqf_program_tc.specs.Bridge.{way_at};
@@ -8,7 +8,7 @@ use cqf_compile::first_hop;
 use cqf_model::Row;
 use cqf_topology::Domain;
 
-/// Whether no stream was seen to come that way.
+/// Returns whether no stream was seen to arrive this way.
 fn is_unseen(seen: &[bool; 65536], way: Option<u16>) -> bool
     ensures value { result ≡ is_unseen seen.now way }
     ensures range { (link : ℕ) → way ≡ Some link → link < 65536 }
@@ -19,14 +19,14 @@ fn is_unseen(seen: &[bool; 65536], way: Option<u16>) -> bool
     }
 }
 
-/// Notes that a stream comes by a link.
+/// Notes that a stream arrives over a link.
 fn mark(seen: &mut [bool; 65536], link: u16)
     ensures { NotesWay seen.old (Some link) seen.new }
 {
     seen[usize::from(link)] = true;
 }
 
-/// Notes that a stream comes that way.
+/// Notes that a stream arrives this way.
 fn note(seen: &mut [bool; 65536], way: Option<u16>)
     ensures { NotesWay seen.old way seen.new }
 {
@@ -36,7 +36,8 @@ fn note(seen: &mut [bool; 65536], way: Option<u16>)
     }
 }
 
-/// By which way the row's stream comes to the bridge, and whether none did before, where it leaves the bridge at all. It is noted.
+/// Returns the way by which the row's stream arrives at the bridge, and whether no stream before arrived that way; `None` if the stream
+/// doesn't leave the bridge. The way is noted.
 pub(crate) fn way_of(
     domain: &Domain,
     bridge: u16,

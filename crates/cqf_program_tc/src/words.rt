@@ -21,9 +21,8 @@ fn put_entry<W: Sink>(press: &mut Press<'_, W>, states: u8, interval: u32)
     put_gates(press, states, interval);
 }
 
-/// Puts the words of `tc` that set the list of a port: a space before each, and for each entry `sched-entry S`, the states in two
-/// upper case hexadecimal digits, where bit k is class k, and the interval in nanoseconds. They are read as the list again
-/// (man tc-taprio).
+/// Puts the words of `tc` that set the list of a port, each after a space: for each entry `sched-entry S`, the states in two upper-case
+/// hexadecimal digits, in which bit k is class k, and the interval in nanoseconds. Read back, they give the same list (man tc-taprio).
 pub(crate) fn put_tx_words<W: Sink>(press: &mut Press<'_, W>, list: &TxList)
     ensures words { Puts W.contents press.old press.new (tx_words list.now) }
     ensures again { tx_of_words (tx_words list.now) ≡ Some (Ok list.now) }
@@ -33,7 +32,7 @@ pub(crate) fn put_tx_words<W: Sink>(press: &mut Press<'_, W>, list: &TxList)
     }
 }
 
-/// The words of the list of a stream's gate, as a text.
+/// Returns the words of the list of a stream's gate, as a text.
 fn gate_words_of(alloc: Global, cycle_time: u32) -> Result<String, AllocError>
     ensures words { IfOk result (λ words. string_bytes words ≡ gate_words cycle_time) }
     ensures range { cycle_time < 2 ^ 32 }
@@ -44,10 +43,10 @@ fn gate_words_of(alloc: Global, cycle_time: u32) -> Result<String, AllocError>
     Ok(words)
 }
 
-/// The words of `tc` that set the list of a stream's gate, in the script's function whose fifth parameter is the reservation in
-/// octets: a space before each, and for each of two cycles, of so many nanoseconds, `sched-entry open`, the cycle's length,
-/// the internal priority value and that parameter. With the octets of a reservation they are read as the list that the gate of a stream is
-/// compiled to that is offered in each cycle (man tc-gate).
+/// Returns the words of `tc` that set the list of a stream's gate, in the script's function whose fifth parameter is the reservation in
+/// octets. For each of two cycles, of `cycle_time` nanoseconds, there are `sched-entry open`, the cycle's length, the internal priority
+/// value and that parameter, each after a space. With the octets of a reservation they are read back as the list to which the gate of a
+/// stream that is offered in each cycle is compiled (man tc-gate).
 pub fn write_gate_words(alloc: Global, cycle_time: u32) -> Result<Vec<u8>, Memory>
     ensures words { IfOk result (λ words. words.items ≡ gate_words cycle_time) }
     ensures again { IfOk result (λ words. (octets : ℕ) → gate_of_words octets words.items ≡ Some (reserved_spans cycle_time octets each_cycle 0)) }

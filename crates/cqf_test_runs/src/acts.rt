@@ -1,11 +1,11 @@
-//! Events, and what a world answers to them.
+//! Events, and a world's answers to them.
 use cqf_admission::Command;
 use cqf_test_fixtures::{Asked, request};
 use cqf_units::Memory;
 use cqf_world::{Applied, Event, World};
 use std::alloc::Global;
 
-/// An event: the stream `x` is admitted or withdrawn by seat 0, or a cycle is closed by seat 1; or what happens to a bridge or a link.
+/// An event: the stream `x` is admitted or withdrawn by seat 0, or a cycle is closed by seat 1; or an event at a bridge or a link.
 #[derive(Clone, Copy)]
 pub(crate) enum Act {
     Admit,
@@ -17,7 +17,7 @@ pub(crate) enum Act {
     Post(u16),
 }
 
-/// All bridges of the line go through a cycle, side by side.
+/// All bridges of the line go through a cycle at the same time.
 pub(crate) const SIDE_BY_SIDE: &[Act] = &[
     Act::Give(0),
     Act::Give(1),
@@ -35,7 +35,7 @@ pub(crate) const SIDE_BY_SIDE: &[Act] = &[
 /// The stream `x` over the line.
 const X: Asked = ("x", 1500, &[&["a", "b", "c", "s"]]);
 
-/// The event itself.
+/// Returns the event itself.
 fn event_of(alloc: Global, act: Act) -> Result<Event, Memory> {
     match act {
         Act::Admit => Ok(Event::Call(0, Command::Admit(request(alloc, &X)?))),
@@ -48,7 +48,7 @@ fn event_of(alloc: Global, act: Act) -> Result<Event, Memory> {
     }
 }
 
-/// Whether the event is done, `None` where a growth was refused.
+/// Returns whether the event is done, or `None` if an allocation failed.
 pub(crate) fn happens(alloc: Global, world: &mut World, act: Act) -> Option<bool> {
     let Ok(event) = event_of(alloc, act) else {
         return None;
@@ -59,7 +59,7 @@ pub(crate) fn happens(alloc: Global, world: &mut World, act: Act) -> Option<bool
     }
 }
 
-/// Whether each of these events is done, one after the other.
+/// Returns whether each of these events is done, one after the other.
 pub(crate) fn all_happen(alloc: Global, world: &mut World, acts: &[Act]) -> bool {
     for act in acts {
         if happens(alloc, world, *act) != Some(true) {
@@ -69,7 +69,7 @@ pub(crate) fn all_happen(alloc: Global, world: &mut World, acts: &[Act]) -> bool
     true
 }
 
-/// Whether none of these events is enabled.
+/// Returns whether none of these events is enabled.
 pub(crate) fn none_happens(alloc: Global, world: &mut World, acts: &[Act]) -> bool {
     for act in acts {
         if happens(alloc, world, *act) != Some(false) {

@@ -1,4 +1,4 @@
-//! Administrations whose calls are those of a script, with the tables of the cycles that they close.
+//! Administrations that make the calls of a script, with the tables of the cycles that they close.
 ghost use Rattle.std.specs.Prelude.{◌≡◌, ◌≤◌, IfOk, length};
 ghost use Rattle.cqf_laws_coverage.specs.Judged.{StandInOrder};
 ghost use Rattle.cqf_model.specs.Limits.{most_rows};
@@ -12,7 +12,7 @@ use cqf_topology::{Domain, read_streams};
 use cqf_units::Memory;
 use std::alloc::{AllocError, Global};
 
-/// The seat that closes the cycles that are still open behind a script.
+/// The seat that closes the cycles that are still open after a script.
 const LAST_SEAT: u16 = 8;
 
 /// An admission, and the tables of the cycles that it has closed.
@@ -23,7 +23,7 @@ pub(crate) struct Administration {
 }
 
 impl Administration {
-    /// One that has had no call.
+    /// Returns an administration that has had no call.
     fn new(alloc: Global, domain: &Domain) -> Result<Administration, Memory> {
         Ok(Administration {
             admission: Admission::new(alloc, domain)?,
@@ -31,7 +31,7 @@ impl Administration {
         })
     }
 
-    /// Whether the next cycle is closed.
+    /// Returns whether the next cycle is closed.
     fn closes(&mut self, seat: u16) -> bool {
         match self.admission.seal(seat) {
             Ok(table) => self.tables.push(table).is_ok(),
@@ -39,7 +39,7 @@ impl Administration {
         }
     }
 
-    /// Whether a call is answered as wanted: it isn't refused.
+    /// Returns whether a call is answered as wanted: it isn't refused.
     fn takes(&mut self, seat: u16, call: &Call) -> bool {
         match call {
             Call::Admit(request) => self.admission.admit(seat, request).is_ok(),
@@ -49,7 +49,7 @@ impl Administration {
         }
     }
 
-    /// Whether all are.
+    /// Returns whether all calls are.
     fn takes_all(&mut self, calls: &[(u16, Call)]) -> bool {
         for call in calls {
             if !self.takes(call.0, &call.1) {
@@ -59,7 +59,7 @@ impl Administration {
         true
     }
 
-    /// Whether the cycles that are still open are closed, up to so many.
+    /// Returns whether the cycles that are still open are closed, up to `cycles` cycles in all.
     fn closes_up_to(&mut self, cycles: u32) -> bool {
         let open = self.admission.next_cycle();
         for _cycle in open.0..cycles {
@@ -71,8 +71,8 @@ impl Administration {
     }
 }
 
-/// The administration of a domain that has taken all calls of a script for the streams of a text, and has then closed so many cycles,
-/// or more.
+/// Returns the administration of a domain that has taken all calls of a script for the streams of a text, and has then closed `cycles`
+/// cycles in all, or more.
 pub(crate) fn administered(
     alloc: Global,
     domain: &Domain,
@@ -96,8 +96,8 @@ pub(crate) fn administered(
     }
 }
 
-/// The streams that an administration which has closed so many cycles has ever granted, and what becomes of offers. `Memory` where a
-/// growth is refused, or where it has closed fewer.
+/// Returns the streams that an administration which has closed `cycles` cycles has ever granted, and the verdicts on offers. Returns
+/// `Memory` if an allocation fails, or if the administration has closed fewer cycles.
 pub(crate) fn judged(
     alloc: Global,
     admission: &Admission,

@@ -1,4 +1,4 @@
-//! Background frames of the runs of small histories: when they start, worked out by hand.
+//! Background frames in the runs of small histories: when they start, computed by hand.
 use crate::cases::{Case, first_wrong};
 use crate::ways::Wanted;
 use cqf_test_fixtures::{line, one_link};
@@ -6,16 +6,16 @@ use cqf_test_fixtures::{line, one_link};
 /// The one stream over the one link.
 const STREAM: &str = r#"streams = [{ name = "x", octets = 1500, path = ["a", "s"] }]"#;
 
-/// An offer of it, and none.
+/// One offer of it, and no offer.
 const ONE_OFFER: &str = "at,bridge,stream,octets\n0,a,x,1000\n";
 
 const NO_OFFER: &str = "at,bridge,stream,octets\n";
 
-/// Over the one link. An octet takes 8 ns; a frame has 8 octets before it on the wire, and a gap of 12 behind it. So the stream's
-/// frame of 1,000 octets is sent from 125,000 on, and the port idle again 8 (1,000 + 20) ns later, at 133,160. The guard time of
-/// cycle 1 begins at 245,000.
+/// Over the one link. An octet takes 8 ns. On the wire a frame has 8 octets before it and a gap of 12 octets after it. So the stream's
+/// frame of 1,000 octets is sent from 125,000 on, and the port is idle again 8 (1,000 + 20) ns later, at 133,160. The guard band of cycle 1
+/// begins at 245,000.
 const OVER_LINK: &[Case] = &[
-    // those that wait behind it go by class, of which 0 came first: 64 octets take 672 ns with their gap
+    // those that wait for it go by class, not by arrival: 64 octets take 672 ns with their gap
     Case {
         streams: STREAM,
         script: "0 admit x\n",
@@ -37,8 +37,8 @@ const OVER_LINK: &[Case] = &[
             drops: &[],
         },
     },
-    // 200 octets from 244,000 on end in the guard time, and wait for cycle 2; 64 octets from 244,424 on end as it begins, and go; from
-    // one nanosecond later on they wait too, behind the higher class; what comes in the last guard time, or later, doesn't start
+    // 200 octets from 244,000 on end in the guard band, so they wait for cycle 2. 64 octets from 244,424 on end as the guard band begins,
+    // so they go; one nanosecond later they wait too, after the higher class. What arrives in the last guard band, or later, doesn't start
     Case {
         streams: STREAM,
         script: "0 admit x\n",
@@ -62,7 +62,7 @@ const OVER_LINK: &[Case] = &[
             drops: &[],
         },
     },
-    // without a stream's frame under way it starts at once
+    // without a stream's frame under way a background frame starts at once
     Case {
         streams: STREAM,
         script: "0 admit x\n",
@@ -76,7 +76,7 @@ const OVER_LINK: &[Case] = &[
             drops: &[],
         },
     },
-    // and no background frame starts where there is none
+    // and no background frame starts if there is none
     Case {
         streams: STREAM,
         script: "0 admit x\n",
@@ -92,8 +92,8 @@ const OVER_LINK: &[Case] = &[
     },
 ];
 
-/// Over the line. The stream's frame of 1,500 octets is on link 1 from 250,000 on, and the link idle again at 262,160. Frames of one
-/// class and instant go as they are listed, and the starts stand by cycle, then link.
+/// Over the line. The stream's frame of 1,500 octets is on link 1 from 250,000 on, and the link is idle again at 262,160. Frames of the
+/// same class and instant go in the order of the list, and the starts are listed by cycle, then link.
 const OVER_LINE: &[Case] = &[Case {
     streams: r#"streams = [{ name = "x", octets = 1500, path = ["a", "b", "c", "s"] }]"#,
     script: "0 admit x\n",

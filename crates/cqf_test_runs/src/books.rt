@@ -1,4 +1,4 @@
-//! The text of a small history's book, put while its starts are found, and worked out by hand.
+//! The text of a small history's book, put while its starts are found; computed by hand.
 ghost use Rattle.std.specs.Prelude.{◌≡◌, ◌≤◌, length};
 ghost use Rattle.cqf_model.specs.Limits.{most_rows};
 ghost use Rattle.cqf_laws_coverage.specs.Judged.{StandInOrder};
@@ -22,10 +22,10 @@ const STREAM: &str = r#"streams = [
     { name = "x", octets = 1500, paths = [["a", "b", "c", "s"], ["a", "b", "t"]] },
 ]"#;
 
-/// An offer of it.
+/// One offer of it.
 const OFFERS: &str = "at,bridge,stream,octets\n0,a,x,1500\n";
 
-/// The text of the book over four cycles, with a background frame and a drop that are at hand.
+/// The text of the book over four cycles, with a background frame and a drop that are given.
 const TEXT: &str = "what,cycle,where,frame,octets,detail
 start,1,a>b,1,1500,125000
 start,2,b>c,1,1500,250000
@@ -35,7 +35,7 @@ background,0,c>s,7,64,5
 drop,1,b,2,100,unknown
 ";
 
-/// What is put of a pass, with a background frame and a drop beside it; nothing for want of memory.
+/// Returns what is put of a pass, with a background frame and a drop; nothing if an allocation fails.
 fn told_of(alloc: Global, domain: &Domain, pass: Pass, sheet: Sheet) -> Vec<u8>
     requires { pass.told ≡ 0 }
 {
@@ -64,7 +64,7 @@ fn told_of(alloc: Global, domain: &Domain, pass: Pass, sheet: Sheet) -> Vec<u8>
     told.into_writer()
 }
 
-/// Whether this text is put of a run over so many cycles of an administration, with these offers.
+/// Returns whether this text is put of a run over `cycles` cycles of an administration, with these offers.
 fn tells(alloc: Global, admission: &Admission, offers: &[Offer], cycles: u32, wanted: &[u8]) -> bool
     requires offers { AreOffers admission.now.domain offers.now }
     requires order { StandInOrder offers.now }
@@ -85,7 +85,7 @@ fn tells(alloc: Global, admission: &Admission, offers: &[Offer], cycles: u32, wa
     }
 }
 
-/// Whether the book of the stream's history has its text.
+/// Returns whether the book of the stream's history has its text.
 fn comes_out(alloc: Global, domain: &Domain) -> bool {
     offers_are_read_in_order();
     let Some(made) = administered(alloc, domain, STREAM, "0 admit x\n", 4) else {

@@ -1,4 +1,4 @@
-//! Runs of small histories, and whether they come out as worked out by hand.
+//! Runs of small histories, compared with results computed by hand.
 ghost use Rattle.std.specs.Prelude.{◌≤◌, length};
 ghost use Rattle.cqf_model.specs.Limits.{most_rows};
 ghost use Rattle.cqf_laws_coverage.specs.Judged.{StandInOrder};
@@ -12,22 +12,22 @@ use cqf_test_fixtures::{Backing, are_background, background_of};
 use cqf_topology::Domain;
 use std::alloc::Global;
 
-/// A run of a small history, and what its book has.
+/// A run of a small history, and the content of its book.
 #[derive(Clone, Copy)]
 pub(crate) struct Case {
     /// The text of the streams.
     pub(crate) streams: &'static str,
-    /// The script, of which each call is taken.
+    /// The script; each of its calls is accepted.
     pub(crate) script: &'static str,
     /// The text of the offers.
     pub(crate) offers: &'static str,
     pub(crate) background: &'static [Backing],
-    /// How many cycles are run.
+    /// The number of cycles.
     pub(crate) cycles: u32,
     pub(crate) wanted: Wanted,
 }
 
-/// Whether both ways give the wanted book where the background frames may be handed to the run.
+/// Returns whether both ways give the wanted book, if the background frames may be given to the run.
 fn comes_out_with(
     alloc: Global,
     administration: &Administration,
@@ -45,7 +45,7 @@ fn comes_out_with(
         && agree(alloc, administration, cycles, offers, background, wanted)
 }
 
-/// Whether a case comes out so.
+/// Returns whether a case has the wanted result.
 fn comes_out(alloc: Global, domain: &Domain, case: &Case) -> bool {
     offers_are_read_in_order();
     let Ok(background) = background_of(alloc, case.background) else {
@@ -72,7 +72,7 @@ fn comes_out(alloc: Global, domain: &Domain, case: &Case) -> bool {
     }
 }
 
-/// The first case over a domain that comes out otherwise, where there is one.
+/// Returns the index of the first case over a domain that has another result, if there is one.
 pub(crate) fn first_wrong(alloc: Global, text: &str, cases: &[Case]) -> Option<usize> {
     let Ok(domain) = Domain::read(alloc, text.as_bytes()) else {
         return Some(0);

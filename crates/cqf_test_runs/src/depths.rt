@@ -27,9 +27,10 @@ links = [
 ]
 "#;
 
-/// A frame of x goes a link a cycle. Where it comes to b1, 1,076 ns into cycle 1, y begins, and stands behind it on each link from there
-/// on. At b15 z begins when the first of them comes there, 1,076 ns into cycle 15, and once more when the second does, 672 ns later: it
-/// stands behind each. A background frame waits for both at b14, and goes no further than its link.
+/// A frame of x crosses one link per cycle. At the instant at which it arrives at b1, 1,076 ns into cycle 1, y begins, and follows it on
+/// each link from there on. At b15 z begins at the instant at which the first of them arrives there, 1,076 ns into cycle 15, and once more
+/// when the second one arrives, 672 ns later: it follows each of them. A background frame waits for both at b14, and goes no further than
+/// its link.
 const OVER_DEEP: &[Case] = &[Case {
     streams: r#"streams = [
     { name = "x", octets = 64, path = ["b0", "b1", "b2", "b3", "b4", "b5", "b6", "b7", "b8", "b9", "b10", "b11", "b12", "b13", "b14", "b15", "s"] },

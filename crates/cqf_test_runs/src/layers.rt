@@ -1,5 +1,5 @@
-//! Runs over bridges in layers: four that are all alike, two that each take what two of them send, and a hub that takes what these do. So
-//! frames that tie at one layer come to the next in the order that this gave them, and tie there again.
+//! Runs over bridges in layers: four equal bridges, two bridges that each receive from two of them, and a hub that receives from these two.
+//! So frames that tie at one layer arrive at the next in the order given by the first, and tie there again.
 use crate::cases::{Case, first_wrong};
 use crate::ways::Wanted;
 use cqf_model::Reason;
@@ -21,7 +21,7 @@ links = [
 ]
 "#;
 
-/// A stream from each bridge but n, and a second from a.
+/// A stream from each bridge except n, and a second one from a.
 const STREAMS: &str = r#"streams = [
     { name = "xa", octets = 600, path = ["a", "m", "h", "s"] },
     { name = "xb", octets = 600, path = ["b", "m", "h", "s"] },
@@ -32,11 +32,11 @@ const STREAMS: &str = r#"streams = [
     { name = "ya", octets = 600, path = ["a", "m", "h", "s"] },
 ]"#;
 
-/// All but the second from a are admitted.
+/// All streams except the second one from a are admitted.
 const SIX: &str = "0 admit xa\n0 admit xb\n0 admit xc\n0 admit xd\n0 admit xm\n0 admit xh\n";
 
-/// Two frames of 64 octets from each of the four, and at m and h offers at the very instants at which such frames come there: 1,076 ns
-/// into a cycle the first of each link, and 672 ns behind it the next.
+/// Two frames of 64 octets from each of the four, and at m and h offers at exactly the instants at which such frames arrive there: the
+/// first of each link 1,076 ns into a cycle, and the next one 672 ns later.
 const OFFERS: &str = "at,bridge,stream,octets
 1000,a,xa,64
 1000,b,xb,64
@@ -54,9 +54,9 @@ const OFFERS: &str = "at,bridge,stream,octets
 251748,h,xh,64
 ";
 
-/// At m, link 1 comes before link 3, and both before the offers: 2, 1, 9 and 10 come at once, and 672 ns behind them 7, 8 and 11. At n
-/// link 2 comes before link 4: 4 and 3, and then 5 and 6. So n and m send 4 and 2 first, then 3 and 1, then 5 and 9, and so on: at h each
-/// two of them come at once, by link 0 and link 5, and the offers behind the first and the second two.
+/// At m, link 1 comes before link 3, and both before the offers: 2, 1, 9 and 10 arrive at once, and 672 ns later 7, 8 and 11. At n link 2
+/// comes before link 4: 4 and 3, and then 5 and 6. So n and m send 4 and 2 first, then 3 and 1, then 5 and 9, and so on: at h two of them
+/// arrive at once each time, by link 0 and link 5, and the offers follow the first two and the second two.
 const IN_LAYERS: &[Begun] = &[
     (1, 1, 2, 64, 125_000),
     (1, 1, 7, 64, 125_672),
@@ -107,9 +107,9 @@ const OVER_LAYERS: &[Case] = &[
             drops: &[],
         },
     },
-    // background frames change none of these starts. On link 5 the first, which takes 8 (1,000 + 8) ns, ends in the guard time from
-    // 245,000 on, waits for the seven frames of cycle 2, and goes at 250,000 + 7 · 672; the second goes at once. On link 0 there are four
-    // frames before the fourth, on link 6 fourteen before the fifth and the third, of which the higher class comes first
+    // background frames change none of these starts. On link 5 the first one, which takes 8 (1,000 + 8) ns, would end in the guard band
+    // from 245,000 on. So it waits for the seven frames of cycle 2, and goes at 250,000 + 7 · 672; the second one goes at once. On link 0
+    // there are four frames before the fourth one. On link 6 there are fourteen before the fifth and the third one, which go by class
     Case {
         streams: STREAMS,
         script: SIX,
@@ -135,7 +135,7 @@ const OVER_LAYERS: &[Case] = &[
             drops: &[],
         },
     },
-    // xa is withdrawn from cycle 1 on, while its frame 1 is under way, which ties at m in cycle 1 all the same, and ya begins. xa is
+    // xa is withdrawn from cycle 1 on, while its frame 1 is under way. That frame ties at m in cycle 1 all the same, and ya begins. xa is
     // held up to cycle 3
     Case {
         streams: STREAMS,

@@ -1,6 +1,6 @@
-//! Tests of runs on one thread, with values from outside: by exact instants and by ports and gates, which have to give the same
-//! book; tables that a run refuses; and worlds, whose events come out of turn. What a run gives beside is in the stored runs of `runs/`.
-//! A crate that has tests is proved twice, so these stand in one of their own.
+//! Tests of runs on one thread, with values from outside: by exact instants and by ports and gates, which must give the same book; tables
+//! that a run refuses; and worlds whose events come out of turn. The other results of a run are in the stored runs of `runs/`. A crate that
+//! has tests is proved twice, so these tests have a crate of their own.
 #![tactic(auto)]
 
 #[cfg(test)]

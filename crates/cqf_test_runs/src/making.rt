@@ -1,4 +1,4 @@
-//! Worlds to begin with.
+//! New worlds.
 use cqf_admission::Admission;
 use cqf_compile::{Plan, compile};
 use cqf_model::{Background, Offer};
@@ -7,7 +7,7 @@ use cqf_topology::Domain;
 use cqf_world::World;
 use std::alloc::Global;
 
-/// The plan of a domain's text.
+/// Returns the plan of a domain's text.
 pub(crate) fn plan_of(alloc: Global, text: &str) -> Option<Plan> {
     let Ok(domain) = Domain::read(alloc, text.as_bytes()) else {
         return None;
@@ -18,7 +18,7 @@ pub(crate) fn plan_of(alloc: Global, text: &str) -> Option<Plan> {
     }
 }
 
-/// A world of the plan, where it may be made, which begins with no call.
+/// Returns a world of the plan without any call, if it may be made.
 pub(crate) fn begin<'a>(
     alloc: Global,
     plan: &Plan,

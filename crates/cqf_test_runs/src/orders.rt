@@ -8,7 +8,7 @@ use cqf_test_fixtures::{Backing, Offering, background_of, line, offers_of};
 use cqf_world::World;
 use std::alloc::Global;
 
-/// What is called for, in order: the stream is withdrawn in cycle 1, and six cycles are closed to changes.
+/// The calls, in order: the stream is withdrawn in cycle 1, and six cycles are closed to changes.
 const CALLS: &[Act] = &[
     Act::Admit,
     Act::Seal,
@@ -20,10 +20,10 @@ const CALLS: &[Act] = &[
     Act::Seal,
 ];
 
-/// What never happens beside it: link 2 ends in a station, and there is neither a bridge 3 nor a link 3.
+/// Events that never happen in this run: link 2 ends in a station, and there is neither a bridge 3 nor a link 3.
 const NEVER: &[Act] = &[Act::Take(2), Act::Give(3), Act::Take(3)];
 
-/// What is offered: a frame, one at another bridge, one behind the withdrawal, and one when nothing is held of the stream any more.
+/// The offers: a frame, one at another bridge, one after the withdrawal, and one when the stream is no longer held.
 const OFFERS: &[Offering] = &[
     (0, 0, "x", 64),
     (0, 1, "x", 64),
@@ -34,9 +34,9 @@ const OFFERS: &[Offering] = &[
 /// Two background frames, of classes 0 and 5.
 const BACKGROUND: &[Backing] = &[(0, 1, 0, 1522), (125000, 0, 5, 1522)];
 
-/// The pages of the run that aren't empty. Offer 1 goes a link a cycle, although its stream is withdrawn behind it: it is held for three
-/// cycles more. A background frame alone goes at once; the other comes to its link in the same instant as offer 1 leaves it, and goes
-/// behind it: 84 octets of the wire take 672 ns.
+/// The pages of the run that aren't empty. Offer 1 crosses one link per cycle, although its stream is withdrawn after it: the stream is
+/// held for three more cycles. One background frame is alone and goes at once. The other arrives at its link at the instant at which offer
+/// 1 leaves it, and follows it: 84 octets of the wire take 672 ns.
 const PAGES: &[Written] = &[
     Written {
         bridge: 1,
@@ -75,17 +75,17 @@ const PAGES: &[Written] = &[
     },
 ];
 
-/// How many events are tried in an order: far more than the 74 of the run.
+/// How many events are tried in one order: far more than the 74 of the run.
 const TRIES: u32 = 3000;
 
-/// A pseudo-random number behind another one: a linear congruential generator, of which the high bits are used.
+/// Returns the next pseudo-random number after a number. It is a linear congruential generator; the high bits are used.
 fn behind(number: u64) -> u64 {
     number
         .wrapping_mul(6_364_136_223_846_793_005)
         .wrapping_add(1_442_695_040_888_963_407)
 }
 
-/// One of the events of bridges and links, or the next call: twice as often as each of the others.
+/// Returns one of the events of bridges and links, or the next call, which is chosen twice as often as each of the others.
 fn chosen(number: u64, made: usize) -> Act {
     let place = ((number >> 33) % 16) as usize;
     match SIDE_BY_SIDE.iter().chain(NEVER).nth(place) {
@@ -97,12 +97,13 @@ fn chosen(number: u64, made: usize) -> Act {
     }
 }
 
-/// Whether an event is a call or a Seal.
+/// Returns whether an event is a call or a Seal.
 fn is_called(act: Act) -> bool {
     matches!(act, Act::Admit | Act::Withdraw | Act::Seal)
 }
 
-/// Tries events in an order, and tells how many calls and Seals, and how many events in all, were done. `None` where a growth was refused.
+/// Tries events in one order, and returns how many calls and Seals, and how many events in all, were done, or `None` if an allocation
+/// failed.
 fn try_all(alloc: Global, world: &mut World, seed: u64) -> Option<(usize, usize)> {
     let mut number = seed;
     let mut made = 0;
@@ -120,13 +121,13 @@ fn try_all(alloc: Global, world: &mut World, seed: u64) -> Option<(usize, usize)
     Some((made, done))
 }
 
-/// Whether all of the run happens in an order, and its pages are those by hand: eight calls and Seals, a table, a sent cycle and a page for
-/// each of three bridges and six cycles, and a batch of each of two links and six cycles.
+/// Returns whether all of the run happens in one order, and its pages are those computed by hand. The run has eight calls and Seals, a
+/// table, a sent cycle and a page for each of three bridges and six cycles, and a batch for each of two links and six cycles.
 fn gives_the_pages(alloc: Global, world: &mut World, seed: u64) -> bool {
     try_all(alloc, world, seed) == Some((8, 74)) && are_written(world.pages(), 3, 6, PAGES)
 }
 
-/// Whether it does in one order, in a world of its own.
+/// Returns whether it does in one order, in a world of its own.
 fn order_gives_them(
     alloc: Global,
     plan: &Plan,
@@ -140,7 +141,7 @@ fn order_gives_them(
     }
 }
 
-/// Whether it does in each of thirty orders.
+/// Returns whether it does in each of thirty orders.
 fn each_order_gives_them(
     alloc: Global,
     plan: &Plan,
@@ -155,7 +156,7 @@ fn each_order_gives_them(
     true
 }
 
-/// Whether it does so on the line.
+/// Returns whether it does so on the line.
 fn line_gives_them(alloc: Global) -> bool {
     let Ok(offers) = offers_of(alloc, OFFERS) else {
         return false;

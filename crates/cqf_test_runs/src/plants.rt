@@ -1,4 +1,4 @@
-//! Runs of the plants of `examples/`: the robot cell, the vehicle, the studio, and the stream that takes the place of another.
+//! Runs of the plans of `examples/`: the robot cell, the vehicle, the studio, and the stream that replaces another one.
 use crate::cases::{Case, first_wrong};
 use crate::ways::Wanted;
 use cqf_model::Reason;
@@ -25,8 +25,8 @@ streams = [
 ]
 "#;
 
-/// The camera's frames, of 1,522 octets, come to the robot's switch in cycle 1, whole at 250,000 + 8 (1,522 + 8) + 900 and 12,336 ns
-/// later, and stand behind what the axes offer there at 251,000.
+/// The camera's frames, of 1,522 octets, arrive at the robot's switch in cycle 1, completely at 250,000 + 8 (1,522 + 8) + 900 and 12,336 ns
+/// later, and follow what the axes offer there at 251,000.
 const IN_CELL: &[Case] = &[Case {
     streams: CELL,
     script: "0 admit axes\n0 admit setpoints\n0 admit valves-out\n0 admit camera\n",
@@ -99,8 +99,8 @@ streams = [
 ]
 "#;
 
-/// The two radars' frames are whole at the centre at one instant of cycle 1, 500,000 + 8 (1,500 + 8) + 1,200, and go by link. In cycle 2
-/// the wheels' short frame is the first there, whole at 1,002,288, before the left radar's and the camera's.
+/// The two radars' frames have completely arrived at the centre at the same instant of cycle 1, 500,000 + 8 (1,500 + 8) + 1,200, and go by
+/// link. In cycle 2 the wheels' short frame is the first there, complete at 1,002,288, before the left radar's and the camera's.
 const IN_VEHICLE: &[Case] = &[Case {
     streams: VEHICLE,
     script: "0 admit radar-left
@@ -171,11 +171,11 @@ streams = [
 ]
 "#;
 
-/// In cycle 1 the stage's two frames are whole at the floor at 131,496 and 137,288, between the cameras' offers: with 8 · 1,520, 8 · 1,542
-/// and 8 · 724 ns a frame the floor's link has 73,488 ns of cameras in cycle 1, and in cycle 2 also two frames of the stage. Each of two
-/// cameras has six starts of the offers of each of the cycles 0 and 1, the stage eight, the mix three; from cycle 2 on there are as many
-/// as cycles are left, and one camera. Background frames go behind the cameras, of two the higher class first; that for the monitors,
-/// which takes 80 · 908 ns, never fits behind the mix.
+/// In cycle 1 the stage's two frames have completely arrived at the floor at 131,496 and 137,288, between the cameras' offers. Frames take
+/// 8 · 1,520, 8 · 1,542 and 8 · 724 ns, so the floor's link has 73,488 ns of cameras in cycle 1, and in cycle 2 also two frames of the
+/// stage. Each of two cameras has six starts from the offers of each of the cycles 0 and 1, the stage eight, the mix three. From cycle 2 on
+/// there are as many as there are cycles left, and one camera. Background frames follow the cameras, of two frames the higher class first.
+/// The one for the monitors, which takes 80 · 908 ns, never fits after the mix.
 const IN_STUDIO: &[Case] = &[Case {
     streams: STUDIO,
     script: "0 admit stage-mics
@@ -281,7 +281,7 @@ seal
     },
 }];
 
-/// The stream that takes the place of another, as `held-plant.toml` has it.
+/// The stream that replaces another one, as `held-plant.toml` has it.
 const HELD: &str = r#"cycle = 125000
 guard = 5000
 bridges = ["a", "b", "c"]
@@ -297,7 +297,8 @@ streams = [
 ]
 "#;
 
-/// y is offered at c when x's frame is whole there, and goes behind it on the slow link, 80 (64 + 20) ns later.
+/// y is offered at c at the instant at which x's frame has completely arrived there, and follows it on the slow link, 80 (64 + 20) ns
+/// later.
 const WHILE_HELD: &[Case] = &[Case {
     streams: HELD,
     script: "0 admit x\nseal\n0 withdraw x\n0 admit y\n",

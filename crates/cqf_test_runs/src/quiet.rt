@@ -1,11 +1,11 @@
-//! Runs with cycles in which nothing happens: what comes behind them, worked out by hand.
+//! Runs with cycles in which nothing happens: the events after these cycles, computed by hand.
 use crate::cases::{Case, first_wrong};
 use crate::ways::Wanted;
 use cqf_test_fixtures::line;
 
-/// Over the line. The first frame goes on by link 0 in cycle 1, by 1 in cycle 2 and by 2 in cycle 3; the second, of cycle 20, from
-/// cycle 21 on. Between them a background frame starts as cycle 10 begins; and one that comes as the guard time of cycle 11 begins, at
-/// 1,495,000, waits for cycle 12.
+/// Over the line. The first frame is sent on link 0 in cycle 1, on link 1 in cycle 2 and on link 2 in cycle 3; the second one, of cycle 20,
+/// from cycle 21 on. Between them a background frame starts as cycle 10 begins. Another one, which arrives as the guard band of cycle 11
+/// begins, at 1,495,000, waits for cycle 12.
 const OVER_LINE: &[Case] = &[Case {
     streams: r#"streams = [{ name = "x", octets = 1500, path = ["a", "b", "c", "s"] }]"#,
     script: "0 admit x\n",

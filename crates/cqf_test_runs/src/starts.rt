@@ -1,4 +1,4 @@
-//! Starts of the runs of small histories, worked out by hand.
+//! Starts in the runs of small histories, computed by hand.
 use crate::cases::{Case, first_wrong};
 use crate::ways::Wanted;
 use cqf_model::Reason;
@@ -6,8 +6,8 @@ use cqf_test_fixtures::{fork, line};
 
 /// Over the line.
 const OVER_LINE: &[Case] = &[
-    // x is withdrawn from cycle 1 on, y is never live, and z begins in cycle 1: of x's frame of cycle 0 all links send, of the frame
-    // in cycle 3, when the run is over, none
+    // x is withdrawn from cycle 1 on, y is never live, and z begins in cycle 1. x's frame of cycle 0 is sent on a link in each later cycle
+    // of the run. The frame offered in cycle 3, when the run is over, isn't sent
     Case {
         streams: r#"streams = [
     { name = "x", octets = 1500, path = ["a", "b", "c", "s"] },
@@ -49,8 +49,8 @@ seal
             ],
         },
     },
-    // at b the offer of w comes 100 ns into cycle 1, and the frames of x, which are whole 8 (700 + 8) + 500 and 8 (720 + 808) + 500 ns
-    // into it, go behind it
+    // at b the offer of w comes 100 ns into cycle 1, and the frames of x, which have completely arrived 8 (700 + 8) + 500 and 8 (720 + 808)
+    // + 500 ns into the cycle, follow it
     Case {
         streams: r#"streams = [
     { name = "x", octets = 1500, path = ["a", "b", "c", "s"] },
@@ -78,8 +78,8 @@ seal
             drops: &[(0, 0, 3, 64, Reason::Octets)],
         },
     },
-    // x is withdrawn from cycle 1 on, while a frame of it is under way, which still goes by all links; y takes its place, and
-    // begins at c at the very instant at which that frame is whole there. x is held up to cycle 3, and unknown in cycle 4
+    // x is withdrawn from cycle 1 on, while a frame of it is under way, which is still sent on all links. y takes its place, and begins at
+    // c at exactly the instant at which that frame has completely arrived there. x is held up to cycle 3, and unknown in cycle 4
     Case {
         streams: r#"streams = [
     { name = "x", octets = 1500, path = ["a", "b", "c", "s"] },
@@ -121,7 +121,7 @@ seal
 
 /// Over the line that branches.
 const OVER_FORK: &[Case] = &[
-    // at b a frame goes on by both links
+    // at b a frame is sent on both links
     Case {
         streams: r#"streams = [
     { name = "x", octets = 1500, paths = [["a", "b", "c", "s"], ["a", "b", "t"]] },
@@ -142,7 +142,7 @@ const OVER_FORK: &[Case] = &[
             drops: &[],
         },
     },
-    // offers come to b when the frame does, for each of the links by which it goes on, and stand behind it on both
+    // offers are made at b when the frame arrives, for each of the links on which it is sent, and follow it on both
     Case {
         streams: r#"streams = [
     { name = "x", octets = 1500, paths = [["a", "b", "c", "s"], ["a", "b", "t"]] },

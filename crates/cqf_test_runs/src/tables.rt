@@ -1,4 +1,4 @@
-//! Runs of the network on one thread by tables of two histories, and by too few and too many tables.
+//! Runs of the network on one thread, by tables of two histories, and by too few and too many tables.
 ghost use Rattle.std.specs.Prelude.{◌≤◌, length};
 ghost use Rattle.cqf_model.specs.Run.{AreOffers};
 
@@ -18,7 +18,7 @@ const LESS_X: Asked = ("x", 64, &[&["a", "b", "c", "s"]]);
 /// An offer of 1,500 octets.
 const OFFERS: &[Offering] = &[(0, 0, "x", 1500)];
 
-/// The stream of the last table, where that of the others is x, how many tables there are, and what comes of two cycles by them.
+/// The stream of the last table, when that of the others is x, the number of tables, and the result of two cycles by them.
 const CASES: &[(Asked, u32, Result<&[Begun], RunFault>)] = &[
     (X, 2, Ok(&[(1, 0, 1, 1500, 125_000)])),
     (LESS_X, 2, Err(RunFault::Inside(1))),
@@ -26,7 +26,7 @@ const CASES: &[(Asked, u32, Result<&[Begun], RunFault>)] = &[
     (X, 3, Err(RunFault::WrongTables)),
 ];
 
-/// Closes so many cycles, and keeps the tables of those from one on.
+/// Closes `count` cycles, and keeps the tables from cycle `from` on.
 fn seal_all(asked: &mut Admission, from: u32, count: u32, tables: &mut Vec<Table>) -> bool {
     for cycle in 0..count {
         match asked.seal(1) {
@@ -41,7 +41,7 @@ fn seal_all(asked: &mut Admission, from: u32, count: u32, tables: &mut Vec<Table
     true
 }
 
-/// Whether a stream is granted.
+/// Returns whether a stream is granted.
 fn is_granted(alloc: Global, asked: &mut Admission, stream: &Asked) -> bool {
     match request(alloc, stream) {
         Ok(wanted) => asked.admit(0, &wanted).is_ok(),
@@ -49,7 +49,7 @@ fn is_granted(alloc: Global, asked: &mut Admission, stream: &Asked) -> bool {
     }
 }
 
-/// Appends the tables from one cycle on, up to so many cycles, of an admission that has the stream.
+/// Appends the tables from one cycle on, up to a number of cycles, of an admission that has the stream.
 fn add_tables(
     alloc: Global,
     domain: &Domain,
@@ -66,12 +66,12 @@ fn add_tables(
     }
 }
 
-/// Whether a book has these starts alone.
+/// Returns whether a book has only these starts.
 fn is_book(book: &Book, rows: &[Begun]) -> bool {
     are_begun(book.starts.as_slice(), rows) && book.background.is_empty() && book.drops.is_empty()
 }
 
-/// Whether two cycles by these tables come out so.
+/// Returns whether two cycles by these tables have the wanted result.
 fn comes_out(
     alloc: Global,
     plan: &Plan,
@@ -88,7 +88,7 @@ fn comes_out(
     }
 }
 
-/// Whether they do by so many tables, of which the last has this stream.
+/// Returns whether they do by this number of tables, the last of them with this stream.
 fn comes_out_by(
     alloc: Global,
     plan: &Plan,
@@ -106,7 +106,7 @@ fn comes_out_by(
         && comes_out(alloc, plan, tables.as_slice(), offers, wanted)
 }
 
-/// The first case on a plan that comes out otherwise, where there is one.
+/// Returns the index of the first case on a plan that has another result, if there is one.
 fn first_wrong(alloc: Global, plan: &Plan, offers: &[Offer]) -> Option<usize> {
     if offers.len() > 1_000_000 || !are_offers(plan.domain(), offers) {
         return Some(0);
@@ -119,7 +119,7 @@ fn first_wrong(alloc: Global, plan: &Plan, offers: &[Offer]) -> Option<usize> {
     None
 }
 
-/// The first one on a domain.
+/// Returns the first one on a domain.
 fn first_wrong_over(alloc: Global, domain: &Domain) -> Option<usize> {
     let Ok(offers) = offers_of(alloc, OFFERS) else {
         return Some(0);
@@ -130,7 +130,7 @@ fn first_wrong_over(alloc: Global, domain: &Domain) -> Option<usize> {
     }
 }
 
-/// The first one on the line.
+/// Returns the first one on the line.
 fn first_wrong_on_line(alloc: Global) -> Option<usize> {
     match Domain::read(alloc, line().as_bytes()) {
         Ok(domain) => first_wrong_over(alloc, &domain),

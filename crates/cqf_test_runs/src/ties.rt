@@ -1,10 +1,10 @@
-//! Runs in which frames come to a bridge at one instant. Those that come by links go by the number of their link, those that are
-//! offered there behind all of them, by place.
+//! Runs in which frames arrive at a bridge at the same instant. Those that arrive over links go by the number of their link. Those that are
+//! offered there follow all of these, by index.
 use crate::cases::{Case, first_wrong};
 use crate::ways::Wanted;
 use cqf_model::Reason;
 
-/// Four bridges, all alike, that feed a hub: links 0 c>e, 1 a>e, 2 d>e and 3 b>e, and 4 e>s.
+/// Four equal bridges that feed a hub: links 0 c>e, 1 a>e, 2 d>e and 3 b>e, and 4 e>s.
 const HUB: &str = r#"cycle = 125000
 guard = 5000
 bridges = ["e", "d", "c", "b", "a"]
@@ -30,10 +30,11 @@ const STREAMS: &str = r#"streams = [
 
 const SCRIPT: &str = "0 admit xa\n0 admit xb\n0 admit xc\n0 admit xd\n0 admit xe\n0 admit ye\n";
 
-/// Over the hub, with frames of 64 octets. A link begins with the first at 125,000, the first instant of cycle 1, and with each other
-/// 8 (64 + 20), which is 672, ns behind the one before it. One is whole at the hub 8 (64 + 8) + 500, which is 1,076, ns after it starts.
+/// Over the hub, with frames of 64 octets. A link begins with the first frame at 125,000, the first instant of cycle 1, and sends each
+/// other frame 8 (64 + 20), which is 672, ns after the one before it. A frame has completely arrived at the hub 8 (64 + 8) + 500, which is
+/// 1,076, ns after it starts.
 const OVER_HUB: &[Case] = &[
-    // an offer stands behind what comes by a link at that instant: the first frame is whole at 126,076
+    // an offer follows what arrives over a link at the same instant: the first frame has completely arrived at 126,076
     Case {
         streams: STREAMS,
         script: SCRIPT,
@@ -60,7 +61,7 @@ const OVER_HUB: &[Case] = &[
             drops: &[],
         },
     },
-    // offered in the order of their links, they go so
+    // if they are offered in the order of their links, they go in this order
     Case {
         streams: STREAMS,
         script: SCRIPT,
@@ -88,7 +89,8 @@ const OVER_HUB: &[Case] = &[
             drops: &[],
         },
     },
-    // and offered in another order they go by their links all the same: two of each bridge, of which the second is whole at 126,748
+    // and if they are offered in another order, they still go by their links: two of each bridge; the second one has completely arrived at
+    // 126,748
     Case {
         streams: STREAMS,
         script: SCRIPT,
@@ -128,8 +130,8 @@ const OVER_HUB: &[Case] = &[
             drops: &[],
         },
     },
-    // offers of one instant go by place, and 8 (100 + 20), 8 (200 + 20) and 8 (64 + 20) ns take those of them that pass: of the fourth
-    // xe has no octets left, of which the fifth takes what the fourth has not
+    // offers of the same instant go by index, and those of them that pass take 8 (100 + 20), 8 (200 + 20) and 8 (64 + 20) ns. xe has too
+    // few octets left for the fourth one, and just enough for the fifth one
     Case {
         streams: STREAMS,
         script: SCRIPT,
@@ -156,7 +158,7 @@ const OVER_HUB: &[Case] = &[
     },
 ];
 
-/// A slow and a quick link to a bridge: 0 g>e, whose octet takes 80 ns, and 1 f>e, and 2 e>s.
+/// A slow and a fast link to a bridge: 0 g>e, on which an octet takes 80 ns, and 1 f>e; and 2 e>s.
 const TWO_RATES: &str = r#"cycle = 125000
 guard = 5000
 bridges = ["e", "f", "g"]
@@ -168,8 +170,8 @@ links = [
 ]
 "#;
 
-/// Over these, the frame of the slow link is whole 80 (64 + 8) + 20, which is 5,780, ns after 125,000, and so is the eighth of the quick
-/// one, 7 · 672 + 1,076.
+/// Over these links, the frame of the slow link has completely arrived 80 (64 + 8) + 20, which is 5,780, ns after 125,000, and so has the
+/// eighth frame of the fast link, 7 · 672 + 1,076 ns after it.
 const OVER_TWO_RATES: &[Case] = &[Case {
     streams: r#"streams = [
     { name = "xe", octets = 64, path = ["e", "s"] },

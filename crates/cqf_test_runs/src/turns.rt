@@ -9,22 +9,22 @@ use cqf_units::Cycle;
 use cqf_world::World;
 use std::alloc::Global;
 
-/// What is tried with a world or seen of it.
+/// What is tried with a world, or checked of it.
 enum Turn {
     /// Each of these events is done.
     Done(&'static [Act]),
     /// None of these is enabled.
     NotEnabled(&'static [Act]),
-    /// So many bridges have posted their pages of so many cycles, of which these aren't empty.
+    /// This number of bridges have posted their pages of this number of cycles; of these pages only the listed ones aren't empty.
     Posted(u16, u32, &'static [Written]),
-    /// The history has these answers, of seat 1 to Seals, and of seat 0 to the others.
+    /// The history has these answers: of seat 1 to Seals, and of seat 0 to the others.
     Replied(&'static [Reply]),
 }
 
-/// How many cycles a world has, and what is tried with it.
+/// The number of cycles of a world, and what is tried with it.
 type Trial = (u32, &'static [Turn]);
 
-/// One bridge goes through one cycle, with no stream: before it and behind it nothing is enabled.
+/// One bridge goes through one cycle, without a stream: before and after it nothing is enabled.
 const ON_ONE_LINK: &[Trial] = &[(
     1,
     &[
@@ -48,12 +48,12 @@ const CLOSED: &[Act] = &[Act::Admit, Act::Seal, Act::Seal];
 /// A bridge into which no link leads goes through a cycle.
 const FIRST_BRIDGE: &[Act] = &[Act::Give(0), Act::Step(0), Act::Post(0)];
 
-/// A bridge behind it does, and the one behind that.
+/// The next bridge does so too, and then the one after it.
 const SECOND_BRIDGE: &[Act] = &[Act::Give(1), Act::Step(1), Act::Take(0), Act::Post(1)];
 
 const THIRD_BRIDGE: &[Act] = &[Act::Give(2), Act::Step(2), Act::Take(1), Act::Post(2)];
 
-/// The one frame leaves the first bridge in the cycle behind its own.
+/// The only frame leaves the first bridge in the cycle after its own.
 const ONE_START: &[Written] = &[Written {
     bridge: 0,
     cycle: 1,
@@ -72,7 +72,7 @@ const BEFORE_A_SEAL: &[Act] = &[
     Act::Take(3),
 ];
 
-/// What isn't once the second bridge was given a table, and once it has sent the cycle. No bridge has sent a batch to it.
+/// What isn't enabled after the second bridge was given a table, and after it has sent the cycle. No bridge has sent a batch to it.
 const WITH_ITS_TABLE: &[Act] = &[Act::Give(1), Act::Take(0), Act::Post(1), Act::Step(2)];
 
 const HAS_SENT: &[Act] = &[
@@ -83,13 +83,13 @@ const HAS_SENT: &[Act] = &[
     Act::Post(1),
 ];
 
-/// What isn't once it has taken the first bridge's batch of the cycle, of which there is a second one; and once it has posted. Link 2
-/// ends in a station.
+/// What isn't enabled after it has taken the first bridge's batch of the cycle, although there is a second batch; and after it has posted.
+/// Link 2 ends in a station.
 const HAS_TAKEN: &[Act] = &[Act::Take(0), Act::Step(1), Act::Give(1)];
 
 const HAS_POSTED: &[Act] = &[Act::Post(1), Act::Take(0), Act::Step(1), Act::Take(2)];
 
-/// The answers to the calls of a run in which the stream is asked for once more, withdrawn behind the Seals, and withdrawn again.
+/// The answers to the calls of a run in which the stream is requested once more, withdrawn after the Seals, and withdrawn again.
 const REPLIES: &[Reply] = &[
     Reply::Accepted(Receipt {
         no: 0,
@@ -105,7 +105,7 @@ const REPLIES: &[Reply] = &[
     Reply::Refused(Refused::AlreadyWithdrawn),
 ];
 
-/// The line's bridges go through two cycles, where 64 octets are offered at the first instant.
+/// The line's bridges go through two cycles; 64 octets are offered at the first instant.
 const ON_LINE: &[Trial] = &[
     // one after the other
     (
@@ -122,7 +122,7 @@ const ON_LINE: &[Trial] = &[
             Turn::Posted(3, 2, ONE_START),
         ],
     ),
-    // side by side
+    // at the same time
     (
         2,
         &[
@@ -132,7 +132,7 @@ const ON_LINE: &[Trial] = &[
             Turn::Posted(3, 2, ONE_START),
         ],
     ),
-    // what is out of turn changes nothing
+    // events out of turn change nothing
     (
         2,
         &[
@@ -156,7 +156,7 @@ const ON_LINE: &[Trial] = &[
             Turn::Posted(3, 2, ONE_START),
         ],
     ),
-    // calls behind the run's Seals enter the history with their answers, and change no page
+    // calls after the run's Seals enter the history with their answers, and change no page
     (
         2,
         &[
@@ -171,7 +171,7 @@ const ON_LINE: &[Trial] = &[
     ),
 ];
 
-/// Whether a world's history has these answers, of seat 1 to Seals, and of seat 0 to the others.
+/// Returns whether a world's history has these answers: of seat 1 to Seals, and of seat 0 to the others.
 fn has_replies(world: &World, replies: &[Reply]) -> bool {
     let entries = world.admission().history();
     entries.len() == replies.len()
@@ -181,7 +181,7 @@ fn has_replies(world: &World, replies: &[Reply]) -> bool {
         })
 }
 
-/// Whether it goes so in turn.
+/// Returns whether a turn goes as expected.
 fn goes_so(alloc: Global, world: &mut World, turn: &Turn) -> bool {
     match *turn {
         Turn::Done(acts) => all_happen(alloc, world, acts),
@@ -191,7 +191,7 @@ fn goes_so(alloc: Global, world: &mut World, turn: &Turn) -> bool {
     }
 }
 
-/// Whether it goes so in all turns.
+/// Returns whether all turns go as expected.
 fn all_go_so(alloc: Global, world: &mut World, turns: &[Turn]) -> bool {
     for turn in turns {
         if !goes_so(alloc, world, turn) {
@@ -201,7 +201,7 @@ fn all_go_so(alloc: Global, world: &mut World, turns: &[Turn]) -> bool {
     true
 }
 
-/// Whether a world of a plan goes through a trial.
+/// Returns whether a world of a plan passes a trial.
 fn passes(alloc: Global, plan: &Plan, offers: &[Offer], trial: &Trial) -> bool {
     match begin(alloc, plan, offers, &[], trial.0) {
         Some(mut world) => all_go_so(alloc, &mut world, trial.1),
@@ -209,7 +209,7 @@ fn passes(alloc: Global, plan: &Plan, offers: &[Offer], trial: &Trial) -> bool {
     }
 }
 
-/// Whether worlds of a plan go through trials.
+/// Returns whether worlds of a plan pass trials.
 fn pass_on(alloc: Global, plan: &Plan, offers: &[Offer], trials: &[Trial]) -> bool {
     for trial in trials {
         if !passes(alloc, plan, offers, trial) {
@@ -219,7 +219,7 @@ fn pass_on(alloc: Global, plan: &Plan, offers: &[Offer], trials: &[Trial]) -> bo
     true
 }
 
-/// Whether they do over the domain of a text, where this is offered.
+/// Returns whether they do over the domain of a text, with these offers.
 fn pass(alloc: Global, text: &str, offering: &[Offering], trials: &[Trial]) -> bool {
     let Ok(offers) = offers_of(alloc, offering) else {
         return false;

@@ -1,4 +1,4 @@
-//! The book of a run by both ways: by exact instants, and by bridges with ports and gates.
+//! The book of a run computed in two ways: by exact instants, and by bridges with ports and gates.
 ghost use Rattle.std.specs.Prelude.{◌≤◌, length};
 ghost use Rattle.cqf_model.specs.Limits.{most_rows};
 ghost use Rattle.cqf_laws_coverage.specs.Judged.{StandInOrder};
@@ -14,12 +14,12 @@ use cqf_test_fixtures::{Begun, Fell, are_begun, are_dropped};
 use cqf_units::Memory;
 use std::alloc::Global;
 
-/// What a book has, as it was worked out by hand.
+/// The content of a book, computed by hand.
 #[derive(Clone, Copy)]
 pub(crate) struct Wanted {
     /// How many starts of streams' frames it has.
     pub(crate) many: usize,
-    /// Of some links, all starts of a cycle.
+    /// All starts on some links in some cycles.
     pub(crate) starts: &'static [Begun],
     /// All starts of background frames.
     pub(crate) background: &'static [Begun],
@@ -27,13 +27,13 @@ pub(crate) struct Wanted {
     pub(crate) drops: &'static [Fell],
 }
 
-/// Whether some rows have a start's cycle and link.
+/// Returns whether one of these rows has a start's cycle and link.
 fn is_listed(start: &Started, rows: &[Begun]) -> bool {
     rows.iter()
         .any(|row| row.0 == start.cycle.0 && row.1 == start.link)
 }
 
-/// The starts whose cycles and links some rows have.
+/// Returns the starts whose cycles and links occur in these rows.
 fn listed(alloc: Global, starts: &[Started], rows: &[Begun]) -> Result<Vec<Started>, Memory> {
     let mut picked = Vec::new(alloc);
     for start in starts {
@@ -44,7 +44,7 @@ fn listed(alloc: Global, starts: &[Started], rows: &[Begun]) -> Result<Vec<Start
     Ok(picked)
 }
 
-/// Whether so many starts, and the wanted ones on their links in their cycles, are those of a book.
+/// Returns whether a book has the wanted number of starts, and the wanted ones on their links in their cycles.
 fn has_starts(alloc: Global, book: &Book, wanted: &Wanted) -> bool {
     let starts = book.starts.as_slice();
     match listed(alloc, starts, wanted.starts) {
@@ -53,21 +53,21 @@ fn has_starts(alloc: Global, book: &Book, wanted: &Wanted) -> bool {
     }
 }
 
-/// Whether a book has all that is wanted.
+/// Returns whether a book has everything that is wanted.
 fn is_wanted(alloc: Global, book: &Book, wanted: &Wanted) -> bool {
     has_starts(alloc, book, wanted)
         && are_begun(book.background.as_slice(), wanted.background)
         && are_dropped(book.drops.as_slice(), wanted.drops)
 }
 
-/// Whether two books say the same, start by start and drop by drop.
+/// Returns whether two books are equal, start by start and drop by drop.
 fn are_alike(one: &Book, other: &Book) -> bool {
     one.starts.as_slice() == other.starts.as_slice()
         && one.background.as_slice() == other.background.as_slice()
         && one.drops.as_slice() == other.drops.as_slice()
 }
 
-/// The book of a run over so many cycles of an administration, by exact instants.
+/// Returns the book of a run over `cycles` cycles of an administration, by exact instants.
 fn exact_book(
     alloc: Global,
     admission: &Admission,
@@ -92,7 +92,7 @@ fn exact_book(
     Ok(book_of_parts(starts, backed, drops))
 }
 
-/// The book by ports and gates, by the tables of the administration.
+/// Returns the book by ports and gates, from the tables of the administration.
 fn plain_book(
     alloc: Global,
     administration: &Administration,
@@ -119,7 +119,7 @@ fn plain_book(
     }
 }
 
-/// Whether both ways give one book of a run over so many cycles of an administration, and it has what is wanted.
+/// Returns whether both ways give the same book of a run over `cycles` cycles of an administration, and it has what is wanted.
 pub(crate) fn agree(
     alloc: Global,
     administration: &Administration,

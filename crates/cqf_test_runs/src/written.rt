@@ -1,10 +1,10 @@
-//! Pages that a world has posted, beside those that are expected.
+//! Pages that a world has posted, compared with the expected ones.
 use cqf_book::Pages;
 use cqf_model::Page;
 use cqf_test_fixtures::{Begun, Fell, are_begun, are_dropped};
 use cqf_units::Cycle;
 
-/// A page that isn't empty: its bridge and its cycle, and what stands on it.
+/// A page that isn't empty: its bridge and its cycle, and its content.
 pub(crate) struct Written {
     pub(crate) bridge: u16,
     pub(crate) cycle: u32,
@@ -13,7 +13,7 @@ pub(crate) struct Written {
     pub(crate) drops: &'static [Fell],
 }
 
-/// Whether a page is of the bridge and cycle, and has these starts and drops.
+/// Returns whether a page is of the bridge and cycle, and has these starts and drops.
 fn has(
     page: &Page,
     bridge: u16,
@@ -29,7 +29,7 @@ fn has(
         && are_dropped(page.drops.as_slice(), drops)
 }
 
-/// Whether a page is the expected one of its bridge and cycle: that which is written, or else an empty one.
+/// Returns whether a page is the expected one of its bridge and cycle: the one that is listed, or else an empty one.
 fn is_expected(page: &Page, bridge: u16, cycle: u32, written: &[Written]) -> bool {
     for other in written {
         if other.bridge == bridge && other.cycle == cycle {
@@ -46,8 +46,8 @@ fn is_expected(page: &Page, bridge: u16, cycle: u32, written: &[Written]) -> boo
     has(page, bridge, cycle, &[], &[], &[])
 }
 
-/// Whether so many first cycles of each of so many bridges are posted, and no other, and their pages are those that are written, and
-/// else empty.
+/// Returns whether the first `cycles` cycles of the first `bridges` bridges are posted, and no others, and their pages are those listed,
+/// and else empty.
 pub(crate) fn are_written(pages: &Pages, bridges: u16, cycles: u32, written: &[Written]) -> bool {
     for bridge in 0..bridges {
         for cycle in 0..cycles {

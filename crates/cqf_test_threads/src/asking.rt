@@ -1,10 +1,10 @@
-//! What administrators ask for: calls that are made while a run goes.
+//! Calls that administrators make while a run goes on.
 use cqf_admission::Command;
 use cqf_test_fixtures::{Asked, request};
 use cqf_units::Memory;
 use std::alloc::Global;
 
-/// A call of an administrator: for a stream, or for the withdrawal of the stream of a name.
+/// A call of an administrator: for a stream, or for the withdrawal of the stream with this name.
 #[derive(Clone, Copy)]
 pub(crate) enum Ask {
     Admit(Asked),
@@ -19,7 +19,7 @@ fn command_of(alloc: Global, ask: &Ask) -> Result<Command, Memory> {
     }
 }
 
-/// Puts the commands of some calls behind others.
+/// Appends the commands of these calls to others.
 fn add_commands(alloc: Global, calls: &[Ask], commands: &mut Vec<Command>) -> Result<(), Memory> {
     for ask in calls {
         commands.push(command_of(alloc, ask)?)?;
@@ -27,7 +27,7 @@ fn add_commands(alloc: Global, calls: &[Ask], commands: &mut Vec<Command>) -> Re
     Ok(())
 }
 
-/// The commands of an administrator who makes its calls so often, one time after the other.
+/// Returns the commands of an administrator who makes its calls `times` times.
 fn commands_of(alloc: Global, calls: &[Ask], times: u32) -> Result<Vec<Command>, Memory> {
     let mut commands = Vec::new(alloc);
     for _time in 0..times {
@@ -36,7 +36,7 @@ fn commands_of(alloc: Global, calls: &[Ask], times: u32) -> Result<Vec<Command>,
     Ok(commands)
 }
 
-/// The commands of administrators who do so.
+/// Returns the commands of administrators who each do so.
 pub(crate) fn all_commands(
     alloc: Global,
     admins: &[&[Ask]],

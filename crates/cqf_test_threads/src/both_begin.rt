@@ -1,4 +1,4 @@
-//! Bridges go through a cycle at once: the step of each waits until the others' steps of the cycle have begun.
+//! Bridges go through a cycle at the same time: the step of each waits until the others' steps of the cycle have begun.
 use crate::flags::{Flag, wait_for_both};
 use crate::running::{Scenario, account_over};
 use cqf_test_fixtures::line;
@@ -11,7 +11,7 @@ use std::thread::Threads;
 /// How many cycles are run.
 const CYCLES: u32 = 5;
 
-/// The flags of a cycle, one of each bridge.
+/// The flags of a cycle, one for each bridge.
 #[derive(Drop)]
 struct Begun {
     a: Flag,
@@ -20,7 +20,7 @@ struct Begun {
 }
 
 impl Begun {
-    /// No bridge has begun the cycle.
+    /// Returns the flags of a cycle that no bridge has begun.
     fn none() -> Begun {
         Begun {
             a: Flag::new(),
@@ -29,7 +29,7 @@ impl Begun {
         }
     }
 
-    /// Whether all have.
+    /// Returns whether all bridges have begun the cycle.
     fn is_whole(&self) -> bool {
         self.a.is_up() && self.b.is_up() && self.c.is_up()
     }
@@ -43,7 +43,7 @@ struct Together {
 }
 
 impl Together {
-    /// No flag is up.
+    /// Returns a pace with no flag up.
     fn new(alloc: Global) -> Option<Together> {
         let mut cycles = Vec::new(alloc);
         for _cycle in 0..CYCLES {
@@ -57,13 +57,13 @@ impl Together {
         })
     }
 
-    /// Raises a bridge's flag, and waits for two.
+    /// Raises a bridge's flag, and waits for the other two.
     fn meet(&self, own: &Flag, one: &Flag, other: &Flag) {
         own.raise();
         wait_for_both(one, other, &self.gave_up);
     }
 
-    /// Whether each bridge has begun each cycle with the others.
+    /// Returns whether each bridge has begun each cycle with the others.
     fn all_met(&self) -> bool {
         !self.gave_up.is_up() && self.cycles.iter().all(|cycle| cycle.is_whole())
     }
@@ -90,7 +90,7 @@ const FIVE_CYCLES: Scenario = Scenario {
     cycles: CYCLES,
 };
 
-/// Whether all bridges of the line meet in each cycle, where the run ends with an account.
+/// Returns whether all bridges of the line meet in each cycle, or `None` if the run doesn't end with an account.
 fn bridges_meet<R: Threads + Wait + Sync>(rt: &R, alloc: Global) -> Option<bool> {
     let pace = Together::new(alloc)?;
     account_over(rt, alloc, line(), &FIVE_CYCLES, &pace)?;

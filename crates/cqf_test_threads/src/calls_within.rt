@@ -19,7 +19,7 @@ struct Calling {
 }
 
 impl Calling {
-    /// None is made.
+    /// Returns the flags before any call.
     fn none() -> Calling {
         Calling {
             first: Flag::new(),
@@ -28,8 +28,8 @@ impl Calling {
     }
 }
 
-/// The first call of each of two administrators waits for the bridge's step of cycle 0 and for the other's first call, and the step of
-/// cycle 1 for the second call of both.
+/// The first call of each of two administrators waits for the bridge's step of cycle 0 and for the other's first call. The step of cycle 1
+/// waits for the second call of both.
 #[derive(Drop)]
 struct Within {
     begun: Flag,
@@ -39,7 +39,7 @@ struct Within {
 }
 
 impl Within {
-    /// No flag is up.
+    /// Returns a pace with no flag up.
     fn new() -> Within {
         Within {
             begun: Flag::new(),
@@ -55,7 +55,7 @@ impl Within {
         wait_for_both(&self.begun, other, &self.gave_up);
     }
 
-    /// Whether all that was waited for came.
+    /// Returns whether everything that was waited for happened.
     fn all_came(&self) -> bool {
         !self.gave_up.is_up() && self.zero.second.is_up() && self.one.second.is_up()
     }
@@ -92,7 +92,7 @@ const TWO_STREAMS: Scenario = Scenario {
     cycles: 20,
 };
 
-/// Whether an entry is a seat's call for a stream that was accepted while the bridge ran, with effect 1 to 19.
+/// Returns whether an entry is a seat's call for a stream that was accepted while the bridge ran, with effect 1 to 19.
 fn is_within(entry: &Entry, seat: u16) -> bool {
     let is_call = entry.seat == seat && matches!(entry.call, Call::Admit(_));
     match entry.reply {
@@ -101,13 +101,13 @@ fn is_within(entry: &Entry, seat: u16) -> bool {
     }
 }
 
-/// Whether a history has one of each of the two.
+/// Returns whether a history has such an entry of each of the two seats.
 fn have_called(entries: &[Entry]) -> bool {
     entries.iter().any(|entry| is_within(entry, 0))
         && entries.iter().any(|entry| is_within(entry, 1))
 }
 
-/// Whether both call within a run over one link.
+/// Returns whether both call within a run over one link.
 fn calls_come_within<R: Threads + Wait + Sync>(rt: &R, alloc: Global) -> bool {
     let pace = Within::new();
     match account_over(rt, alloc, one_link(), &TWO_STREAMS, &pace) {

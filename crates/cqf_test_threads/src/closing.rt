@@ -8,8 +8,8 @@ use cqf_units::Cycle;
 use std::alloc::Global;
 use std::sync::Wait;
 
-/// What two seats call for: seat 0 for x and its withdrawal, seat 1 for Seals. With each Seal stands how many rows its
-/// table has: x goes three links, so it is held for three cycles from its withdrawal on.
+/// The calls of two seats: seat 0 requests x and its withdrawal, seat 1 makes Seals. Each Seal is given with the number of rows of its
+/// table: x uses three links, so it is held for three cycles from its withdrawal on.
 #[derive(Clone, Copy)]
 enum Step {
     Admit,
@@ -28,7 +28,7 @@ const STEPS: &[Step] = &[
     Step::Seal(0),
 ];
 
-/// Whether two tables say the same of x, which has this many rows in both.
+/// Returns whether two tables agree about x, which has this many rows in both.
 fn is_same(ours: &Table, theirs: &Table, rows: usize) -> bool {
     if ours.cycle() != theirs.cycle() || ours.rows().len() != rows || theirs.rows().len() != rows {
         return false;
@@ -48,7 +48,7 @@ fn is_same(ours: &Table, theirs: &Table, rows: usize) -> bool {
     }
 }
 
-/// Whether a Seal of the seat leaves it the table that a Seal of the admission gives.
+/// Returns whether a Seal of the seat leaves the seat the table that a Seal of the admission gives.
 fn seals_alike<R: Wait>(
     rt: &R,
     desk: &Desk,
@@ -65,7 +65,7 @@ fn seals_alike<R: Wait>(
     }
 }
 
-/// Whether a step is answered at the desk as by the admission.
+/// Returns whether a step is answered at the desk as by the admission.
 fn steps_alike<R: Wait>(
     rt: &R,
     desk: &Desk,
@@ -84,7 +84,7 @@ fn steps_alike<R: Wait>(
     }
 }
 
-/// Whether all steps are.
+/// Returns whether all steps are.
 fn all_alike<R: Wait>(
     rt: &R,
     desk: &Desk,
@@ -100,7 +100,7 @@ fn all_alike<R: Wait>(
     true
 }
 
-/// Whether they are beside an admission of its own.
+/// Returns whether they are, with an admission made for comparison.
 fn all_alike_beside<R: Wait>(
     rt: &R,
     alloc: Global,
@@ -114,7 +114,7 @@ fn all_alike_beside<R: Wait>(
     }
 }
 
-/// Makes all steps at a desk over the line, and says whether they are answered as by an admission alone.
+/// Makes all steps at a desk over the line, and returns whether they are answered as by an admission.
 fn works<R: Wait>(rt: &R, alloc: Global, desk: &Desk, seats: &mut [Seat]) -> bool {
     match request(alloc, &X) {
         Ok(x) => all_alike_beside(rt, alloc, desk, seats, &x),
@@ -122,7 +122,7 @@ fn works<R: Wait>(rt: &R, alloc: Global, desk: &Desk, seats: &mut [Seat]) -> boo
     }
 }
 
-/// Whether an entry is the withdrawal of x by a seat, with that reply.
+/// Returns whether an entry is the withdrawal of x by a seat, with that reply.
 fn is_withdrawal(entry: &Entry, seat: u16, reply: Reply) -> bool {
     match &entry.call {
         Call::Withdraw(name) => {
@@ -132,12 +132,12 @@ fn is_withdrawal(entry: &Entry, seat: u16, reply: Reply) -> bool {
     }
 }
 
-/// Whether an entry is a Seal of the second seat.
+/// Returns whether an entry is a Seal of the second seat.
 fn is_seal(entry: &Entry) -> bool {
     entry.seat == 1 && matches!(entry.call, Call::Seal) && entry.reply == Reply::Sealed
 }
 
-/// The answer to a call for x with effect from this cycle on.
+/// Returns the answer to a call for x with effect from this cycle on.
 fn accepted(effect: u32) -> Reply {
     Reply::Accepted(Receipt {
         no: 0,
@@ -145,8 +145,8 @@ fn accepted(effect: u32) -> Reply {
     })
 }
 
-/// Whether the history is what the steps make: x, as it was asked for, is accepted with number 0 and effect 0, and withdrawn with effect
-/// 1.
+/// Returns whether the history is the one that the steps make: x, as it was requested, is accepted with number 0 and effect 0, and
+/// withdrawn with effect 1.
 fn is_of_steps(history: &History) -> bool {
     let entries = history.entries.as_slice();
     if history.opening != 0 || entries.len() != 8 {
@@ -158,7 +158,7 @@ fn is_of_steps(history: &History) -> bool {
         && entries[3..].iter().all(|entry| is_seal(entry))
 }
 
-/// Whether a desk that is closed with these seats has the history of the steps, or is refused so.
+/// Returns whether a desk that is closed with these seats has the history of the steps, or is refused with this fault.
 fn closes(desk: Desk, seats: Vec<Seat>, fault: Option<CloseFault>) -> bool {
     match desk.close(seats) {
         Ok(history) => fault.is_none() && is_of_steps(&history),
@@ -166,26 +166,26 @@ fn closes(desk: Desk, seats: Vec<Seat>, fault: Option<CloseFault>) -> bool {
     }
 }
 
-/// What is done to the seats of a desk at which all steps were made, before it is closed with them.
+/// A change to the seats of a desk at which all steps were made, before the desk is closed with them.
 #[derive(Clone, Copy)]
 enum Change {
-    /// The first seat is let go of.
+    /// The first seat is dropped.
     Missing,
-    /// At this place stands the seat at the other place of a desk that nobody asked.
+    /// At the first index is the seat at the second index of a desk at which nobody called.
     Unused(usize, usize),
-    /// Both are those of a desk at which each sealed a cycle, in their order or the other way round.
+    /// Both are those of a desk at which each sealed a cycle, in order or reversed.
     Both(bool),
     /// They stay, and the third seat of another desk seals a cycle here.
     Stranger,
 }
 
-/// Lets go of a desk's first seat.
+/// Drops a desk's first seat.
 fn forget_first(seats: &mut Vec<Seat>) -> bool {
     seats.as_mut_slice().reverse();
     seats.pop().is_some()
 }
 
-/// Puts another desk's seat in the place of one.
+/// Replaces a seat by another desk's seat.
 fn exchange(own: &mut [Seat], others: &mut [Seat], place: usize, other: usize) -> bool {
     match (own.get_mut(place), others.get_mut(other)) {
         (Some(ours), Some(theirs)) => {
@@ -196,7 +196,7 @@ fn exchange(own: &mut [Seat], others: &mut [Seat], place: usize, other: usize) -
     }
 }
 
-/// Whether each of a desk's seats seals a cycle.
+/// Returns whether each of a desk's seats seals a cycle.
 fn each_seals<R: Wait>(rt: &R, desk: &Desk, seats: &mut [Seat]) -> bool {
     for seat in seats {
         if desk.seal(rt, seat).is_err() {
@@ -206,7 +206,7 @@ fn each_seals<R: Wait>(rt: &R, desk: &Desk, seats: &mut [Seat]) -> bool {
     true
 }
 
-/// Puts the two seats of a desk at which each seals a cycle in the places of two, in their order or the other way round.
+/// Replaces two seats by the two seats of a desk at which each seals a cycle, in order or reversed.
 fn exchange_both<R: Wait>(
     rt: &R,
     other: &Desk,
@@ -223,7 +223,7 @@ fn exchange_both<R: Wait>(
     exchange(own, others, 0, 0) && exchange(own, others, 1, 1)
 }
 
-/// Whether the third seat of another desk seals a cycle at this one.
+/// Returns whether the third seat of another desk seals a cycle at this desk.
 fn seals_as_a_stranger<R: Wait>(rt: &R, desk: &Desk, others: &mut [Seat]) -> bool {
     match others.last_mut() {
         Some(stranger) => stranger.number() == 2 && desk.seal(rt, stranger).is_ok(),
@@ -248,7 +248,7 @@ fn change_by<R: Wait>(
     }
 }
 
-/// A desk over the line with these streams, with so many seats.
+/// Returns a desk over the line with these streams and this number of seats.
 fn desk_with(alloc: Global, streams: &[Asked], seats: u16) -> Option<(Desk, Vec<Seat>)> {
     match Desk::new(alloc, line_with(alloc, streams)?, seats) {
         Ok(made) => Some(made),
@@ -256,7 +256,7 @@ fn desk_with(alloc: Global, streams: &[Asked], seats: u16) -> Option<(Desk, Vec<
     }
 }
 
-/// How many seats the other desk of a change has.
+/// Returns how many seats the other desk of a change has.
 fn seats_of(change: Change) -> u16 {
     match change {
         Change::Stranger => 3,
@@ -264,7 +264,7 @@ fn seats_of(change: Change) -> u16 {
     }
 }
 
-/// Makes a change, with another desk of its own.
+/// Makes a change, with another desk made for it.
 fn is_changed<R: Wait>(
     rt: &R,
     alloc: Global,
@@ -299,7 +299,7 @@ fn works_and_is_changed<R: Wait>(
     true
 }
 
-/// Changes, and why the desk is refused then.
+/// Changes, and why the desk is refused after them.
 const CASES: &[(&[Change], Option<CloseFault>)] = &[
     // calls at a desk are those of an admission
     (&[], None),
@@ -311,7 +311,7 @@ const CASES: &[(&[Change], Option<CloseFault>)] = &[
     (&[Change::Unused(1, 0)], Some(CloseFault::SeatMissing)),
     // a call of no seat is noticed
     (&[Change::Stranger], Some(CloseFault::SeatsDisagree(2))),
-    // of two seats that disagree the least is named
+    // of two seats that disagree the one with the lower number is named
     (&[Change::Both(false)], Some(CloseFault::SeatsDisagree(0))),
     (&[Change::Both(true)], Some(CloseFault::SeatsDisagree(0))),
     // a seat is named before a stranger
@@ -325,7 +325,7 @@ const CASES: &[(&[Change], Option<CloseFault>)] = &[
     ),
 ];
 
-/// Whether a desk over the line closes so behind these changes.
+/// Returns whether a desk over the line closes as expected after these changes.
 fn closes_behind<R: Wait>(
     rt: &R,
     alloc: Global,
@@ -351,7 +351,7 @@ fn a_desk_closes_with_its_own_seats_alone(rt: HostRuntime) {
     }
 }
 
-/// Whether a desk is refused with another's seats, where each of both sealed a cycle.
+/// Returns whether a desk is refused with another desk's seats, if each seat of both desks sealed a cycle.
 fn is_refused_with<R: Wait>(
     rt: &R,
     desk: Desk,
@@ -363,7 +363,8 @@ fn is_refused_with<R: Wait>(
     sealed & closes(desk, seats, Some(CloseFault::SeatsDisagree(0)))
 }
 
-/// Whether a desk knows its seat from that of another, which made the same call on a line that holds seven streams more.
+/// Returns whether a desk distinguishes its seat from that of another desk, which made the same call on a line that holds seven more
+/// streams.
 fn other_tables_are_noticed<R: Wait>(rt: &R, alloc: Global) -> bool {
     let Some((desk, mut own)) = desk_with(alloc, NONE, 1) else {
         return false;

@@ -1,4 +1,4 @@
-//! Cycle books, their shares, and the books that they close to, with values by hand.
+//! Cycle books, their shares, and the books to which they close, with values computed by hand.
 use cqf_book::{BookClose, CycleBook, Page, PageFault, Pages, Share, Totals, book_of};
 use cqf_model::{Book, Dropped, Reason, Started};
 use cqf_units::{Cycle, Memory, Nanos};
@@ -7,7 +7,7 @@ use std::mem::swap;
 use std::sync::Wait;
 use std::thread::{Threads, join};
 
-/// A transmission of so many octets, at the cycle's first instant.
+/// Returns a transmission of this many octets, at the cycle's first instant.
 fn started(cycle: u32, link: u16, octets: u32) -> Started {
     Started {
         cycle: Cycle(cycle),
@@ -18,7 +18,7 @@ fn started(cycle: u32, link: u16, octets: u32) -> Started {
     }
 }
 
-/// An offer that was dropped.
+/// Returns an offer that was dropped.
 fn dropped(cycle: u32, bridge: u16, frame: u32) -> Dropped {
     Dropped {
         cycle: Cycle(cycle),
@@ -29,7 +29,7 @@ fn dropped(cycle: u32, bridge: u16, frame: u32) -> Dropped {
     }
 }
 
-/// A page with one start of a stream's frame on the link, one of a background frame on the link behind it, and a drop.
+/// Returns a page with one start of a stream's frame on the link, one of a background frame on the next link, and a drop.
 fn page_with(alloc: Global, bridge: u16, cycle: u32, link: u16) -> Result<Page, Memory> {
     Ok(Page {
         bridge,
@@ -40,10 +40,10 @@ fn page_with(alloc: Global, bridge: u16, cycle: u32, link: u16) -> Result<Page, 
     })
 }
 
-/// A page that is posted by the share at a place: its bridge and cycle, and the answer.
+/// A page that is posted by the share at an index: its bridge and cycle, and the answer.
 type Post = (usize, u16, u32, Option<PageFault>);
 
-/// Whether a page comes back with this fault.
+/// Returns whether a page comes back with this fault.
 fn comes_back(
     refused: (PageFault, Page),
     expected: Option<PageFault>,
@@ -54,7 +54,7 @@ fn comes_back(
     expected == Some(fault) && page.bridge == bridge && page.cycle == Cycle(cycle)
 }
 
-/// Whether the book answers so to a page with one start on link 1, which comes back where it isn't taken.
+/// Returns whether the book gives the expected answer to a page with one start on link 1; the page comes back if it isn't taken.
 fn answers_of<R: Wait>(
     rt: &R,
     alloc: Global,
@@ -72,7 +72,7 @@ fn answers_of<R: Wait>(
     }
 }
 
-/// Whether it does so to the post by the share at its place.
+/// Returns whether it does so for a post by the share at its index.
 fn answers<R: Wait>(
     rt: &R,
     alloc: Global,
@@ -86,7 +86,7 @@ fn answers<R: Wait>(
     }
 }
 
-/// Whether the book answers so to one page after the other.
+/// Returns whether the book gives the expected answers to pages, one after the other.
 fn answers_all<R: Wait>(
     rt: &R,
     alloc: Global,
@@ -102,7 +102,7 @@ fn answers_all<R: Wait>(
     true
 }
 
-/// Whether the starts are on these links in these cycles, each of so many octets.
+/// Returns whether the starts are on these links in these cycles, each of this many octets.
 fn are_starts(starts: &[Started], octets: u32, places: &[(u32, u16)]) -> bool {
     if starts.len() != places.len() {
         return false;
@@ -116,7 +116,7 @@ fn are_starts(starts: &[Started], octets: u32, places: &[(u32, u16)]) -> bool {
     true
 }
 
-/// Whether the drops are those of these cycles and bridges.
+/// Returns whether the drops are those of these cycles and bridges.
 fn are_drops(drops: &[Dropped], places: &[(u32, u16)]) -> bool {
     if drops.len() != places.len() {
         return false;
@@ -130,8 +130,8 @@ fn are_drops(drops: &[Dropped], places: &[(u32, u16)]) -> bool {
     true
 }
 
-/// What stands in a book: cycle and link of each start of a stream's frame, and of each of a background frame, and cycle and
-/// bridge of each drop.
+/// The content of a book: cycle and link of each start of a stream's frame and of each of a background frame, and cycle and bridge of each
+/// drop.
 type Lines = (
     &'static [(u32, u16)],
     &'static [(u32, u16)],
@@ -147,7 +147,7 @@ enum By {
     Pages,
 }
 
-/// What a cycle book of three bridges closes to.
+/// Returns the book to which a cycle book of three bridges closes.
 fn closed(alloc: Global, book: CycleBook, shares: Vec<Share>, by: By) -> Result<Book, BookClose> {
     match by {
         By::Close => book.close(shares),
@@ -158,7 +158,7 @@ fn closed(alloc: Global, book: CycleBook, shares: Vec<Share>, by: By) -> Result<
     }
 }
 
-/// Whether the book closes to a book with these lines.
+/// Returns whether the book closes to a book with these lines.
 fn closes_to(alloc: Global, book: CycleBook, shares: Vec<Share>, lines: &Lines, by: By) -> bool {
     let (starts, background, drops) = *lines;
     match closed(alloc, book, shares, by) {
@@ -171,7 +171,7 @@ fn closes_to(alloc: Global, book: CycleBook, shares: Vec<Share>, lines: &Lines, 
     }
 }
 
-/// Whether the book doesn't close, for this reason.
+/// Returns whether the book doesn't close, for this reason.
 fn is_refused(
     alloc: Global,
     book: CycleBook,
@@ -185,7 +185,7 @@ fn is_refused(
     }
 }
 
-/// A book of three bridges and five cycles without a page, and its shares.
+/// Returns a book of three bridges and five cycles without a page, and its shares.
 fn three_by_five(alloc: Global) -> Result<(CycleBook, Vec<Share>), Memory> {
     let pages = Pages::new(alloc, 3, 5)?;
     CycleBook::new(alloc, pages)
@@ -196,22 +196,22 @@ fn three_by_five(alloc: Global) -> Result<(CycleBook, Vec<Share>), Memory> {
 enum Wrong {
     /// The share of bridge 2 is missing.
     Missing,
-    /// A second share of bridge 1 stands for that of bridge 2.
+    /// A second share of bridge 1 replaces that of bridge 2.
     Twice,
     /// The shares of these bridges are those of another book that took no page.
     Unused(&'static [usize]),
-    /// That of bridge 0 is of another book, whose page of cycle 0 has its start on link 2.
+    /// The share of bridge 0 is of another book, whose page of cycle 0 has its start on link 2.
     OnAnotherLink,
 }
 
-/// Puts the share at one place of the others in this place.
+/// Replaces the share at one index by the share at an index of the others.
 fn put_other(shares: &mut [Share], place: usize, others: &mut [Share], other: usize) {
     if let (Some(share), Some(another)) = (shares.get_mut(place), others.get_mut(other)) {
         swap(share, another);
     }
 }
 
-/// Whether the book takes a page of the first share's bridge and cycle 0 with its start on link 2.
+/// Returns whether the book takes a page of the first share's bridge and cycle 0 with its start on link 2.
 fn is_posted_on_link_2<R: Wait>(
     rt: &R,
     alloc: Global,
@@ -249,7 +249,7 @@ fn make_wrong<R: Wait>(
     }
 }
 
-/// Makes the shares wrong with those of another book, which is made for it.
+/// Makes the shares wrong with those of another book made for this.
 fn make_wrong_by_another<R: Wait>(rt: &R, alloc: Global, shares: &mut Vec<Share>, wrong: Wrong) {
     if let Ok((other, mut others)) = three_by_five(alloc) {
         make_wrong(rt, alloc, shares, &other, others.as_mut_slice(), wrong);
@@ -263,7 +263,7 @@ enum Closing {
     Refused(BookClose),
 }
 
-/// Whether the book closes so.
+/// Returns whether the book closes as expected.
 fn closes(alloc: Global, book: CycleBook, shares: Vec<Share>, closing: &Closing, by: By) -> bool {
     match *closing {
         Closing::To(lines) => closes_to(alloc, book, shares, &lines, by),
@@ -271,8 +271,8 @@ fn closes(alloc: Global, book: CycleBook, shares: Vec<Share>, closing: &Closing,
     }
 }
 
-/// What is posted to a book of three bridges and five cycles, how many frames and octets link 1 has sent then, how its shares
-/// are made wrong, and how it closes.
+/// The posts to a book of three bridges and five cycles, how many frames and octets link 1 has sent after them, how its shares are made
+/// wrong, and how it closes.
 struct Case {
     posts: &'static [Post],
     sent: (u128, u128),
@@ -280,7 +280,7 @@ struct Case {
     closing: Closing,
 }
 
-/// Whether the book answers so to the posts, has so much on link 1 then, and no whole cycle.
+/// Returns whether the book gives the expected answers to the posts, then has the expected totals on link 1, and no whole cycle.
 fn takes_posts<R: Wait>(
     rt: &R,
     alloc: Global,
@@ -295,7 +295,7 @@ fn takes_posts<R: Wait>(
         && book.totals(rt, 1) == totals
 }
 
-/// Whether a book does so.
+/// Returns whether a book passes the case.
 fn is_so<R: Wait>(rt: &R, alloc: Global, case: &Case, by: By) -> bool {
     match three_by_five(alloc) {
         Ok((book, mut shares)) => {
@@ -312,7 +312,7 @@ fn is_so<R: Wait>(rt: &R, alloc: Global, case: &Case, by: By) -> bool {
 /// A post of bridge 1 that is taken.
 const ONE: &[Post] = &[(1, 1, 0, None)];
 
-/// One of each of two bridges.
+/// One post of each of two bridges.
 const TWO: &[Post] = &[(2, 2, 0, None), (1, 1, 0, None)];
 
 /// Books, and how they close.
@@ -360,7 +360,7 @@ const CASES: &[Case] = &[
         wrong: Some(Wrong::Unused(&[2])),
         closing: Closing::Refused(BookClose::SharesDisagree(2)),
     },
-    // a page that says something else is noticed
+    // a page with different content is noticed
     Case {
         posts: &[(0, 0, 0, None)],
         sent: (1, 64),
@@ -380,7 +380,7 @@ fn a_book_closes_with_its_own_shares_alone(rt: HostRuntime) {
     }
 }
 
-/// Whether the book takes the page with a start on a link of 2 less the bridge's number.
+/// Returns whether the book takes the page with a start on the link with number 2 minus the bridge's number.
 fn takes<R: Wait>(rt: &R, alloc: Global, book: &CycleBook, share: &mut Share, cycle: u32) -> bool {
     let bridge = share.bridge();
     match page_with(alloc, bridge, cycle, 2u16.saturating_sub(bridge)) {
@@ -389,7 +389,7 @@ fn takes<R: Wait>(rt: &R, alloc: Global, book: &CycleBook, share: &mut Share, cy
     }
 }
 
-/// Whether the book takes the pages of these cycles.
+/// Returns whether the book takes the pages of the cycles from this one on.
 fn fills<R: Wait>(rt: &R, alloc: Global, book: &CycleBook, share: &mut Share, from: u32) -> bool {
     for cycle in from..3 {
         if !takes(rt, alloc, book, share, cycle) {
@@ -399,7 +399,7 @@ fn fills<R: Wait>(rt: &R, alloc: Global, book: &CycleBook, share: &mut Share, fr
     true
 }
 
-/// Whether the book takes the pages of two bridges, each in a thread of its own.
+/// Returns whether the book takes the pages of two bridges, each in a thread of its own.
 fn fills_two<R: Threads + Wait + Sync>(
     rt: &R,
     alloc: Global,
@@ -415,7 +415,7 @@ fn fills_two<R: Threads + Wait + Sync>(
     one && two
 }
 
-/// Whether the book takes the pages of the first of some shares.
+/// Returns whether the book takes the pages of the first of these shares.
 fn fills_first<R: Wait>(
     rt: &R,
     alloc: Global,
@@ -429,7 +429,7 @@ fn fills_first<R: Wait>(
     }
 }
 
-/// Whether the book takes the pages of three bridges, each in a thread of its own, of bridge 1 those from cycle 1 on.
+/// Returns whether the book takes the pages of three bridges, each in a thread of its own; of bridge 1 those from cycle 1 on.
 fn fills_three<R: Threads + Wait + Sync>(
     rt: &R,
     alloc: Global,
@@ -486,7 +486,7 @@ const NINE_PAGES: Lines = (
     ],
 );
 
-/// Whether the pages take that of bridge 1 and cycle 0.
+/// Returns whether the pages take that of bridge 1 and cycle 0.
 fn takes_first(alloc: Global, pages: &mut Pages) -> bool {
     match page_with(alloc, 1, 0, 1) {
         Ok(page) => pages.post(page).is_ok(),
@@ -494,7 +494,7 @@ fn takes_first(alloc: Global, pages: &mut Pages) -> bool {
     }
 }
 
-/// Whether three threads fill a book that begins with these pages, and it closes to the book of all pages.
+/// Returns whether three threads fill a book that begins with these pages, and it closes to the book of all pages.
 fn fills_in_threads<R: Threads + Wait + Sync>(rt: &R, alloc: Global, pages: Pages, by: By) -> bool {
     match CycleBook::new(alloc, pages) {
         Ok((book, mut shares)) => {
@@ -508,7 +508,7 @@ fn fills_in_threads<R: Threads + Wait + Sync>(rt: &R, alloc: Global, pages: Page
     }
 }
 
-/// Whether they do so where the book begins with the page of bridge 1 and cycle 0.
+/// Returns whether they do so if the book begins with the page of bridge 1 and cycle 0.
 fn fills_behind_one_page<R: Threads + Wait + Sync>(rt: &R, alloc: Global, by: By) -> bool {
     match Pages::new(alloc, 3, 3) {
         Ok(mut pages) => {
@@ -533,7 +533,7 @@ const TEXTS: &[(BookClose, &str)] = &[
     (BookClose::Memory, "Memory"),
 ];
 
-/// Whether the fault prints so.
+/// Returns whether the fault prints so.
 fn prints(alloc: Global, fault: BookClose, wanted: &str) -> bool {
     match format!(in alloc; "{fault}") {
         Ok(text) => text.as_str() == wanted,

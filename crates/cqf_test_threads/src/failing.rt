@@ -1,4 +1,4 @@
-//! A worker that is stopped before its last cycle lets the others go, and the run tells that an end of a pipe was lost.
+//! A worker that is stopped before its last cycle releases the others, and the run reports that an end of a pipe was lost.
 ghost use Rattle.std.specs.Prelude.{◌≡◌, ◌≤◌, [], All, length};
 ghost use Rattle.cqf_worker_loops.specs.Workers.{MayWork};
 ghost use Rattle.cqf_model.specs.Run.{AreOffers};
@@ -18,7 +18,7 @@ use std::thread::Threads;
 /// A stream along the line.
 const X: &[Asked] = &[("x", 1500, &[&["a", "b", "c", "s"]])];
 
-/// How many cycles the workers go through. Tables of all wait for each but the second bridge's, whose worker has four.
+/// How many cycles the workers go through. The tables of all cycles wait for each worker except the second bridge's, which has four.
 const CYCLES: u32 = 10;
 
 const GIVEN: usize = 4;
@@ -37,16 +37,16 @@ const FRAMES: &[Offering] = &[
     (1_125_000, 0, "x", 64),
 ];
 
-/// How the second bridge's worker is stopped behind its tables.
+/// How the second bridge's worker is stopped after its tables.
 #[derive(Clone, Copy)]
 enum Stopped {
     /// The other end of their pipe is gone.
     ByLoss,
-    /// It is told that none comes any more, and then the other end is gone too.
+    /// It gets a Stop, and then the other end is gone too.
     ByStop,
 }
 
-/// Whether streams are granted.
+/// Returns whether streams are granted.
 fn are_granted(alloc: Global, admission: &mut Admission, streams: &[Asked]) -> bool {
     for asked in streams {
         match request(alloc, asked) {
@@ -86,7 +86,7 @@ fn add_tables(alloc: Global, domain: &Domain, streams: &[Asked], tables: &mut Ve
     }
 }
 
-/// Appends a copy of a table to what is put at once.
+/// Appends a copy of a table to the tables that are put at once.
 fn add_copy(alloc: Global, table: &Table, bundle: &mut VecDeque<Carried<Table>>) -> bool {
     match table.try_copy(alloc) {
         Ok(copy) => bundle.push_back(Carried::Item(copy)).is_ok(),
@@ -94,7 +94,7 @@ fn add_copy(alloc: Global, table: &Table, bundle: &mut VecDeque<Carried<Table>>)
     }
 }
 
-/// Appends copies of some tables.
+/// Appends copies of these tables.
 fn add_copies(alloc: Global, tables: &[Table], bundle: &mut VecDeque<Carried<Table>>) -> bool {
     for table in tables {
         if !add_copy(alloc, table, bundle) {
@@ -104,7 +104,7 @@ fn add_copies(alloc: Global, tables: &[Table], bundle: &mut VecDeque<Carried<Tab
     true
 }
 
-/// Whether copies of some tables go in, and a Stop behind them where it is to come.
+/// Returns whether copies of these tables go in, followed by a Stop if one is wanted.
 fn gives<R: Wait>(
     rt: &R,
     alloc: Global,
@@ -127,7 +127,7 @@ fn gives<R: Wait>(
     }
 }
 
-/// Gives each worker its tables, the second bridge's the first few, and lets go of the ends.
+/// Gives each worker its tables, the second bridge's only the first few, and drops the ends.
 fn give_tables<R: Wait>(
     rt: &R,
     alloc: Global,
@@ -150,7 +150,7 @@ fn give_tables<R: Wait>(
     given
 }
 
-/// What goes wrong where the workers go through their cycles with the tables that wait for them, and no more come.
+/// Returns the fault if the workers go through their cycles with the tables that wait for them, and no more follow.
 fn fault_of<R: Threads + Wait + Sync>(
     rt: &R,
     alloc: Global,
@@ -176,7 +176,7 @@ fn fault_of<R: Threads + Wait + Sync>(
     )
 }
 
-/// Whether an end of a pipe was lost, and no worker has failed, where the workers of a domain have these tables and what is offered.
+/// Returns whether an end of a pipe was lost, and no worker has failed, if the workers of a domain have these tables and offers.
 fn ends_on<R: Threads + Wait + Sync>(
     rt: &R,
     alloc: Global,
@@ -203,7 +203,7 @@ fn ends_on<R: Threads + Wait + Sync>(
     }
 }
 
-/// Whether it was where the frames are offered.
+/// Returns whether it was lost if the frames are offered.
 fn ends_over<R: Threads + Wait + Sync>(
     rt: &R,
     alloc: Global,
@@ -225,7 +225,7 @@ fn ends_over<R: Threads + Wait + Sync>(
     }
 }
 
-/// Whether it was on the line.
+/// Returns whether it was lost on the line.
 fn line_ends<R: Threads + Wait + Sync>(rt: &R, alloc: Global, stopped: Stopped) -> bool {
     match Domain::read(alloc, line().as_bytes()) {
         Ok(domain) => ends_over(rt, alloc, &domain, stopped),

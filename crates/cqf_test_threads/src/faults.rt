@@ -1,4 +1,4 @@
-//! What a fault of a run prints as.
+//! The text of a run's fault.
 use cqf_bridge::BridgeFault;
 use cqf_worker::ConductFault;
 use std::alloc::Global;
@@ -32,7 +32,7 @@ const TEXTS: &[(ConductFault, &str)] = &[
     (ConductFault::Spawn, "Spawn"),
 ];
 
-/// Whether a fault prints so.
+/// Returns whether a fault prints so.
 fn prints_as(alloc: Global, fault: &ConductFault, expected: &str) -> bool {
     match format!(in alloc; "{fault}") {
         Ok(text) => text.as_str() == expected,

@@ -1,4 +1,4 @@
-//! Flags that threads raise, and read until others are up.
+//! Flags that threads raise, and that other threads wait for.
 use std::sync::atomic::{AtomicU64, Ordering};
 use std::thread;
 
@@ -12,7 +12,7 @@ pub(crate) struct Flag {
 }
 
 impl Flag {
-    /// A flag that is down.
+    /// Returns a flag that is down.
     pub(crate) fn new() -> Flag {
         Flag {
             raised: AtomicU64::new(0),
@@ -24,14 +24,14 @@ impl Flag {
         self.raised.store(1, Ordering::SeqCst);
     }
 
-    /// Whether it is up.
+    /// Returns whether it is up.
     pub(crate) fn is_up(&self) -> bool {
         self.raised.load(Ordering::SeqCst) == 1
     }
 }
 
-/// Reads two flags until both are up, and lets other threads run between. Where they aren't in the end, the flag of those who gave up
-/// is raised: whoever waits from then on gives up at once.
+/// Reads two flags until both are up, and lets other threads run in between. If they aren't up in the end, it raises `gave_up`: every later
+/// wait then gives up at once.
 pub(crate) fn wait_for_both(one: &Flag, other: &Flag, gave_up: &Flag) {
     if gave_up.is_up() {
         return;

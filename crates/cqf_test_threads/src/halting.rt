@@ -1,4 +1,4 @@
-//! Each thread that still takes is told that nothing comes any more, and once.
+//! Each thread that still takes gets exactly one notice that nothing follows.
 
 use cqf_admission::Table;
 use cqf_units::Memory;
@@ -6,7 +6,7 @@ use cqf_worker_loops::{Carried, LinkEnd, PipeOut, pipe, stop_each, stop_tables};
 use std::alloc::Global;
 use std::sync::Wait;
 
-/// Whether a Stop comes, and nothing behind it.
+/// Returns whether a Stop arrives, and nothing after it.
 fn is_told<T: Drop, R: Wait>(rt: &R, end: &mut PipeOut<Carried<T>>) -> bool {
     match end.take(rt) {
         Some(Carried::Stop) => end.take(rt).is_none(),
@@ -14,7 +14,7 @@ fn is_told<T: Drop, R: Wait>(rt: &R, end: &mut PipeOut<Carried<T>>) -> bool {
     }
 }
 
-/// Whether two workers are told so for their tables, past one that has ended.
+/// Returns whether two workers get such a notice for their tables, past one that has ended.
 fn workers_are_told<R: Wait>(rt: &R, alloc: Global) -> Result<bool, Memory> {
     let (one, mut first) = pipe::<Carried<Table>>(alloc)?;
     let (other, ended) = pipe::<Carried<Table>>(alloc)?;
@@ -26,7 +26,7 @@ fn workers_are_told<R: Wait>(rt: &R, alloc: Global) -> Result<bool, Memory> {
     Ok(is_told(rt, &mut first) && is_told(rt, &mut last))
 }
 
-/// Whether two that take from a worker are told so, past one that has ended.
+/// Returns whether two threads that take from a worker get such a notice, past one that has ended.
 fn takers_are_told<R: Wait>(rt: &R, alloc: Global) -> Result<bool, Memory> {
     let (one, mut first) = pipe::<Carried<u8>>(alloc)?;
     let (other, ended) = pipe::<Carried<u8>>(alloc)?;

@@ -1,6 +1,6 @@
-//! Tests of runs on threads and of what threads share, with values from outside: desks and their seats, cycle books, pipes and Stops, workers
-//! that give up, and whole runs, replayed. Runs whose history is always the same are in the stored runs of `runs/`. A crate that has tests is
-//! proved twice, so these stand in one of their own.
+//! Tests of runs on threads and of what threads share, with values from outside: desks and their seats, cycle books, pipes and Stops,
+//! workers that give up, and whole runs, replayed. Runs whose history is always the same are in the stored runs of `runs/`. A crate that
+//! has tests is proved twice, so these tests have a crate of their own.
 #![tactic(auto)]
 
 #[cfg(test)]

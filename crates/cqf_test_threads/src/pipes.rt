@@ -1,4 +1,4 @@
-//! Pipes, with values by hand.
+//! Pipes, with values computed by hand.
 ghost use Rattle.std.specs.Prelude.{◌≡◌, ◌≤◌, length};
 
 use cqf_worker_loops::{PipeIn, PipeOut, pipe};
@@ -8,7 +8,7 @@ use std::sync::Wait;
 use std::sync::atomic::{AtomicU64, Ordering};
 use std::thread::{Threads, join};
 
-/// Whether the items 1, 2 and 3 go in.
+/// Returns whether the items 1, 2 and 3 go in.
 fn puts_three<R: Wait>(rt: &R, into: &mut PipeIn<u32>) -> bool
     requires { length into.old.items ≡ 0 }
     ensures { into.new.pipe ≡ into.old.pipe }
@@ -16,14 +16,14 @@ fn puts_three<R: Wait>(rt: &R, into: &mut PipeIn<u32>) -> bool
     into.put(rt, 1).is_ok() && into.put(rt, 2).is_ok() && into.put(rt, 3).is_ok()
 }
 
-/// Whether 1 and then 2 come out.
+/// Returns whether 1 and then 2 come out.
 fn takes_two<R: Wait>(rt: &R, out: &mut PipeOut<u32>) -> bool
     ensures { out.new.pipe ≡ out.old.pipe }
 {
     out.take(rt) == Some(1) && out.take(rt) == Some(2)
 }
 
-/// Whether three items go in, and two come out in that order, and one is left.
+/// Returns whether three items go in, two come out in that order, and one is left.
 fn one_of_three_is_left<R: Wait>(rt: &R, alloc: Global) -> bool {
     match pipe::<u32>(alloc) {
         Ok((mut into, mut out)) => {
@@ -36,7 +36,7 @@ fn one_of_three_is_left<R: Wait>(rt: &R, alloc: Global) -> bool {
     }
 }
 
-/// Whether an item comes back where the other end is gone.
+/// Returns whether an item comes back if the other end is gone.
 fn comes_back<R: Wait>(rt: &R, alloc: Global) -> bool {
     match pipe::<u32>(alloc) {
         Ok((mut into, out)) => {
@@ -47,7 +47,7 @@ fn comes_back<R: Wait>(rt: &R, alloc: Global) -> bool {
     }
 }
 
-/// Whether an item comes out where the other end is gone, and then none.
+/// Returns whether an item comes out although the other end is gone, and then none.
 fn comes_out<R: Wait>(rt: &R, alloc: Global) -> bool {
     match pipe::<u32>(alloc) {
         Ok((mut into, mut out)) => {
@@ -68,7 +68,7 @@ fn pipe_3(rt: HostRuntime) {
     assert!(rt; comes_out(&rt, rt.alloc()));
 }
 
-/// Whether 2 and 3 go in behind 1, at once, and then 4.
+/// Returns whether 2 and 3 go in together after 1, and then 4.
 fn puts_three_at_once<R: Wait>(rt: &R, alloc: Global, into: &mut PipeIn<u32>) -> bool
     requires { length into.old.items ≡ 0 }
     ensures { into.new.pipe ≡ into.old.pipe }
@@ -80,7 +80,7 @@ fn puts_three_at_once<R: Wait>(rt: &R, alloc: Global, into: &mut PipeIn<u32>) ->
     into.put_with(rt, 1, behind).is_ok() && into.put(rt, 4).is_ok()
 }
 
-/// Whether of items that were put at once, and one behind them, each comes out by itself and in order, and those left are counted.
+/// Returns whether items that were put at once, and one after them, come out one by one and in order, and those left are counted.
 fn come_one_by_one<R: Wait>(rt: &R, alloc: Global) -> bool {
     match pipe::<u32>(alloc) {
         Ok((mut into, mut out)) => {
@@ -93,7 +93,7 @@ fn come_one_by_one<R: Wait>(rt: &R, alloc: Global) -> bool {
     }
 }
 
-/// Whether they come out where the other end is gone, the last ones too, and then none.
+/// Returns whether all of them come out although the other end is gone, and then none.
 fn come_to_the_last<R: Wait>(rt: &R, alloc: Global) -> bool {
     match pipe::<u32>(alloc) {
         Ok((mut into, mut out)) => {
@@ -108,7 +108,7 @@ fn come_to_the_last<R: Wait>(rt: &R, alloc: Global) -> bool {
     }
 }
 
-/// Whether items that were put at once come back where the other end is gone.
+/// Returns whether items that were put at once come back if the other end is gone.
 fn come_back_together<R: Wait>(rt: &R, alloc: Global) -> bool {
     match pipe::<u32>(alloc) {
         Ok((mut into, out)) => {
@@ -135,7 +135,7 @@ fn items_go_together(rt: HostRuntime) {
     assert!(rt; come_back_together(&rt, rt.alloc()));
 }
 
-/// Whether so many numbers go in, from 0 on.
+/// Returns whether the numbers from 0 to `count` - 1 go in.
 fn puts<R: Wait>(rt: &R, into: &mut PipeIn<u32>, count: u32) -> bool
     requires few { count ≤ 1000 }
     requires first { length into.old.items ≡ 0 }
@@ -149,7 +149,7 @@ fn puts<R: Wait>(rt: &R, into: &mut PipeIn<u32>, count: u32) -> bool
     true
 }
 
-/// Whether so many numbers come out, from 0 on.
+/// Returns whether the numbers from 0 to `count` - 1 come out.
 fn takes<R: Wait>(rt: &R, out: &mut PipeOut<u32>, count: u32) -> bool {
     for number in 0..count {
         if out.take(rt) != Some(number) {
@@ -159,19 +159,19 @@ fn takes<R: Wait>(rt: &R, out: &mut PipeOut<u32>, count: u32) -> bool {
     true
 }
 
-/// Whether the numbers 0 to 99 go in.
+/// Returns whether the numbers 0 to 99 go in.
 fn puts_all<R: Wait>(rt: &R, mut into: PipeIn<u32>) -> bool
     requires { length into.items ≡ 0 }
 {
     puts(rt, &mut into, 100)
 }
 
-/// Whether the numbers 0 to 99 come out, and then none.
+/// Returns whether the numbers 0 to 99 come out, and then none.
 fn takes_all<R: Wait>(rt: &R, mut out: PipeOut<u32>) -> bool {
     takes(rt, &mut out, 100) && out.take(rt) == None
 }
 
-/// Whether a hundred numbers cross from one thread to another in order.
+/// Returns whether a hundred numbers cross from one thread to another in order.
 fn crosses<R: Threads + Wait + Sync>(rt: &R, alloc: Global) -> bool {
     match pipe::<u32>(alloc) {
         Ok((into, out)) => {
@@ -193,7 +193,7 @@ fn a_hundred_numbers_cross_in_order(rt: HostRuntime) {
     assert!(rt; crosses(&rt, rt.alloc()));
 }
 
-/// Whether four items go in while none comes out.
+/// Returns whether four items go in while none comes out.
 fn four_wait<R: Wait>(rt: &R, alloc: Global) -> bool {
     match pipe::<u32>(alloc) {
         Ok((mut into, out)) => {
@@ -204,7 +204,7 @@ fn four_wait<R: Wait>(rt: &R, alloc: Global) -> bool {
     }
 }
 
-/// Whether five items go in. The flag goes up behind the fifth.
+/// Returns whether five items go in. The flag goes up after the fifth.
 fn puts_five<R: Wait>(rt: &R, mut into: PipeIn<u32>, flag: &AtomicU64) -> bool
     requires { length into.items ≡ 0 }
 {
@@ -213,7 +213,7 @@ fn puts_five<R: Wait>(rt: &R, mut into: PipeIn<u32>, flag: &AtomicU64) -> bool
     put
 }
 
-/// Whether the flag stays down while none of the items comes out, and then all do.
+/// Returns whether the flag stays down while none of the items comes out, and then all of them do.
 fn takes_five<R: Wait>(rt: &R, mut out: PipeOut<u32>, flag: &AtomicU64) -> bool {
     for _read in 0..100_000 {
         if flag.load(Ordering::SeqCst) != 0 {
@@ -223,7 +223,7 @@ fn takes_five<R: Wait>(rt: &R, mut out: PipeOut<u32>, flag: &AtomicU64) -> bool 
     takes(rt, &mut out, 5)
 }
 
-/// Whether a fifth item waits until one has come out.
+/// Returns whether a fifth item waits until one has come out.
 fn fifth_waits<R: Threads + Wait + Sync>(rt: &R, alloc: Global) -> bool {
     let flag = AtomicU64::new(0);
     match pipe::<u32>(alloc) {

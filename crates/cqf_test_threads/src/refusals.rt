@@ -1,4 +1,4 @@
-//! Runs that give no account: with more administrators than a desk has seats for, and with a call more than a history holds.
+//! Runs that give no account: with more administrators than a desk has seats for, and with one call more than a history holds.
 use crate::asking::{Ask, all_commands};
 use crate::running::{Given, outcome_of};
 use cqf_admission::{Call, Command, Entry};
@@ -10,10 +10,10 @@ use std::alloc::Global;
 use std::sync::Wait;
 use std::thread::Threads;
 
-/// How many entries the history of a run has, or why it gives none.
+/// How many entries the history of a run has, or why the run gives none.
 type Ending = Result<usize, ConductFault>;
 
-/// Whether an entry is the withdrawal of a stream that nobody has asked for, or a Seal.
+/// Returns whether an entry is the withdrawal of a stream that nobody requested, or a Seal.
 fn is_in_vain(entry: &Entry) -> bool {
     match &entry.call {
         Call::Admit(_) | Call::AdmitPaced(_) => false,
@@ -22,12 +22,12 @@ fn is_in_vain(entry: &Entry) -> bool {
     }
 }
 
-/// Whether a history has so many entries, all of them such.
+/// Returns whether a history has the expected number of entries, all of them such.
 fn is_all_in_vain(entries: &[Entry], wanted: Ending) -> bool {
     wanted == Ok(entries.len()) && entries.iter().all(|entry| is_in_vain(entry))
 }
 
-/// Whether a run of one cycle over a domain, in which nothing is offered and administrators have these commands, ends so.
+/// Returns whether a run of one cycle over a domain, without offers and with these commands of administrators, ends as expected.
 fn ends_over<R: Threads + Wait + Sync>(
     rt: &R,
     alloc: Global,
@@ -48,7 +48,7 @@ fn ends_over<R: Threads + Wait + Sync>(
     }
 }
 
-/// Whether it does over one link.
+/// Returns whether it does over one link.
 fn ends<R: Threads + Wait + Sync>(
     rt: &R,
     alloc: Global,
@@ -61,7 +61,7 @@ fn ends<R: Threads + Wait + Sync>(
     }
 }
 
-/// Appends so many administrators who call for nothing.
+/// Appends `count` administrators without commands.
 fn add_idle(alloc: Global, count: u32, admins: &mut Vec<Vec<Command>>) -> bool {
     for _admin in 0..count {
         if admins.push(Vec::new(alloc)).is_err() {
@@ -71,7 +71,7 @@ fn add_idle(alloc: Global, count: u32, admins: &mut Vec<Vec<Command>>) -> bool {
     true
 }
 
-/// Whether a run with so many of them ends so.
+/// Returns whether a run with `count` of them ends as expected.
 fn ends_with_idle<R: Threads + Wait + Sync>(
     rt: &R,
     alloc: Global,
@@ -88,10 +88,10 @@ fn more_administrators_than_seats_are_refused(rt: HostRuntime) {
     assert!(rt; ends_with_idle(&rt, rt.alloc(), 65_536, Err(ConductFault::Spawn)));
 }
 
-/// An administrator who withdraws a stream that nobody has asked for: the call is refused, and enters the history.
+/// An administrator who withdraws a stream that nobody requested: the call is refused, and enters the history.
 const IN_VAIN: &[&[Ask]] = &[&[Ask::Withdraw("x")]];
 
-/// Whether a run in which it does so, so often, ends so.
+/// Returns whether a run in which the administrator does so `calls` times ends as expected.
 fn ends_with_calls<R: Threads + Wait + Sync>(
     rt: &R,
     alloc: Global,

@@ -1,4 +1,4 @@
-//! What a run's history says once more: a fresh admission answers its calls alike, and one thread gives the same book.
+//! A run's history, replayed: a fresh admission gives its calls the same answers, and one thread gives the same book.
 use crate::asking::Ask;
 use crate::running::{Scenario, account_of};
 use cqf_admission::{Admission, Call, Entry, Table};
@@ -59,7 +59,7 @@ fn add_offers(offers: &mut Vec<Offer>) -> bool {
     true
 }
 
-/// Whether a call was answered so.
+/// Returns whether a call got this reply.
 fn is_answered(answer: Result<Receipt, Refused>, reply: Reply) -> bool {
     match answer {
         Ok(receipt) => reply == Reply::Accepted(receipt),
@@ -67,7 +67,7 @@ fn is_answered(answer: Result<Receipt, Refused>, reply: Reply) -> bool {
     }
 }
 
-/// Whether a cycle is closed once more. Its table is kept.
+/// Returns whether a cycle is closed again. Its table is kept.
 fn closes_again(admission: &mut Admission, tables: &mut Vec<Table>, entry: &Entry) -> bool {
     let cycle = admission.next_cycle();
     match admission.seal(entry.seat) {
@@ -79,7 +79,7 @@ fn closes_again(admission: &mut Admission, tables: &mut Vec<Table>, entry: &Entr
     }
 }
 
-/// Whether an entry's call is answered as it says.
+/// Returns whether an entry's call gets the entry's reply again.
 fn is_made_again(admission: &mut Admission, tables: &mut Vec<Table>, entry: &Entry) -> bool {
     match &entry.call {
         Call::Admit(request) => is_answered(admission.admit(entry.seat, request), entry.reply),
@@ -94,7 +94,7 @@ fn is_made_again(admission: &mut Admission, tables: &mut Vec<Table>, entry: &Ent
     }
 }
 
-/// The tables of the cycles that a fresh admission closes by the calls of a history, where it answers each as it says.
+/// Returns the tables of the cycles that a fresh admission closes by the calls of a history, if it gives each call the same answer.
 fn tables_again(alloc: Global, admission: &mut Admission, entries: &[Entry]) -> Option<Vec<Table>> {
     let mut tables = Vec::new(alloc);
     for entry in entries {
@@ -105,7 +105,7 @@ fn tables_again(alloc: Global, admission: &mut Admission, entries: &[Entry]) -> 
     Some(tables)
 }
 
-/// The same of an admission that is made for it.
+/// Returns the same for an admission made for this.
 fn tables_of(alloc: Global, domain: &Domain, entries: &[Entry]) -> Option<Vec<Table>> {
     match Admission::new(alloc, domain) {
         Ok(mut admission) => tables_again(alloc, &mut admission, entries),
@@ -113,14 +113,14 @@ fn tables_of(alloc: Global, domain: &Domain, entries: &[Entry]) -> Option<Vec<Ta
     }
 }
 
-/// Whether two books say the same, start by start and drop by drop.
+/// Returns whether two books are equal, start by start and drop by drop.
 fn are_alike(one: &Book, other: &Book) -> bool {
     one.starts.as_slice() == other.starts.as_slice()
         && one.background.as_slice() == other.background.as_slice()
         && one.drops.as_slice() == other.drops.as_slice()
 }
 
-/// Whether one thread gives the book by these tables.
+/// Returns whether one thread gives the same book by these tables.
 fn gives_again(
     alloc: Global,
     plan: &Plan,
@@ -137,12 +137,12 @@ fn gives_again(
     }
 }
 
-/// How many entries are of a seat.
+/// Returns how many entries are of a seat.
 fn calls_of(entries: &[Entry], seat: u16) -> usize {
     entries.iter().filter(|entry| entry.seat == seat).count()
 }
 
-/// Whether a history has twenty calls of each of three seats, and no other.
+/// Returns whether a history has twenty calls of each of three seats, and no others.
 fn is_of_three(entries: &[Entry]) -> bool {
     let each = calls_of(entries, 0) == 20
         && calls_of(entries, 1) == 20
@@ -150,7 +150,7 @@ fn is_of_three(entries: &[Entry]) -> bool {
     each && entries.len() == 60
 }
 
-/// Whether an account says the same once more.
+/// Returns whether an account is the same when replayed.
 fn says_it_again(alloc: Global, plan: &Plan, offers: &[Offer], account: &Account) -> bool {
     let entries = account.history.entries.as_slice();
     match tables_of(alloc, plan.domain(), entries) {
@@ -162,7 +162,7 @@ fn says_it_again(alloc: Global, plan: &Plan, offers: &[Offer], account: &Account
     }
 }
 
-/// Whether the account of a run does.
+/// Returns whether the account of a run is.
 fn agrees<R: Threads + Wait + Sync>(rt: &R, alloc: Global, plan: &Plan, offers: &[Offer]) -> bool {
     match account_of(rt, alloc, plan.domain(), &TWO_STREAMS, offers, &Free) {
         Some(account) => says_it_again(alloc, plan, offers, &account),
@@ -170,7 +170,7 @@ fn agrees<R: Threads + Wait + Sync>(rt: &R, alloc: Global, plan: &Plan, offers: 
     }
 }
 
-/// Whether those of fifty runs do.
+/// Returns whether the accounts of fifty runs are.
 fn fifty_agree<R: Threads + Wait + Sync>(
     rt: &R,
     alloc: Global,
@@ -185,7 +185,7 @@ fn fifty_agree<R: Threads + Wait + Sync>(
     true
 }
 
-/// Whether they do over a domain.
+/// Returns whether they are over a domain.
 fn all_agree<R: Threads + Wait + Sync>(rt: &R, alloc: Global, domain: &Domain) -> bool {
     let mut offers = Vec::new(alloc);
     match compile(alloc, domain) {
@@ -194,7 +194,7 @@ fn all_agree<R: Threads + Wait + Sync>(rt: &R, alloc: Global, domain: &Domain) -
     }
 }
 
-/// Whether they do on the line of the fixtures.
+/// Returns whether they are on the line of the fixtures.
 fn runs_agree<R: Threads + Wait + Sync>(rt: &R, alloc: Global) -> bool {
     match Domain::read(alloc, line().as_bytes()) {
         Ok(domain) => all_agree(rt, alloc, &domain),

@@ -1,4 +1,4 @@
-//! Runs on threads to be made, without background frames.
+//! Test runs on threads, without background frames.
 use crate::asking::{Ask, all_commands};
 use cqf_admission::Command;
 use cqf_model::Offer;
@@ -9,20 +9,20 @@ use std::alloc::Global;
 use std::sync::Wait;
 use std::thread::Threads;
 
-/// What is run beside what is offered.
+/// The inputs of a run besides its offers.
 #[derive(Clone, Copy)]
 pub(crate) struct Scenario {
     /// The streams that are admitted before the run.
     pub(crate) streams: &'static [Asked],
     /// The calls of each administrator.
     pub(crate) admins: &'static [&'static [Ask]],
-    /// How often each makes its calls.
+    /// How often each administrator makes its calls.
     pub(crate) times: u32,
     pub(crate) cycles: u32,
 }
 
-/// What a run is given beside its administrators: a domain, the streams that are admitted before, what is offered, and for how many
-/// cycles it goes on.
+/// The inputs of a run besides its administrators: a domain, the streams that are admitted before the run, its offers, and its number of
+/// cycles.
 #[derive(Clone, Copy)]
 pub(crate) struct Given<'d, 's, 'o> {
     pub(crate) domain: &'d Domain,
@@ -31,7 +31,7 @@ pub(crate) struct Given<'d, 's, 'o> {
     pub(crate) cycles: u32,
 }
 
-/// What comes of a run that is given this, with these commands of administrators, where it may be run.
+/// Returns the outcome of a run with these inputs and these commands of administrators, if it may be run.
 pub(crate) fn outcome_of<R: Threads + Wait + Sync, P: Pace>(
     rt: &R,
     alloc: Global,
@@ -63,7 +63,7 @@ pub(crate) fn outcome_of<R: Threads + Wait + Sync, P: Pace>(
     Some(outcome)
 }
 
-/// The account of a scenario over a domain, with what is offered, where it may be run.
+/// Returns the account of a scenario over a domain, with these offers, if it may be run.
 pub(crate) fn account_of<R: Threads + Wait + Sync, P: Pace>(
     rt: &R,
     alloc: Global,
@@ -87,7 +87,7 @@ pub(crate) fn account_of<R: Threads + Wait + Sync, P: Pace>(
     }
 }
 
-/// The account of a scenario over a domain's text in which nothing is offered, where it may be run.
+/// Returns the account of a scenario over a domain's text, without offers, if it may be run.
 pub(crate) fn account_over<R: Threads + Wait + Sync, P: Pace>(
     rt: &R,
     alloc: Global,

@@ -1,4 +1,4 @@
-//! The widest run: of as many bridges, links and administrators as there can be.
+//! The widest run: with as many bridges, links and administrators as possible.
 use crate::asking::Ask;
 use crate::running::{Scenario, account_of};
 use cqf_admission::{Call, Entry};
@@ -28,7 +28,7 @@ rate = 1000
 delay = 500
 "#;
 
-/// Writes a link from a bridge to another behind a text.
+/// Appends a link from a bridge to another to a text.
 fn add_link(alloc: Global, text: &mut String, from: u32, to: u32) -> bool {
     match format!(in alloc;
         "\n[[links]]\nfrom = \"b{from}\"\nto = \"b{to}\"\nrate = 1000\ndelay = 500\n"
@@ -38,8 +38,8 @@ fn add_link(alloc: Global, text: &mut String, from: u32, to: u32) -> bool {
     }
 }
 
-/// Writes the links: 0 to 31 from each bridge to the next and from the last to the first, 32 to 62 back from each but the first, and
-/// 63 from the last to the station.
+/// Appends the links: 0 to 31 from each bridge to the next and from the last to the first, 32 to 62 back from each bridge except the first,
+/// and 63 from the last bridge to the station.
 fn add_links(alloc: Global, text: &mut String) -> bool {
     for bridge in 0..32 {
         if !add_link(alloc, text, bridge, (bridge + 1) % 32) {
@@ -54,7 +54,7 @@ fn add_links(alloc: Global, text: &mut String) -> bool {
     text.push_str(LAST_LINK).is_ok()
 }
 
-/// The domain of these bridges and links.
+/// Returns the domain of these bridges and links.
 fn wide_domain(alloc: Global) -> Option<Domain> {
     let Ok(mut text) = String::from_str(alloc, BRIDGES) else {
         return None;
@@ -74,10 +74,10 @@ const LONGEST: &[&[&str]] = &[&[
     "b29", "b30", "b31", "s",
 ]];
 
-/// The stream that is admitted before.
+/// The stream that is admitted before the run.
 const X: Asked = ("x", 64, LONGEST);
 
-/// Eight administrators, each of whom admits and withdraws a stream of its own along it.
+/// Eight administrators, each of whom admits and withdraws a stream of its own along the longest path.
 const EIGHT: Scenario = Scenario {
     streams: &[X],
     admins: &[
@@ -94,7 +94,7 @@ const EIGHT: Scenario = Scenario {
     cycles: 18,
 };
 
-/// A frame of the stream that is admitted before goes a link a cycle, to the station.
+/// A frame of the stream that is admitted before the run crosses one link per cycle, to the station.
 const ALONG_SIXTEEN: &[Begun] = &[
     (1, 16, 1, 64, 125000),
     (2, 17, 1, 64, 250000),
@@ -114,7 +114,7 @@ const ALONG_SIXTEEN: &[Begun] = &[
     (16, 63, 1, 64, 2000000),
 ];
 
-/// How many entries of a history are Seals of the seat.
+/// Returns how many entries of a history are Seals of the seat.
 fn seals_of(entries: &[Entry], seat: u16) -> usize {
     entries
         .iter()
@@ -128,7 +128,7 @@ const OPENING: Reply = Reply::Accepted(Receipt {
     effect: Cycle(0),
 });
 
-/// Whether the first entry is that of the stream that was admitted before.
+/// Returns whether the first entry is that of the stream that was admitted before the run.
 fn is_opened(entries: &[Entry]) -> bool {
     match entries.first() {
         Some(entry) => {
@@ -139,14 +139,15 @@ fn is_opened(entries: &[Entry]) -> bool {
     }
 }
 
-/// Whether a book has the starts of that frame alone.
+/// Returns whether a book has only the starts of that frame.
 fn is_along_sixteen(book: &Book) -> bool {
     are_begun(book.starts.as_slice(), ALONG_SIXTEEN)
         && book.background.is_empty()
         && book.drops.is_empty()
 }
 
-/// Whether an account is that of the eight: the opening call, two of each administrator, and a Seal a cycle of the ninth seat.
+/// Returns whether an account is that of the eight: the opening call, two calls of each administrator, and one Seal per cycle by the ninth
+/// seat.
 fn is_of_eight(account: &Account) -> bool {
     let entries = account.history.entries.as_slice();
     account.history.opening == 1
@@ -156,7 +157,7 @@ fn is_of_eight(account: &Account) -> bool {
         && is_along_sixteen(&account.book)
 }
 
-/// Whether the eight have such an account where this is offered.
+/// Returns whether the eight have such an account with these offers.
 fn eight_end<R: Threads + Wait + Sync>(
     rt: &R,
     alloc: Global,
@@ -169,7 +170,7 @@ fn eight_end<R: Threads + Wait + Sync>(
     }
 }
 
-/// Whether they have over the widest domain.
+/// Returns whether they have it over the widest domain.
 fn widest_ends<R: Threads + Wait + Sync>(rt: &R, alloc: Global) -> bool {
     let Ok(offers) = offers_of(alloc, &[(0, 16, "x", 64)]) else {
         return false;

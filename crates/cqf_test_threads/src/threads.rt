@@ -9,7 +9,7 @@ use std::alloc::Global;
 use std::sync::Wait;
 use std::thread::{Threads, join};
 
-/// What the one gets that comes first.
+/// The answer to the seat that comes first.
 const FIRST: Result<Receipt, Refused> = Ok(RECEIPT);
 
 const RECEIPT: Receipt = Receipt {
@@ -17,12 +17,13 @@ const RECEIPT: Receipt = Receipt {
     effect: Cycle(0),
 };
 
-/// What the other one gets.
+/// The answer to the other seat.
 const SECOND: Result<Receipt, Refused> = Err(SHORT);
 
 const SHORT: Refused = Refused::BudgetShort { link: 0, left: 0 };
 
-/// Two seats ask at once, for one stream each. Whether the first one came first, where their answers are those of the two.
+/// Two seats request one stream each at the same time. Returns whether the first seat came first, if their answers are the two expected
+/// ones.
 fn is_first<R: Threads + Wait + Sync>(
     rt: &R,
     desk: &Desk,
@@ -41,7 +42,7 @@ fn is_first<R: Threads + Wait + Sync>(
     None
 }
 
-/// The same for y and z.
+/// The same for the streams y and z.
 fn is_first_for_y<R: Threads + Wait + Sync>(
     rt: &R,
     alloc: Global,
@@ -58,7 +59,7 @@ fn is_first_for_y<R: Threads + Wait + Sync>(
     }
 }
 
-/// The same of a desk's two seats.
+/// The same for a desk's two seats.
 fn is_zero_first<R: Threads + Wait + Sync>(
     rt: &R,
     alloc: Global,
@@ -71,7 +72,7 @@ fn is_zero_first<R: Threads + Wait + Sync>(
     }
 }
 
-/// Whether an entry is what the line was asked before for one of the seven, which got this number.
+/// Returns whether an entry is the request for the one of the seven streams that got this number.
 fn is_one_of_seven(number: u32, entry: &Entry) -> bool {
     let receipt = Receipt {
         no: number,
@@ -83,7 +84,7 @@ fn is_one_of_seven(number: u32, entry: &Entry) -> bool {
     }
 }
 
-/// Whether entries are those of the seven, in order.
+/// Returns whether entries are those of the seven, in order.
 fn are_the_seven(entries: &[Entry]) -> bool {
     let mut number = 0;
     for entry in entries {
@@ -95,8 +96,8 @@ fn are_the_seven(entries: &[Entry]) -> bool {
     number == 7
 }
 
-/// Whether of nine entries seven are the opening ones, and the last two those of seats 0 and 1 in the order in which their answers say
-/// that they came.
+/// Returns whether seven of nine entries are the opening ones, and the last two are those of seats 0 and 1, in the order that their answers
+/// imply.
 fn is_in_order(history: &History, zero_came_first: bool) -> bool {
     let entries = history.entries.as_slice();
     if history.opening != 7 || entries.len() != 9 {
@@ -112,7 +113,7 @@ fn is_in_order(history: &History, zero_came_first: bool) -> bool {
     are_last && are_the_seven(&entries[..7])
 }
 
-/// Whether a desk that is closed has such a history.
+/// Returns whether a desk that is closed has such a history.
 fn closes_in_order(desk: Desk, seats: Vec<Seat>, zero_came_first: Option<bool>) -> bool {
     match desk.close(seats) {
         Ok(history) => match zero_came_first {
@@ -123,7 +124,7 @@ fn closes_in_order(desk: Desk, seats: Vec<Seat>, zero_came_first: Option<bool>) 
     }
 }
 
-/// Whether one of two threads gets the last octets of the line with seven streams.
+/// Returns whether one of two threads gets the last octets of the line with seven streams.
 fn one_gets_them<R: Threads + Wait + Sync>(rt: &R, alloc: Global) -> bool {
     let Some(line) = line_with(alloc, SEVEN) else {
         return false;

@@ -10,7 +10,7 @@ const PATH: &[&[&str]] = &[&["a", "b", "c", "s"]];
 /// The stream x.
 pub(crate) const X: Asked = ("x", 1500, PATH);
 
-/// Two streams, of which the line with seven others has room for one.
+/// Two streams: the line with seven others has room for only one of them.
 pub(crate) const Y: Asked = ("y", 980, PATH);
 
 pub(crate) const Z: Asked = ("z", 980, PATH);
@@ -28,7 +28,7 @@ pub(crate) const SEVEN: &[Asked] = &[
     ("n6", 1500, PATH),
 ];
 
-/// Whether an entry is a seat's request for a stream, with that reply.
+/// Returns whether an entry is a seat's request for a stream, with that reply.
 pub(crate) fn is_admit(entry: &Entry, seat: u16, asked: &Asked, reply: Reply) -> bool {
     match &entry.call {
         Call::Admit(request) => {
@@ -38,7 +38,7 @@ pub(crate) fn is_admit(entry: &Entry, seat: u16, asked: &Asked, reply: Reply) ->
     }
 }
 
-/// Whether a stream is granted.
+/// Returns whether a stream is granted.
 fn is_granted(alloc: Global, line: &mut Admission, asked: &Asked) -> bool {
     match request(alloc, asked) {
         Ok(wanted) => line.admit(9, &wanted).is_ok(),
@@ -46,7 +46,7 @@ fn is_granted(alloc: Global, line: &mut Admission, asked: &Asked) -> bool {
     }
 }
 
-/// Whether streams are granted, one after the other.
+/// Returns whether streams are granted, one after the other.
 fn are_granted(alloc: Global, line: &mut Admission, streams: &[Asked]) -> bool {
     for asked in streams {
         if !is_granted(alloc, line, asked) {
@@ -56,7 +56,7 @@ fn are_granted(alloc: Global, line: &mut Admission, streams: &[Asked]) -> bool {
     true
 }
 
-/// An admission over a domain that holds nothing yet.
+/// Returns an admission over a domain that holds nothing yet.
 fn admission_over(alloc: Global, domain: &Domain) -> Option<Admission> {
     match Admission::new(alloc, domain) {
         Ok(admission) => Some(admission),
@@ -64,7 +64,7 @@ fn admission_over(alloc: Global, domain: &Domain) -> Option<Admission> {
     }
 }
 
-/// An admission over the line that holds nothing yet.
+/// Returns an admission over the line that holds nothing yet.
 fn new_line(alloc: Global) -> Option<Admission> {
     match Domain::read(alloc, line().as_bytes()) {
         Ok(domain) => admission_over(alloc, &domain),
@@ -72,7 +72,7 @@ fn new_line(alloc: Global) -> Option<Admission> {
     }
 }
 
-/// An admission over the line that has granted these streams.
+/// Returns an admission over the line that has granted these streams.
 pub(crate) fn line_with(alloc: Global, streams: &[Asked]) -> Option<Admission> {
     let mut line = new_line(alloc)?;
     if are_granted(alloc, &mut line, streams) {

@@ -47,7 +47,7 @@ use Rattle.cqf_worker.proofs.Come.{HaveRun, all_come, all_sends, have_gone}
 use Rattle.cqf_worker.proofs.Taped.{book_on_tapes, have_taped, legal_run, some_taped}
 use Rattle.cqf_worker.proofs.Seating.{are_seated, asked_count, asks_no_seal, fresh_seat, seats_count}
 
--- with a fresh seat nobody has called
+-- a fresh seat has no calls
 no_calls_yet : (count : ℕ) (administrators : List Administrator) → map seat_of administrators ≡ fresh_seats count →
     All (λ (a : Administrator). a.seat.calls ≡ []) administrators
 no_calls_yet count administrators seats place a below =
@@ -76,7 +76,7 @@ module _ (d : Domain) (opening : List Recorded) (offers : List Offer) (backgroun
     pub wired_in_the_end : (wiring : Wiring) × AreWired wiring e.workers.items
     wired_in_the_end = still_wired cycles p.ready.workers.items e.workers.items ended.worked is.laid.wired
 
-    -- and the ends of tables are still of one pipe, place by place
+    -- and the ends for tables are still of one pipe, index by index
     pub tables_in_the_end : map pipe_of_tables e.sealed.tables.items ≡ map tables_pipe e.workers.items
     tables_in_the_end = ended.sealed.pipes ∙ is.laid.tables ∙ sym (still_tables cycles p.ready.workers.items e.workers.items ended.worked)
 
@@ -85,21 +85,21 @@ module _ (d : Domain) (opening : List Recorded) (offers : List Offer) (backgroun
     reels_in_the_end =
         still_reels (traffic_of d offers) cycles p.ready.workers.items e.workers.items is.laid.workers is.laid.many ended.worked
 
-    -- the seats in the end, of which the conductor's is the sealing one
+    -- the seats in the end; the conductor's is the sealing one
     pub seated_so : (s : AreSeated (all_asked admins) cycles (all_seats e)) × (s.conductor ≡ e.sealed.seat)
     seated_so =
         are_seated admins p.ready.administrators.items p.ready.conductor e.seats.items e.sealed.seat cycles p.ready.tables.items e.sealed.tables.items
         is.seated ended.called ended.sealed
 
     module _ (account : TapedAccount) (settled : IsSettled d p.desk e account) where
-      -- the history is of the seats, as many as were asked and one more
+      -- the history is of the seats: one per administrator and one more
       of_seats : IsOfSeats opening d (length (all_asked admins) + 1) (all_seats e) (entries_of account.history)
       of_seats =
           subst (λ (count : ℕ). IsOfSeats opening d (count + 1) (all_seats e) (entries_of account.history)) (sym (asked_count admins))
           (subst (λ (desk : Counter). IsOfSeats desk.opening.entries desk.opening.domain desk.seats (all_seats e) (entries_of account.history)) is.desk
           settled.history.entries)
 
-      -- so it is of what was asked
+      -- so it is of what was requested
       history_is : SeatsGiveTheHistory → IsHistoryOf d opening (all_asked admins) cycles (entries_of account.history)
       history_is law = law d opening (all_asked admins) cycles (all_seats e) (entries_of account.history) of_seats seated_so.0
 
@@ -109,7 +109,7 @@ module _ (d : Domain) (opening : List Recorded) (offers : List Offer) (backgroun
           subst (ClosesItsCycles d (entries_of account.history) cycles) seated_so.1
           (law d opening (all_asked admins) cycles (all_seats e) (entries_of account.history) of_seats seated_so.0 (asks_no_seal admins) unsealed)
 
-      -- at the ends of the workers' pipes stand the tables of the history's cycles
+      -- the ends of the workers' pipes carried the tables of the history's cycles
       given_so : ClosesItsCycles d (entries_of account.history) cycles e.sealed.seat → (place : ℕ) (end : TableEnd) →
           place < length e.sealed.tables.items →
           (slice_index_or e.sealed.tables.items place end).items ≡ map Item (cycle_tables d (entries_of account.history) cycles)
@@ -159,7 +159,7 @@ module _ (d : Domain) (opening : List Recorded) (offers : List Offer) (backgroun
             (have_taped (traffic_of d offers) entries cycles p.ready.workers.items e.workers.items e.sealed.tables.items have_run background)
             settled.gathered
 
-        -- so they may take their background frames
+        -- so the background frames can be added to them
         pub may_back : cycles ≤ 100000 → SomeTapedRun d (cycles * d.cycle_time) background account.tapes.links.items
         may_back short = some_taped d entries offers background cycles its_net.0 its_net.1 account.tapes streams short
 
@@ -181,7 +181,7 @@ module _ (d : Domain) (opening : List Recorded) (offers : List Offer) (backgroun
               its_tapes = has.1.tapes_of;
             }
 
--- an account by tapes, and the book that these tell, are an account
+-- an account by tapes, with the book read from them, is an account
 pub told_account : (d : Domain) (opening : List Recorded) (offers : List Offer) (background : List Background) (cycles : ℕ)
     (admins : List (List Command)) (paged : TapedAccount) (account : Account) → TapesTellTheBook → IsAccepted d →
     IsTapedAccount d opening offers background cycles admins paged → account.history ≡ paged.history →

@@ -1,4 +1,4 @@
--- What workers that are done have of what they were.
+-- What workers that are done keep of their initial state.
 use Rattle.std.proofs.Common.{ℕ, zero, suc, ◌≡◌, ◌<◌, ◌≤◌, ◌⊎◌, ◌∷◌, [], List, Contains, length, map, refl, sym, ap, ◌∙◌, arith, inl, inr, subst, get_or}
 use Rattle.std.specs.Prelude.{Some, None, option_map, slice_get}
 use Rattle.std.specs.List.{AllZip}
@@ -20,12 +20,12 @@ use Rattle.cqf_worker_loops.specs.PipeEnds.{PipeId}
 use Rattle.cqf_worker.specs.Closing.{reel_at}
 use Rattle.cqf_worker.specs.Wires.{AreOn, AreWired, AreWorkersOf, Wiring, tables_pipe}
 
--- a value in front of those of later numbers
+-- a value before those of later numbers
 abbrev ahead : {Y : Type 0} → Y → (ℕ → Y) → ℕ → Y
 ahead y f zero = y
 ahead y f (suc k) = f k
 
--- a function of an element's place, with one element more in front
+-- a function of an element's index, with one more element at the front
 chosen_more : {X Y : Type 0} (x : X) (xs : List X) (P : ℕ → X → Y → Type 0) → (y : Y) × P 0 x y →
     (f : ℕ → Y) × ((k : ℕ) (z : X) → slice_get xs k ≡ Some z → P (suc k) z (f k)) →
     (f : ℕ → Y) × ((k : ℕ) (z : X) → slice_get (x ∷ xs) k ≡ Some z → P k z (f k))
@@ -36,7 +36,7 @@ chosen_more {X} {Y} x xs P first later = (ahead first.0 later.0, at)
     at zero z there = subst (λ (w : X). P 0 w first.0) (same_Some x z there) first.1
     at (suc k) z there = later.1 k z there
 
--- where there is a value for each element of a list, they are those of one function of its place
+-- if there is a value for each element of a list, the values are those of one function of the index
 pub chosen : {X Y : Type 0} (none : Y) (xs : List X) (P : ℕ → X → Y → Type 0) → ((k : ℕ) (x : X) → slice_get xs k ≡ Some x → (y : Y) × P k x y) →
     (f : ℕ → Y) × ((k : ℕ) (x : X) → slice_get xs k ≡ Some x → P k x (f k))
 chosen {X} {Y} none [] P each = (λ k. none, λ k x there. absurd (nowhere k x there))
@@ -46,7 +46,7 @@ chosen {X} {Y} none [] P each = (λ k. none, λ k x there. absurd (nowhere k x t
     nowhere k x e = cc
 chosen none (x ∷ xs) P each = chosen_more x xs P (each 0 x refl) (chosen none xs (λ k. P (suc k)) (λ k z there. each (suc k) z there))
 
--- an element is at each place of a list
+-- there is an element at each index of a list
 pub element_at : {X : Type 0} (xs : List X) (k : ℕ) → k < length xs → (x : X) × (slice_get xs k ≡ Some x)
 element_at xs k inside = elim (slice_get_cases xs k).1 [
   | inl w ↦ (w.0, w.2)
@@ -62,7 +62,7 @@ kept_links before after same =
     link : ℕ × PipeId (Carried Stretch) → ℕ
     link wire = wire.0
 
--- each that is done was the worker at its place
+-- each worker that is done was the worker at its index
 pub was_at : (cycles : ℕ) (workers dones : List Worker) (place : ℕ) (done : Worker) → AllZip (Works cycles) workers dones →
     slice_get dones place ≡ Some done → (w : Worker) × (slice_get workers place ≡ Some w) × Works cycles w done
 was_at cycles workers dones place done worked there =
@@ -90,7 +90,7 @@ module _ (t : Offering) (cycles : ℕ) (workers dones : List Worker) (of_bridges
   pub kept_ins : map link_of done.ins.items ≡ links_into t.domain place
   kept_ins = kept_links was.0.ins.items done.ins.items was.2.ins ∙ was_of.links_in
 
-  -- and puts at ports of those that leave it and end in another
+  -- and puts at ports of those that leave it and end in another bridge
   pub kept_outs : map link_of done.outs.items ≡ links_onward t.domain place
   kept_outs = kept_links was.0.outs.items done.outs.items was.2.outs ∙ was_of.links_out
 
@@ -102,7 +102,7 @@ still_reels t cycles workers dones of_bridges many worked = record {
   links = λ bridge reel there. links_at bridge reel there (slice_get_cases dones bridge).1;
 }
   where
-    -- those of the worker at the place of a reel
+    -- those of the worker at the index of a reel
     links_at : (bridge : ℕ) (reel : Reel) → slice_get (map reel_at dones) bridge ≡ Some reel →
         ((done : Worker) × (bridge < length dones) × (slice_get dones bridge ≡ Some done) × (get_or dones bridge done ≡ done))
         ⊎ ((length dones ≤ bridge) × (slice_get dones bridge ≡ None)) → links_of reel.tapes.items ≡ links_leaving t.domain bridge
@@ -113,7 +113,7 @@ still_reels t cycles workers dones of_bridges many worked = record {
     links_at bridge reel there (inr past) =
         absurd (omega (arith, past.0, slice_get_within (map reel_at dones) bridge reel there, length-map dones reel_at))
 
--- ports that keep their wires are of the pipes on their links still
+-- ports that keep their wires are still of the pipes on their links
 still_on : (wiring : Wiring) (before after : List StretchPort) → wires_of after ≡ wires_of before → AreOn wiring before → AreOn wiring after
 still_on wiring before after same on p there =
     let wire : Contains (wires_of before) (wire_at p) =
@@ -145,7 +145,7 @@ still_wired cycles workers dones worked wired = (
   },
 )
 
--- and have the pipes for tables that they had
+-- and have the same pipes for tables
 pub still_tables : (cycles : ℕ) (workers dones : List Worker) → AllZip (Works cycles) workers dones → map tables_pipe dones ≡ map tables_pipe workers
 still_tables cycles [] [] worked = refl
 still_tables cycles [] (d ∷ dones) worked = absurd worked

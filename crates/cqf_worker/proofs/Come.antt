@@ -1,4 +1,4 @@
--- From what workers have done, each by its own pipes, to what has come to all bridges, and what their links have sent.
+-- From what each worker has done, by its own pipes, to what has arrived at all bridges, and what their links have sent.
 use Rattle.std.proofs.Common.{ℕ, ◌≡◌, ◌<◌, ◌≤◌, ◌∷◌, [], List, AllPairs, Contains, filter, length, map, sym, ap, ◌∙◌, arith, inl, inr, subst}
 use Rattle.std.proofs.Common.{eq-eqb, eqb-true, refl}
 use Rattle.std.specs.Prelude.{◌==◌, Option, Some, false, slice_get, slice_index_or, true}
@@ -49,11 +49,11 @@ use Rattle.cqf_worker.proofs.Lacking.{ends_there, link_there}
 rows_of_tables : (d : Domain) (entries : List Recorded) (cycles : ℕ) → map rows_in (cycle_tables d entries cycles) ≡ tables_of d entries cycles
 rows_of_tables d entries cycles = map_below rows_in (λ cycle. record { cycle = cycle; rows = table_at d entries cycle } ∷ []) cycles
 
--- there are so many
+-- their number is the number of cycles
 pub tables_count : (d : Domain) (entries : List Recorded) (cycles : ℕ) → length (tables_of d entries cycles) ≡ cycles
 tables_count d entries cycles = length-singles (table_at d entries) cycles
 
--- a bridge at which a link ends is one of the domain's
+-- a bridge at which a link ends is one of the domain
 node_inside : (d : Domain) (n : Node) (b : ℕ) → node_is n b ≡ true → IsNode d n → b < length d.bridges
 node_inside d (Bridge c) b is inside = subst (λ (k : ℕ). k < length d.bridges) (eqb-true c b is) inside
 node_inside d (Station s) b is inside = absurd (false≢true is)
@@ -63,7 +63,7 @@ enters_bridge d l b accepted here =
     let link = link_there d l b here in
     node_inside d link.0.to b (ends_there d l link.0 link.1 b here) (accepted.links_good l link.0 link.1).to_node
 
--- and so is one that a link leaves
+-- and so is a bridge that a link leaves
 leaves_bridge : (d : Domain) (l : ℕ) → IsAccepted d → l < length d.links → (bridge_of d l < length d.bridges) × (leaves d l (bridge_of d l) ≡ true)
 leaves_bridge d l accepted inside =
     let link = element_at d.links l inside in
@@ -72,12 +72,12 @@ leaves_bridge d l accepted inside =
       ap (λ (o : Option Link). option_map_or (λ (k : Link). k.from == bridge_of d l) o false) link.1 ∙ eq-eqb link.0.from (bridge_of d l) (sym from),
     )
 
--- the links that leave a bridge and end in another ascend
+-- the links that leave a bridge and end in another one ascend
 onward_ascend : (d : Domain) (bridge : ℕ) → AllPairs (λ (a b : ℕ). a < b) (links_onward d bridge)
 onward_ascend d bridge =
     AllPairs-filter (λ (a b : ℕ). a < b) (is_onward d) (links_from d bridge) (numbers_ascend (λ k. leaves d k bridge) (length d.links))
 
--- all that may come where there is no worker
+-- what has arrived if there is no worker
 abbrev come_elsewhere : Offering → List (List Row) → ℕ → Come
 come_elsewhere t tables bridge = record {
   tables = tables;
@@ -86,7 +86,7 @@ come_elsewhere t tables bridge = record {
   brought = λ m. [];
 }
 
--- what has come to each bridge
+-- what has arrived at each bridge
 abbrev pub come_of : Offering → List (List Row) → List Worker → ℕ → Come
 come_of t tables dones bridge = option_map_or come_to (slice_get dones bridge) (come_elsewhere t tables bridge)
 
@@ -94,7 +94,7 @@ pub come_is : (t : Offering) (tables : List (List Row)) (dones : List Worker) (b
     come_of t tables dones bridge ≡ come_to done
 come_is t tables dones bridge done there = ap (λ (o : Option Worker). option_map_or come_to o (come_elsewhere t tables bridge)) there
 
--- what the links of a worker's bridge have sent, each that leaves it
+-- what each link that leaves a worker's bridge has sent
 pub record HasSentBy (t : Offering) (number cycles : ℕ) (done : Worker) (sends : Sendings) : Type 0 where
   pub gone : (l : ℕ) → leaves t.domain l number ≡ true → HasGoneOnBy t.domain number (come_to done) l (sends l)
   pub all : (l : ℕ) → leaves t.domain l number ≡ true → length (sends l) ≡ cycles
@@ -103,8 +103,8 @@ pub record HasSentBy (t : Offering) (number cycles : ℕ) (done : Worker) (sends
   pub starts : (l : ℕ) → leaves t.domain l number ≡ true →
       starts_at done.reel.tapes.items l ≡ map mark_of_sent (flat_map (λ (batch : List Sent). batch) (sends l))
 
--- workers of all bridges of a traffic that are done, with their pipes closed, and the ends at which tables were put for each: those of
--- the first cycles of a history
+-- workers of all bridges of this traffic that are done, with their pipes closed, and the ends at which tables were put for each worker:
+-- those of the first cycles of a history
 pub record HaveRun (t : Offering) (entries : List Recorded) (cycles : ℕ) (workers dones : List Worker) (ends : List TableEnd) : Type 0 where
   pub accepted : IsAccepted t.domain
   pub may_come : MayBeTables t.domain (tables_of t.domain entries cycles)
@@ -124,16 +124,16 @@ pub record IsPutFor (cycles : ℕ) (dones : List Worker) (p : StretchPort) : Typ
 
 module _ (t : Offering) (entries : List Recorded) (cycles : ℕ) (workers dones : List Worker) (ends : List TableEnd)
     (run : HaveRun t entries cycles workers dones ends) where
-  -- as many are done as there are bridges
+  -- as many workers are done as there are bridges
   pub as_many : length dones ≡ length t.domain.bridges
   as_many = sym (length_all_zip (Works cycles) workers dones run.worked) ∙ run.many
 
-  -- and as many ends were tables put at
+  -- and tables were put at as many ends
   as_many_ends : length ends ≡ length t.domain.bridges
   as_many_ends = sym (length-map ends pipe_of_tables) ∙ ap length run.pipes ∙ length-map dones tables_pipe ∙ as_many
 
   module _ (place : ℕ) (done : Worker) (there : slice_get dones place ≡ Some done) where
-    -- the worker at a place did its bridge's part
+    -- the worker at an index did its bridge's part
     pub gone_at : HasGoneThrough t place cycles done
     gone_at = kept_part t cycles workers dones run.of_bridges run.worked place done there
 
@@ -141,7 +141,7 @@ module _ (t : Offering) (entries : List Recorded) (cycles : ℕ) (workers dones 
     ins_links : map link_of done.ins.items ≡ links_into t.domain place
     ins_links = kept_ins t cycles workers dones run.of_bridges run.worked place done there
 
-    -- and puts at ports of those that leave it and end in another
+    -- and puts at ports of those that leave it and end in another bridge
     outs_links : map link_of done.outs.items ≡ links_onward t.domain place
     outs_links = kept_outs t cycles workers dones run.of_bridges run.worked place done there
 
@@ -152,7 +152,7 @@ module _ (t : Offering) (entries : List Recorded) (cycles : ℕ) (workers dones 
     outs_ascend : AllPairs (λ (a b : ℕ). a < b) (map link_of done.outs.items)
     outs_ascend = subst (AllPairs (λ (a b : ℕ). a < b)) (sym outs_links) (onward_ascend t.domain place)
 
-    -- the link of a port at which it puts leaves its bridge, and ends in another
+    -- the link of a port at which it puts leaves its bridge, and ends in another bridge
     leaves_it : (out : StretchPort) → Contains done.outs.items out → (leaves t.domain out.link place ≡ true) × (is_onward t.domain out.link ≡ true)
     leaves_it out held =
         let among : Contains (links_onward t.domain place) out.link =
@@ -166,7 +166,7 @@ module _ (t : Offering) (entries : List Recorded) (cycles : ℕ) (workers dones 
         contains_from_map link_of done.ins.items m
         (subst (λ (ls : List ℕ). Contains ls m) (sym ins_links) (link_listed t.domain place m here))
 
-    -- the tables that it took are all that were put for it
+    -- the tables that it took are all those put for it
     taken_all : items_in done.tables.items ≡ cycle_tables t.domain entries cycles
     taken_all =
         let below : place < length ends = omega (arith, slice_get_within dones place done there, as_many, as_many_ends) in
@@ -179,11 +179,11 @@ module _ (t : Offering) (entries : List Recorded) (cycles : ℕ) (workers dones 
         length-singles (λ cycle. (let table : CycleTable = record { cycle = cycle; rows = table_at t.domain entries cycle } in table)) cycles in
         begins_whole tables (items_in done.tables.items) rest.0 (sym (ap items_in carried ∙ items_all tables) ∙ rest.1) (gone_at.had_tables ∙ sym count)
 
-    -- so those that came to it are the history's
+    -- so the tables that arrived are the history's
     pub tables_are : (come_to done).tables ≡ tables_of t.domain entries cycles
     tables_are = ap (map rows_in) taken_all ∙ rows_of_tables t.domain entries cycles
 
-    -- and the offers of each cycle those of the run
+    -- and the offers of each cycle are those of the run
     pub offers_are : (cycle : ℕ) → cycle < cycles → offers_in (come_to done) cycle ≡ offered_for t.domain t.offers place cycle
     offers_are cycle within =
         get_or-singles (offers_listed_at done.agenda) (length (items_in done.tables.items)) cycle [] (omega (arith, within, gone_at.had_tables))
@@ -200,7 +200,7 @@ module _ (t : Offering) (entries : List Recorded) (cycles : ℕ) (workers dones 
         put = of_member (HasPut cycles) fed.from.outs.items fed.out (gone_at source.0 fed.from source.1).outs fed.at_worker;
       }
 
-  -- so what came to a worker may come
+  -- so what arrived at a worker may arrive
   may_have_come : (place : ℕ) (done : Worker) → slice_get dones place ≡ Some done → MayHaveComeTo t done
   may_have_come place done there = record {
     stretches = next_by_links done.ins.items (λ p held. (let put = put_for place done p there held in
@@ -208,11 +208,11 @@ module _ (t : Offering) (entries : List Recorded) (cycles : ℕ) (workers dones 
     tables = subst (MayBeTables t.domain) (sym (tables_are place done there)) run.may_come;
   }
 
-  -- and its links have sent all
+  -- and its links have sent everything
   pub sent_all : (place : ℕ) (done : Worker) → slice_get dones place ≡ Some done → HasSentAll t place cycles done
   sent_all place done there = (gone_at place done there).sent (may_have_come place done there)
 
-  -- by one function of the bridges
+  -- as one function of the bridges
   pub sent_so : (own : ℕ → Sendings) × ((place : ℕ) (done : Worker) → slice_get dones place ≡ Some done → HasSentBy t place cycles done (own place))
   sent_so = chosen {X = Worker} {Y = Sendings} (λ l. []) dones (λ place done sends. HasSentBy t place cycles done sends)
       (λ place done there. (let all = sent_all place done there in
@@ -228,7 +228,7 @@ module _ (t : Offering) (entries : List Recorded) (cycles : ℕ) (workers dones 
   abbrev pub all_sends : Sendings
   all_sends l = own_sends (bridge_of t.domain l) l
 
-  -- and what has come to each bridge
+  -- and what has arrived at each bridge
   abbrev pub all_come : ℕ → Come
   all_come = come_of t (tables_of t.domain entries cycles) dones
 
@@ -239,7 +239,7 @@ module _ (t : Offering) (entries : List Recorded) (cycles : ℕ) (workers dones 
     put : IsPutFor cycles dones port.0
     put = put_for place done port.0 there port.1
 
-    -- it came up to the last cycle
+    -- it arrived up to the last cycle
     far : cycles ≤ end_of_stretches 0 (stretches_in port.0)
     far = of_member (λ (p : StretchPort). cycles ≤ end_of_stretches 0 (stretches_in p)) done.ins.items port.0 (sent_all place done there).came port.1
 
@@ -272,7 +272,7 @@ module _ (t : Offering) (entries : List Recorded) (cycles : ℕ) (workers dones 
         ap (stretches_at put.fed.from.outs.items) (sym same_link)
         ∙ stretches_there put.fed.from.outs.items put.fed.out (outs_ascend source.0 put.fed.from source.1) put.fed.at_worker
 
-    -- what the link brought is what it has sent
+    -- what the link brought is what it sent
     brought_so : (cycle : ℕ) → filter (is_in cycle) (all_frames (stretches_at done.ins.items m)) ≡ map (came_in t.domain m cycle) (batch_at (all_sends m) cycle)
     brought_so cycle =
         ap (λ (stretches : List Stretch). filter (is_in cycle) (all_frames stretches)) stretches_here
@@ -290,7 +290,7 @@ module _ (t : Offering) (entries : List Recorded) (cycles : ℕ) (workers dones 
     abbrev count : length its_run.tables ≡ cycles
     count = tables_count t.domain entries cycles
 
-    -- all has come to a worker's bridge
+    -- everything has arrived at a worker's bridge
     come_there : (place : ℕ) (done : Worker) → slice_get dones place ≡ Some done → HasCome its_run all_sends place (come_to done)
     come_there place done there = record {
       tables = tables_are place done there;
@@ -299,7 +299,7 @@ module _ (t : Offering) (entries : List Recorded) (cycles : ℕ) (workers dones 
       brought = λ m cycle here. brought_so place done there m here cycle;
     }
 
-    -- and what isn't one of the bridges has no links
+    -- and a number that is none of the bridges has no links
     come_nowhere : (place : ℕ) → length dones ≤ place → HasCome its_run all_sends place (come_elsewhere t its_run.tables place)
     come_nowhere place behind =
         let none : (m : ℕ) → enters t.domain m place ≡ true → ⊥ =
@@ -324,7 +324,7 @@ module _ (t : Offering) (entries : List Recorded) (cycles : ℕ) (workers dones 
     worker_of : (l : ℕ) → l < length t.domain.links → (done : Worker) × (slice_get dones (bridge_of t.domain l) ≡ Some done)
     worker_of l inside = element_at dones (bridge_of t.domain l) (omega (arith, as_many, (leaves_bridge t.domain l run.accepted inside).0))
 
-    -- so each link has gone on over all cycles
+    -- so each link has gone on through all cycles
     pub have_gone : HaveGone its_run all_sends all_come
     have_gone = record {
       has_come = has_come;

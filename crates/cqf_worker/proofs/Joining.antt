@@ -21,7 +21,7 @@ use Rattle.cqf_worker.proofs.Notings.{AreTold, all_told, callers_told, is_told, 
 use Rattle.cqf_worker_loops.specs.Workers.{Works}
 use Rattle.cqf_worker.proofs.Zipped.{zipped_same, zipped_values}
 
--- what a conductor has sealed, where it has an answer
+-- what a conductor has sealed, if it has an answer
 pub sealed_so : (cycles : ℕ) (r : ReadyRun) (sealed : Result Sealed SealingFault) (s : Sealed) → sealed ≡ Ok s
     → IfOk sealed (λ done. HasSealed cycles r.conductor done.seat r.tables.items done.tables.items)
     → HasSealed cycles r.conductor s.seat r.tables.items s.tables.items
@@ -43,7 +43,7 @@ all_joined cycles_in worker_in administrator_in working calling workers seats cy
   sealed = sealed;
 }
 
--- what is noted of all threads may be told of the run
+-- what is noted of all threads may be reported for the run
 pub joined_told : {H K : Type 0} (cycles_in : H → ℕ) (worker_in : H → Worker) (administrator_in : K → Administrator) (working : List H) (calling : List K)
     (cycles : ℕ) (r : ReadyRun) (clean called worked : Faults) (seats : List Sitting) (workers : List Worker) → IsClean clean
     → map worker_in working ≡ r.workers.items → All (λ h. cycles_in h ≡ cycles) working → map administrator_in calling ≡ r.administrators.items
@@ -59,7 +59,7 @@ joined_told cycles_in worker_in administrator_in working calling cycles r clean 
     (zipped_values worker_in (AnswersWorker cycles) working r.workers.items works.0 begun
     (zipped_same cycles_in (λ c h answer. AnswersWorker c (worker_in h) answer) cycles working works.0 same works.1)) works.2 after_calls
 
--- and what is told of them and the conductor
+-- and so may what is reported of them and the conductor
 pub run_told : (cycles : ℕ) (r : ReadyRun) (faults : Faults) (sealed : Result Sealed SealingFault) (fault : ConductFault) → AreTold cycles r faults
     → IfErr sealed (BreaksOff cycles r.conductor r.tables.items) → is_noted (noted_with faults sealed) ≡ Some fault → MayBeTold cycles r fault
 run_told cycles r faults sealed fault told why is = is_told cycles r (noted_with faults sealed) fault (told_with cycles r faults sealed told why) is

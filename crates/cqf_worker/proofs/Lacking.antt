@@ -1,5 +1,5 @@
--- No taking end of a run lacks its putting end: of each link that ends in a bridge there is a putting end at the bridge that it leaves, and
--- one taking end at most.
+-- No taking end of a run lacks its putting end. Each link that ends in a bridge has a putting end at the bridge that it leaves, and at most
+-- one taking end.
 use Rattle.std.proofs.Common.{ℕ, ◌≡◌, ◌+◌, ◌<◌, ◌≤◌, ◌⊎◌, ◌==◌, ◌∷◌, [], Bool, List, AllPairs, Contains, cond, length}
 use Rattle.std.proofs.Common.{get_or, map, refl, sym, ap, ◌∙◌, arith, inl, inr, subst}
 use Rattle.std.proofs.Common.{eq-eqb, eqb-true, ne_eqb}
@@ -28,11 +28,11 @@ use Rattle.cqf_worker.specs.Wires.{AreWorkersOf, count_on, ins_at, outs_at}
 use Rattle.cqf_worker.proofs.Apart.{element_at, kept_ins, kept_outs}
 
 module _ {X : Type 0} (p : X → Bool) where
-  -- what an element counts for
+  -- how much one element counts
   abbrev one : X → ℕ
   one x = cond (p x) 1 0
 
-  -- where no element passes, none is counted
+  -- if no element passes, the count is 0
   none_counted : (xs : List X) → ((x : X) → Contains xs x → p x ≡ false) → count_by p xs ≡ 0
   none_counted [] none = refl
   none_counted (x ∷ xs) none =
@@ -41,7 +41,7 @@ module _ {X : Type 0} (p : X → Bool) where
       let rest : count_by p xs ≡ 0 = none_counted xs (λ y later. none y (contains_later x xs y later)) in
       omega (arith, both, first, rest)
 
-  -- one that passes is counted
+  -- an element that passes is counted
   some_counted : (xs : List X) (x : X) → Contains xs x → p x ≡ true → 0 < count_by p xs
   some_counted [] x there passes = absurd (contains_none x there)
   some_counted (y ∷ xs) x there passes =
@@ -55,7 +55,7 @@ module _ {X : Type 0} (p : X → Bool) where
             omega (arith, both, rest)
       ]
 
-  -- where some are counted, one passes
+  -- if the count isn't 0, some element passes
   counted_one : (xs : List X) → 0 < count_by p xs → (x : X) × Contains xs x × (p x ≡ true)
   counted_one [] some =
       let none : count_by p [] ≡ 0 = refl in
@@ -75,14 +75,14 @@ module _ {X : Type 0} (key : X → ℕ) (k : ℕ) where
   abbrev has : X → Bool
   has x = key x == k
 
-  -- where keys ascend, none behind an element that has the key has it
+  -- if keys ascend, no element after one with the key has the key
   later_apart : (x : X) (xs : List X) → AllPairs (λ (a b : ℕ). a < b) (map key (x ∷ xs)) → has x ≡ true → (y : X) → Contains xs y → has y ≡ false
   later_apart x xs ascend t y there =
       let first : key x ≡ k = eqb-true (key x) k t in
       let less : key x < key y = pairs_head (λ (a b : ℕ). a < b) (key x) (map key xs) (key y) ascend (contains_map key xs y there) in
       ne_eqb (key y) k (λ same. (omega (arith, less, same, first)))
 
-  -- so one at most has it
+  -- so at most one has it
   once_counted : (xs : List X) → AllPairs (λ (a b : ℕ). a < b) (map key xs) → count_by has xs ≤ 1
   once_counted [] ascend =
       let none : count_by has [] ≡ 0 = refl in
@@ -101,11 +101,11 @@ module _ {X : Type 0} (key : X → ℕ) (k : ℕ) where
       ]
 
 module _ {W X : Type 0} (f : W → List X) (p : X → Bool) where
-  -- of two lists one has none that passes
+  -- of two lists, one has no element that passes
   abbrev AreApart : W → W → Type 0
   AreApart a b = (count_by p (f a) ≡ 0) ⊎ (count_by p (f b) ≡ 0)
 
-  -- behind a list that has some, none passes
+  -- if a list has one that passes, none of the later lists has
   rest_none : (w : W) (ws : List W) → AllPairs AreApart (w ∷ ws) → 0 < count_by p (f w) → (x : X) → Contains (flat_map f ws) x → p x ≡ false
   rest_none w ws apart some x there =
       let at = contains_from_flat f ws x there in
@@ -118,7 +118,7 @@ module _ {W X : Type 0} (f : W → List X) (p : X → Bool) where
         | inr f ↦ f
       ]
 
-  -- lists end to end, of which each has one at most, and of any two one has none, have one at most
+  -- if each of these lists has at most one, and of any two lists one has none, all of them together have at most one
   flat_once : (ws : List W) → ((w : W) → Contains ws w → count_by p (f w) ≤ 1) → AllPairs AreApart ws → count_by p (flat_map f ws) ≤ 1
   flat_once [] each apart =
       let none : count_by p (flat_map f []) ≡ 0 = refl in
@@ -136,7 +136,7 @@ module _ {W X : Type 0} (f : W → List X) (p : X → Bool) where
             omega (arith, all, rest, none)
       ]
 
--- a node is one bridge at most, and then it is a bridge
+-- a node is at most one bridge, and then it is a bridge
 node_one : (n : Node) (a b : ℕ) → node_is n a ≡ true → node_is n b ≡ true → a ≡ b
 node_one (Bridge c) a b at bt = sym (eqb-true c a at) ∙ eqb-true c b bt
 node_one (Station s) a b at bt = absurd (false≢true at)
@@ -146,7 +146,7 @@ node_bridge (Bridge c) a at = refl
 node_bridge (Station s) a at = absurd (false≢true at)
 
 module _ (d : Domain) (l : ℕ) where
-  -- the link that a number stands for, where it ends in a bridge
+  -- the link of a number, if it ends in a bridge
   pub link_there : (a : ℕ) → enters d l a ≡ true → (link : Link) × (slice_get d.links l ≡ Some link)
   link_there a here = elim (slice_get_cases d.links l).1 [
     | inl w ↦ (w.0, w.2)
@@ -157,13 +157,13 @@ module _ (d : Domain) (l : ℕ) where
   pub ends_there : (link : Link) → slice_get d.links l ≡ Some link → (a : ℕ) → enters d l a ≡ true → node_is link.to a ≡ true
   ends_there link there a here = sym (ap (λ (o : Option Link). option_map_or (λ (link : Link). node_is link.to a) o false) there) ∙ here
 
-  -- a link ends in one bridge alone
+  -- a link ends in one bridge only
   enters_one : (a b : ℕ) → enters d l a ≡ true → enters d l b ≡ true → a ≡ b
   enters_one a b here other =
       let link = link_there a here in
       node_one link.0.to a b (ends_there link.0 link.1 a here) (ends_there link.0 link.1 b other)
 
-  -- and leaves a bridge, for whose worker it is one of those at which it puts
+  -- and leaves a bridge, whose worker puts on it
   has_source : IsAccepted d → (a : ℕ) → enters d l a ≡ true → (b : ℕ) × (b < length d.bridges) × Contains (links_onward d b) l
   has_source accepted a here =
       let link = link_there a here in
@@ -195,14 +195,14 @@ module _ (t : Offering) (cycles : ℕ) (workers dones : List Worker) (of_bridges
     abbrev is_on : StretchPort → Bool
     is_on port = port.link == link
 
-    -- a worker has one taking end of it at most
+    -- a worker has at most one taking end of the link
     one_each : (done : Worker) → Contains dones done → count_by is_on (ins_at done) ≤ 1
     one_each done among =
         let place = place_of_member dones done among in
         once_counted link_of link (ins_at done)
         (subst (AllPairs (λ (a b : ℕ). a < b)) (sym (kept_ins t cycles workers dones of_bridges worked place.0 done place.1)) (links_ascend t.domain place.0))
 
-    -- and none where the link doesn't end in its bridge
+    -- and none if the link doesn't end in its bridge
     none_elsewhere : (place : ℕ) (done : Worker) → slice_get dones place ≡ Some done → (enters t.domain link place ≡ true → ⊥) →
         count_by is_on (ins_at done) ≡ 0
     none_elsewhere place done there other =
@@ -219,7 +219,7 @@ module _ (t : Offering) (cycles : ℕ) (workers dones : List Worker) (of_bridges
           | inr f ↦ inl (none_elsewhere i (get_or dones i d) there_i (λ here. (false≢true (sym f ∙ here))))
         ]
 
-    -- where there is a taking end, there is a putting end
+    -- if there is a taking end, there is a putting end
     some_put : IsAccepted t.domain → 0 < count_on link (flat_map ins_at dones) → 0 < count_on link (flat_map outs_at dones)
     some_put accepted some =
         let port = counted_one is_on (flat_map ins_at dones) some in
@@ -234,7 +234,7 @@ module _ (t : Offering) (cycles : ℕ) (workers dones : List Worker) (of_bridges
         some_counted is_on (flat_map outs_at dones) out.0
         (contains_flat outs_at dones done.0 out.0 (contains_at dones source.0 done.0 done.1) out.1) (eq-eqb out.0.link link (out.2 ∙ same))
 
-  -- so of no link there are fewer putting than taking ends
+  -- so no link has fewer putting than taking ends
   pub none_lacks : IsAccepted t.domain → (link : ℕ) → count_on link (flat_map outs_at dones) < count_on link (flat_map ins_at dones) → ⊥
   none_lacks accepted link less =
       let once : count_on link (flat_map ins_at dones) ≤ 1 = flat_once ins_at (is_on link) dones (one_each link) (are_apart link) in

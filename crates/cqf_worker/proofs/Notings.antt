@@ -31,17 +31,17 @@ use Rattle.cqf_worker.specs.Running.{AnswersWorker, BreaksOff, CallAnswers}
 use Rattle.cqf_worker.specs.Telling.{IsStartFault, MayBeTold}
 use Rattle.cqf_worker.proofs.Zipped.{HasOneMore}
 
--- where something is noted, something has gone wrong
+-- if something is noted, something has gone wrong
 not_clean : (faults : Faults) (cause : Option ConductFault) → IsClean (noted faults cause) → ⊥
 not_clean faults (Some fault) clean = some_none clean.0
   where
-    -- a fault is no none
+    -- a fault isn't None
     some_none : {X : Type 0} → {x : X} → Some x ≡ None → ⊥
     some_none is = absurd cc
 not_clean faults None clean = false≢true (sym clean.1)
 
 module _ {X Y : Type 0} (cause : Y → Option ConductFault) where
-  -- where nothing has gone wrong, one more stands behind the others
+  -- if nothing has gone wrong, one more value is appended
   pub notes_clean : (P : X → Type 0) (before after : Faults) (kept more : List X) (answer : Result X Y) → NotesFault cause before after kept more answer →
       IfOk answer P → IsClean after → IsClean before × HasOneMore P kept more
   notes_clean P before after kept more (Ok given) notes is clean =
@@ -51,7 +51,7 @@ module _ {X Y : Type 0} (cause : Y → Option ConductFault) where
       ]
   notes_clean P before after kept more (Err why) notes is clean = absurd (not_clean before (cause why) (subst IsClean notes.1 clean))
 
-  -- one answer more
+  -- one more answer
   pub notes_more : (before now after : Faults) (first kept more : List X) (answers : List (Result X Y)) (answer : Result X Y) →
       NotesAll cause before now first kept answers → NotesFault cause now after kept more answer →
       NotesAll cause before after first more (answers ++ answer ∷ [])
@@ -65,12 +65,12 @@ module _ {X Y : Type 0} (cause : Y → Option ConductFault) where
   notes_more before now after first kept more (other ∷ answers) answer all one =
       (all.0, all.1, all.2, notes_more all.0 now after all.1 kept more answers answer all.3 one)
 
--- what is noted may be told of the run
+-- what is noted may be reported for the run
 pub record AreTold (cycles : ℕ) (r : ReadyRun) (faults : Faults) : Type 0 where
   pub first : (fault : ConductFault) → faults.first ≡ Some fault → MayBeTold cycles r fault
   pub stopped : faults.is_stopped ≡ true → MayBeTold cycles r conduct.ChannelLost
 
--- a thread's cause may be
+-- the cause of a thread may be
 abbrev pub MayCause : ℕ → ReadyRun → Option ConductFault → Type 0
 MayCause cycles r (Some fault) = MayBeTold cycles r fault
 MayCause cycles r None = MayBeTold cycles r conduct.ChannelLost
@@ -83,11 +83,11 @@ module _ (cycles : ℕ) (r : ReadyRun) where
     stopped = λ is. absurd (false≢true (sym clean.1 ∙ is));
   }
     where
-      -- none is no fault
+      -- None isn't a fault
       none_some : {fault : ConductFault} → None ≡ Some fault → ⊥
       none_some is = absurd cc
 
-  -- of two either may be told
+  -- either of two may be reported
   chosen : (b : Bool) (fault first : ConductFault) → MayBeTold cycles r fault → MayBeTold cycles r first → MayBeTold cycles r (cond b fault first)
   chosen true fault first may told = may
   chosen false fault first may told = told
@@ -106,7 +106,7 @@ module _ (cycles : ℕ) (r : ReadyRun) where
   }
   told_more faults None told may = record { first = told.first; stopped = λ is. may }
 
-  -- what is told is one of them
+  -- what is reported is one of them
   pub is_told : (faults : Faults) (fault : ConductFault) → AreTold cycles r faults → is_noted faults ≡ Some fault → MayBeTold cycles r fault
   is_told faults fault told is = by_first faults.first refl
     where
@@ -115,13 +115,13 @@ module _ (cycles : ℕ) (r : ReadyRun) where
       by_stop true may told = subst (MayBeTold cycles r) (same_Some conduct.ChannelLost fault told) (may refl)
       by_stop false may told = absurd cc
 
-      -- by whether a fault is noted
+      -- whether a fault is noted
       by_first : (first : Option ConductFault) → faults.first ≡ first → MayBeTold cycles r fault
       by_first (Some x) at = told.first fault (at ∙ subst (λ (o : Option ConductFault). told_of o faults.is_stopped ≡ Some fault) at is)
       by_first None at = by_stop faults.is_stopped told.stopped (subst (λ (o : Option ConductFault). told_of o faults.is_stopped ≡ Some fault) at is)
 
   module _ {X Y : Type 0} (cause : Y → Option ConductFault) where
-    -- what an answer changes
+    -- the effect of one answer
     notes_told : (before after : Faults) (kept more : List X) (answer : Result X Y) → NotesFault cause before after kept more answer →
         AreTold cycles r before → ((why : Y) → answer ≡ Err why → MayCause cycles r (cause why)) → AreTold cycles r after
     notes_told before after kept more (Ok given) notes told may =
@@ -132,7 +132,7 @@ module _ (cycles : ℕ) (r : ReadyRun) where
     notes_told before after kept more (Err why) notes told may =
         subst (AreTold cycles r) (sym notes.1) (told_more before (cause why) told (may why refl))
 
-    -- and what several do
+    -- and that of several
     pub all_told : {A : Type 0} (P : A → Result X Y → Type 0) (those : List A) (answers : List (Result X Y)) (before after : Faults) (kept more : List X) →
         All (λ (a : A). (why : Y) → P a (Err why) → MayCause cycles r (cause why)) those → AllZip P those answers →
         NotesAll cause before after kept more answers → AreTold cycles r before → AreTold cycles r after
@@ -145,7 +145,7 @@ module _ (cycles : ℕ) (r : ReadyRun) where
         (notes_told before notes.0 kept notes.1 answer notes.2 told
         (λ why is. All-head (λ (b : A). (why : Y) → P b (Err why) → MayCause cycles r (cause why)) a those may why (subst (P a) is zip.0)))
 
-  -- why a worker gives up may be told
+  -- the reason for which a worker gives up may be reported
   worker_cause : (fault : WorkerFault) → GivesUpFor cycles fault → MayCause cycles r (fault_in_worker fault)
   worker_cause working.Memory gives = gives
   worker_cause working.Stopped gives = gives
@@ -153,7 +153,7 @@ module _ (cycles : ℕ) (r : ReadyRun) where
   pub workers_told : All (λ (w : Worker). (why : GaveUp) → AnswersWorker cycles w (Err why) → MayCause cycles r (fault_of_worker why)) r.workers.items
   workers_told = λ place d within why answer. worker_cause why.fault answer.1.stopped
 
-  -- and an administrator's
+  -- and that of an administrator
   caller_cause : (a : Administrator) (fault : CallFault) → Contains r.administrators.items a → 0 < length a.commands.items →
       MayCause cycles r (fault_in_call fault)
   caller_cause a call.HistoryFull there some = inr (record { administrator = a; there = there; some = some })
@@ -166,26 +166,26 @@ module _ (cycles : ℕ) (r : ReadyRun) where
       (λ a there why answer. caller_cause a why.fault there (omega (arith, answer.1.there))) r.administrators.items
       (All-contains_itself r.administrators.items)
 
-  -- and the conductor's
+  -- and that of the conductor
   conductor_cause : (left : Unsealed) (fault : SealingFault) → left.fault ≡ fault → HasBrokenOff cycles r.conductor r.tables.items left →
       MayCause cycles r (fault_of_conductor fault)
   conductor_cause left sealing.Memory is broken = tt
   conductor_cause left sealing.CyclesSpent is broken = inl (omega (arith, broken.spent is))
   conductor_cause left sealing.Lost is broken = some_lacks left.conductor.tables.items (broken.lost is).1
     where
-      -- an end that lacks an item lacks one of some
+      -- an end that lacks an item lacks one of a positive number
       some_lacks : (ends : List TableEnd) → LacksOne ends cycles → 0 < cycles
       some_lacks [] lacks = absurd (omega (arith, lacks.1))
       some_lacks (end ∷ ends) lacks = omega (arith, lacks.2 end)
 
-  -- all that is noted in the end, with what the conductor has
+  -- everything that is noted in the end, with the conductor's result
   pub told_with : (faults : Faults) (sealed : Result Sealed SealingFault) → AreTold cycles r faults →
       IfErr sealed (BreaksOff cycles r.conductor r.tables.items) →
       AreTold cycles r (noted_with faults sealed)
   told_with faults (Ok done) told why = told
   told_with faults (Err fault) told why = told_more faults (fault_of_conductor fault) told (conductor_cause why.0 fault why.1 why.2)
 
-  -- why not all threads were started
+  -- why not all threads could be started
   pub start_told : (fault : ConductFault) → IsStartFault fault → MayBeTold cycles r fault
   start_told conduct.Memory is = tt
   start_told (conduct.Bridge bridge reason) is = absurd is

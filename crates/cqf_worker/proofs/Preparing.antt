@@ -14,16 +14,16 @@ use Rattle.cqf_worker.specs.Closing.{reel_at}
 use Rattle.cqf_worker.specs.Conducting.{IsDeskFault, IsPipeFault, IsSettleFault, IsSettled, all_seats}
 use Rattle.cqf_worker.specs.Wires.{AreFedByWires, AreGiven}
 
--- what holds of a fault holds of the answer that hands it on
+-- what holds of a fault holds of the result that returns it
 pub passed_on : {V F : Type 0} (result : Result V F) (fault : F) (P : F → Type 0) → IsErrAnd result (λ e. e ≡ fault) → P fault → IfErr result P
 passed_on (Ok v) fault P passed h = absurd passed
 passed_on (Err e) fault P passed h = subst P (sym passed) h
 
--- a desk of an administration with so many seats and one more
+-- a desk of an administration with this many seats and one more
 abbrev desk_of : Administration → ℕ → Counter
 desk_of opening count = record { opening = opening; seats = count + 1 }
 
--- it is that of the domain that the administration is for
+-- the desk is that of the domain for which the administration is
 pub desk_is : (desk : Counter) (opening : Administration) (d : Domain) (many count : ℕ) → desk ≡ desk_of opening many → opening.domain ≡ d → many ≡ count →
     desk ≡ record { opening = record { domain = d; entries = opening.entries }; seats = count + 1 }
 desk_is desk opening d many count is domain same =
@@ -31,7 +31,7 @@ desk_is desk opening d many count is domain same =
     ∙ ap (λ (e : Domain). desk_of (record { domain = e; entries = opening.entries }) many) domain
     ∙ ap (λ (n : ℕ). desk_of (record { domain = d; entries = opening.entries }) n) same
 
--- what the closed desk and the gathered tapes give is the account of the run's seats and reels
+-- the closed desk and the gathered tapes give the account of the run's seats and reels
 pub settled_so : (d : Domain) (desk : Counter) (e : EndedRun) (seats : List Sitting) (reels : List Reel) (account : TapedAccount) →
     AreFedByWires e.workers.items → AreGiven e.sealed.tables.items e.workers.items → seats ≡ all_seats e → reels ≡ map reel_at e.workers.items →
     IsClosed desk seats account.history → AreGatheredFrom d reels account.tapes → IsSettled d desk e account
@@ -43,14 +43,14 @@ settled_so d desk e seats reels account fed given all own closed gathered = reco
 }
 
 module _ (desk : Counter) (e : EndedRun) where
-  -- why pipes aren't closed is told of the run
+  -- the reason why pipes aren't closed is reported for the run
   pub told_of_pipes : (fault : ConductFault) → IsPipeFault e.workers.items fault → IsSettleFault desk e fault
   told_of_pipes fault why = elim why [
     | inl memory ↦ subst (IsSettleFault desk e) (sym memory) tt
     | inr lost ↦ subst (IsSettleFault desk e) (sym lost.0) lost.1
   ]
 
-  -- and so is why its desk isn't
+  -- and so is the reason why its desk isn't closed
   pub told_of_desk : (seats : List Sitting) (fault : ConductFault) → seats ≡ all_seats e → IsDeskFault desk seats fault → IsSettleFault desk e fault
   told_of_desk seats fault all why = elim (subst (λ (ss : List Sitting). IsDeskFault desk ss fault) all why) [
     | inl memory ↦ subst (IsSettleFault desk e) (sym memory) tt

@@ -1,4 +1,4 @@
--- The seats of a run: an administrator has the one of its number, and the conductor the next.
+-- The seats of a run: each administrator has the seat of its number, and the conductor the next one.
 use Rattle.std.proofs.Common.{ℕ, zero, suc, ◌≡◌, ◌+◌, ◌<◌, ◌∷◌, ◌++◌, [], List, Contains, Some, length, length-append}
 use Rattle.std.proofs.Common.{get_or, take, map, refl, sym, ap, subst, ◌∙◌, append-nil, arith, inl, inr, add-one}
 use Rattle.std.specs.Prelude.{false, option_map, slice_get}
@@ -28,11 +28,11 @@ use Rattle.cqf_worker.specs.Running.{CallsOf}
 abbrev pub fresh_seat : ℕ → Sitting
 fresh_seat number = record { number = number; calls = []; tables = [] }
 
--- so many seats
+-- this many seats
 pub seats_count : (count : ℕ) → length (fresh_seats count) ≡ count
 seats_count count = length-singles fresh_seat count
 
--- a seat behind others has their number, and is one of so many
+-- a seat after others has their number, and is one of these seats
 pub next_seat : (count : ℕ) (before rest : List Sitting) (seat : Sitting) → before ++ seat ∷ rest ≡ fresh_seats count →
     (seat ≡ fresh_seat (length before)) × (length before < count)
 next_seat count before rest seat is =
@@ -43,7 +43,7 @@ next_seat count before rest seat is =
       below,
     )
 
--- the seats before the last of so many
+-- the seats before the last one
 pub seats_before : (count : ℕ) (before rest : List Sitting) (seat : Sitting) → length before ≡ count → before ++ seat ∷ rest ≡ fresh_seats (count + 1) →
     before ≡ fresh_seats count
 seats_before count before rest seat long is =
@@ -53,7 +53,7 @@ seats_before count before rest seat long is =
     ∙ ap (λ (n : ℕ). take n (fresh_seats count ++ fresh_seat count ∷ [])) (sym (seats_count count))
     ∙ take-append_seam (fresh_seats count) (fresh_seat count ∷ [])
 
--- while some are still to be seated, there is one seat more than those
+-- while some administrators are still to be seated, there is one more seat than these
 pub seats_left : {X : Type 0} (f : X → List Command) (administrators : List Administrator) (left seats : List Sitting) (yielded rest all : List X) →
     map seat_of administrators ++ left ≡ seats → seats ≡ fresh_seats (length all + 1) → map commands_of administrators ≡ map f yielded →
     yielded ++ rest ≡ all → length left ≡ length rest + 1
@@ -72,7 +72,7 @@ seats_left f administrators left seats yielded rest all so fresh commands given 
       length-append yielded rest,
     )
 
--- once all have a seat, the next one is the conductor's
+-- once all have a seat, the next seat is the conductor's
 pub all_seated : {X : Type 0} (f : X → List Command) (administrators : List Administrator) (left seats more : List Sitting) (yielded rest all : List X)
     (conductor : Sitting) → map seat_of administrators ++ left ≡ seats → seats ≡ fresh_seats (length all + 1) →
     map commands_of administrators ≡ map f yielded → yielded ++ rest ≡ all → length rest ≡ 0 → left ≡ conductor ∷ more →
@@ -93,7 +93,7 @@ all_seated f administrators left seats more yielded rest all conductor so fresh 
       next = (next_seat (length (map f all) + 1) (map seat_of administrators) more conductor in_order).0 ∙ ap fresh_seat many;
     }
 
--- what stands at the same place of two lists, of which something holds place by place
+-- if two lists are related index by index, there is an element of the second at each index of the first
 zipped_at : {A B : Type 0} (R : A → B → Type 0) (xs : List A) (ys : List B) (k : ℕ) (x : A) → AllZip R xs ys → slice_get xs k ≡ Some x →
     (y : B) × (slice_get ys k ≡ Some y) × R x y
 zipped_at R [] [] k x all there = absurd cc
@@ -102,27 +102,27 @@ zipped_at R (z ∷ xs) [] k x all there = absurd all
 zipped_at R (z ∷ xs) (y ∷ ys) zero x all there = (y, refl, subst (λ w. R w y) (same_Some z x there) all.0)
 zipped_at R (z ∷ xs) (y ∷ ys) (suc k) x all there = zipped_at R xs ys k x all.1 there
 
--- no command calls for a Seal
+-- no command requests a Seal
 never_seal : (c : Command) → is_seal (act_of_command c) ≡ false
 never_seal (Admit request) = refl
 never_seal (AdmitPaced request) = refl
 never_seal (Withdraw name) = refl
 
--- so no administrator asks for one
+-- so no administrator requests one
 pub asks_no_seal : (admins : List (List Command)) → AsksForNoSeal (all_asked admins)
 asks_no_seal admins acts act among this =
     let of_admin = contains_from_map acts_asked admins acts among in
     let of_command = contains_from_map act_of_command of_admin.0 act (subst (λ (xs : List Act). Contains xs act) (sym of_admin.2) this) in
     subst (λ (a : Act). is_seal a ≡ false) of_command.2 (never_seal of_command.0)
 
--- as much is asked of as there are administrators
+-- there are as many lists of requests as administrators
 pub asked_count : (admins : List (List Command)) → length (all_asked admins) ≡ length admins
 asked_count admins = length-map admins acts_asked
 
 module _ (admins : List (List Command)) (administrators : List Administrator) (conductor : Sitting) (seats : List Sitting) (done : Sitting) (cycles : ℕ)
     (before after : List TableEnd) (seated : AreSeatedFor admins administrators conductor) (called : AllZip CallsOf administrators seats)
     (sealed : HasSealed cycles conductor done before after) where
-  -- the administrator at a place has the seat of that number
+  -- the administrator at an index has the seat of that number
   number_at : (place : ℕ) (a : Administrator) → slice_get administrators place ≡ Some a → a.seat.number ≡ place
   number_at place a there =
       let at : slice_get (fresh_seats (length admins)) place ≡ Some a.seat =
@@ -132,7 +132,7 @@ module _ (admins : List (List Command)) (administrators : List Administrator) (c
       ap (λ (s : Sitting). s.number)
       (sym (get_or_from_slice_get (fresh_seats (length admins)) place a.seat a.seat at) ∙ get_or-singles fresh_seat (length admins) place a.seat below)
 
-  -- what is asked at a place is what its administrator's commands call for
+  -- the requests at an index are those of its administrator's commands
   asked_at : (place : ℕ) (acts : List Act) (a : Administrator) → slice_get (all_asked admins) place ≡ Some acts →
       slice_get administrators place ≡ Some a → acts_asked (commands_of a) ≡ acts
   asked_at place acts a asked there =
@@ -142,11 +142,11 @@ module _ (admins : List (List Command)) (administrators : List Administrator) (c
       ∙ ap (option_map commands_of) there in
       same_Some (acts_asked (commands_of a)) acts (sym (slice_get-map acts_asked admins place ∙ ap (option_map acts_asked) commands) ∙ asked)
 
-  -- as many are asked as there are administrators
+  -- there are as many lists of requests as administrators
   as_many : length administrators ≡ length (all_asked admins)
   as_many = sym (length-map administrators commands_of) ∙ ap length seated.commands ∙ sym (asked_count admins)
 
-  -- each administrator's seat has called for what was asked of it
+  -- each administrator's seat has made the calls requested of it
   calls_at : (admin : ℕ) (acts : List Act) → slice_get (all_asked admins) admin ≡ Some acts →
       (s : Sitting) × Contains (seats ++ done ∷ []) s × (s.number ≡ admin) × (acts_of s.calls ≡ acts)
   calls_at admin acts asked =
@@ -161,7 +161,7 @@ module _ (admins : List (List Command)) (administrators : List Administrator) (c
         | inr past ↦ absurd (omega (arith, past.0, as_many, slice_get_within (all_asked admins) admin acts asked))
       ]
 
-  -- so the seats are seated in the end, and the sealing one is the conductor's
+  -- so in the end the seats are seated, and the sealing one is the conductor's
   pub are_seated : (s : AreSeated (all_asked admins) cycles (seats ++ done ∷ [])) × (s.conductor ≡ done)
   are_seated = (
     record {

@@ -1,4 +1,4 @@
--- Stretches one behind the other, of which a beginning was taken.
+-- Consecutive stretches; a prefix of them was taken.
 use Rattle.std.proofs.Common.{ℕ, ◌≡◌, ◌<◌, ◌≤◌, ◌==◌, ◌∷◌, ◌++◌, [], List, All, AllPairs, Contains, length, map, refl, sym, ap, ◌∙◌}
 use Rattle.std.proofs.Common.{append-nil, arith, inl, inr, subst, eq-eqb, ne_eqb}
 use Rattle.std.proofs.lemmas.Bool.{cases_Bool, cond-false, cond-true}
@@ -18,42 +18,42 @@ use Rattle.cqf_worker.specs.Wires.{IsBeginning}
 pub of_member : {X : Type 0} (P : X → Type 0) (xs : List X) (x : X) → All P xs → Contains xs x → P x
 of_member P xs x all there = subst P there.2 (all there.0 x there.1)
 
--- items that were put one by one are the items
+-- items that were put one by one are these items
 pub items_all : {T : Type 0} (xs : List T) → items_in (map Item xs) ≡ xs
 items_all [] = refl
 items_all {T} (x ∷ xs) = ap (λ (ys : List T). x ∷ ys) (items_all xs)
 
--- the items of a beginning are a beginning of the items
+-- the items of a prefix are a prefix of the items
 pub items_begin : {T : Type 0} (taken put : List (Carried T)) → IsBeginning taken put → IsBeginning (items_in taken) (items_in put)
 items_begin taken put begin = (items_in begin.0, ap items_in begin.1 ∙ flat_map-append item_in taken begin.0)
 
--- a beginning that is as long as the whole is the whole
+-- a prefix of the same length is the whole
 pub begins_whole : {X : Type 0} (whole begin rest : List X) → whole ≡ begin ++ rest → length begin ≡ length whole → begin ≡ whole
 begins_whole {X} whole begin rest parts long =
     let none : rest ≡ [] = nil_from_length rest (omega (arith, ap length parts, length-append begin rest, long)) in
     sym (append-nil begin) ∙ ap (λ (xs : List X). begin ++ xs) (sym none) ∙ sym parts
 
--- the first of stretches that come next come next
+-- the first of consecutive stretches are consecutive
 pub next_begin : (begin : ℕ) (some rest : List Stretch) → AreNextStretches begin (some ++ rest) → AreNextStretches begin some
 next_begin begin [] rest next = tt
 next_begin begin (stretch ∷ some) rest next = (next.0, next_begin stretch.upto some rest next.1)
 
--- and the others come behind them
+-- and the others follow them
 next_behind : (begin : ℕ) (some rest : List Stretch) → AreNextStretches begin (some ++ rest) → AreNextStretches (end_of_stretches begin some) rest
 next_behind begin [] rest next = next
 next_behind begin (stretch ∷ some) rest next = next_behind stretch.upto some rest next.1
 
--- up to where they do
+-- they end where the first ones end
 end_behind : (begin : ℕ) (some rest : List Stretch) → end_of_stretches begin (some ++ rest) ≡ end_of_stretches (end_of_stretches begin some) rest
 end_behind begin [] rest = refl
 end_behind begin (stretch ∷ some) rest = end_behind stretch.upto some rest
 
--- stretches end nowhere before they begin
+-- stretches don't end before they begin
 end_least : (begin : ℕ) (stretches : List Stretch) → AreNextStretches begin stretches → begin ≤ end_of_stretches begin stretches
 end_least begin [] next = omega arith
 end_least begin (stretch ∷ stretches) next = omega (arith, next.0.behind, end_least stretch.upto stretches next.1)
 
--- those that end where they begin have no frames
+-- stretches that end where they begin have no frames
 none_between : (begin : ℕ) (stretches : List Stretch) → AreNextStretches begin stretches → end_of_stretches begin stretches ≤ begin → all_frames stretches ≡ []
 none_between begin [] next ends = refl
 none_between begin (stretch ∷ stretches) next ends =
@@ -71,7 +71,7 @@ none_between begin (stretch ∷ stretches) next ends =
         absurd (omega (arith, first.0, first.1, ends, end_least stretch.upto stretches next.1))
 
 module _ (cycles : ℕ) (taken put : List Stretch) (begin : IsBeginning taken put) (next : AreNextStretches 0 put) (ends : end_of_stretches 0 put ≡ cycles) where
-  -- what was taken of stretches that end at a cycle ends there at most
+  -- what was taken of stretches that end at a cycle ends at that cycle or before
   rest_next : AreNextStretches (end_of_stretches 0 taken) begin.0
   rest_next = next_behind 0 taken begin.0 (subst (AreNextStretches 0) begin.1 next)
 
@@ -83,7 +83,7 @@ module _ (cycles : ℕ) (taken put : List Stretch) (begin : IsBeginning taken pu
       let least : end_of_stretches 0 taken ≤ end_of_stretches (end_of_stretches 0 taken) begin.0 = end_least (end_of_stretches 0 taken) begin.0 rest_next in
       omega (arith, least, both_end)
 
-  -- and where it comes as far, it has all frames
+  -- and if it ends there, it has all frames
   pub has_all_frames : cycles ≤ end_of_stretches 0 taken → all_frames taken ≡ all_frames put
   has_all_frames far =
       let none : all_frames begin.0 ≡ [] = none_between (end_of_stretches 0 taken) begin.0 rest_next (omega (arith, far, both_end)) in
@@ -92,7 +92,7 @@ module _ (cycles : ℕ) (taken put : List Stretch) (begin : IsBeginning taken pu
       ∙ sym (flat_map-append frames_of taken begin.0)
       ∙ ap all_frames (sym begin.1)
 
--- where links stand once, what went by a port's link went through the port
+-- if each link occurs once, what went by a port's link went through the port
 pub stretches_there : (ports : List StretchPort) (p : StretchPort) → AllPairs (λ (a b : ℕ). a < b) (map link_of ports) → Contains ports p →
     stretches_at ports p.link ≡ stretches_in p
 stretches_there [] p ascend held = absurd (contains_none p held)
@@ -111,7 +111,7 @@ stretches_there (port ∷ ports) p ascend held =
     apart later same =
         omega (arith, same, pairs_head (λ (a b : ℕ). a < b) port.link (map link_of ports) p.link ascend (contains_map link_of ports p later))
 
--- where the stretches of each port come next, so do those of each link
+-- if the stretches of each port are consecutive, so are those of each link
 pub next_by_links : (ports : List StretchPort) → ((p : StretchPort) → Contains ports p → AreNextStretches 0 (stretches_in p)) → (l : ℕ) →
     AreNextStretches 0 (stretches_at ports l)
 next_by_links [] each l = tt

@@ -1,4 +1,4 @@
--- From the reels of workers that are done to the tapes of the one-thread book.
+-- From the reels of workers that are done to the tapes of the single-threaded book.
 use Rattle.std.proofs.Common.{ℕ, ◌≡◌, ◌*◌, ◌^◌, ◌<◌, ◌≤◌, List, [], length, map, sym, ap, ◌∙◌, arith, subst, refl}
 use Rattle.std.proofs.lemmas.List.{length-map}
 use Rattle.std.proofs.lemmas.Nat.{mul-le}
@@ -39,7 +39,7 @@ use Rattle.cqf_worker.specs.Closing.{reel_at}
 use Rattle.cqf_worker.proofs.Apart.{element_at}
 use Rattle.cqf_worker.proofs.Come.{HaveRun, all_sends, as_many, gone_at, its_run, offers_are, own_sends, sent_all, sent_by, tables_are, tables_count}
 
--- so many cycles end early
+-- a run within the limits of cycles and cycle time ends before 2^62 ns
 early_end : (cycles cycle_time : ℕ) → cycles ≤ 100000 → cycle_time ≤ 10000000 → cycles * cycle_time < 2 ^ 62
 early_end cycles cycle_time short less =
     let most : cycles * cycle_time ≤ 100000 * 10000000 = mul-le cycles cycle_time 100000 10000000 short less in
@@ -60,7 +60,7 @@ module _ (t : Offering) (entries : List Recorded) (cycles : ℕ) (workers dones 
     all : HasSentAll t place cycles done
     all = sent_all t entries cycles workers dones ends run place done there
 
-    -- what it dropped of a cycle is what wasn't covered of the run's offers
+    -- what the bridge dropped of a cycle are the run's offers that weren't covered
     are_drops_so : (cycle : ℕ) → cycle < cycles → IsPermutation (dropped_behind t.domain place cycle
         (table_of (tables_of t.domain entries cycles) cycle) [] (offered_for t.domain t.offers place cycle)) (all.drops.fresh cycle)
     are_drops_so cycle within =
@@ -72,7 +72,7 @@ module _ (t : Offering) (entries : List Recorded) (cycles : ℕ) (workers dones 
         (tables_are t entries cycles workers dones ends run place done there)
         (all.drops.each cycle within))
 
-    -- what a worker's links have sent, and what it dropped, stands on its reel
+    -- what a worker's links have sent, and what it dropped, is on its reel
     taped_there : HasTaped the_run the_sends place done.reel
     taped_there = record {
       links = (gone_at t entries cycles workers dones ends run place done there).links;
@@ -86,7 +86,7 @@ module _ (t : Offering) (entries : List Recorded) (cycles : ℕ) (workers dones 
       by_frame = λ cycle within. all.drops.by_frame cycle (omega (arith, within, count));
     }
 
-  -- so have all reels
+  -- and so it is on all reels
   pub have_taped : HaveTaped the_run the_sends (map reel_at dones)
   have_taped = record {
     many = length-map dones reel_at ∙ as_many t entries cycles workers dones ends run;
@@ -118,7 +118,7 @@ module _ (d : Domain) (entries : List Recorded) (offers : List Offer) (backgroun
       )
 
   module _ (net : Network) (legal : IsLegalRun run_of_it net) (before : Tapes) (streams : HaveTheStreams run_of_it net before) where
-    -- tapes that have its streams' frames are those of a taped run
+    -- tapes with the frames of its streams are those of a taped run
     pub is_taped : cycles ≤ 100000 → IsTapedRun d (cycles * d.cycle_time) background before.links.items run_of_it net
     is_taped short = record {
       legal = legal;
@@ -133,7 +133,7 @@ module _ (d : Domain) (entries : List Recorded) (offers : List Offer) (backgroun
     pub some_taped : cycles ≤ 100000 → SomeTapedRun d (cycles * d.cycle_time) background before.links.items
     some_taped short = record { run = run_of_it; net = net; is = is_taped short }
 
-    -- and with its background frames they are those of the one-thread book of the history
+    -- and with its background frames they are those of the single-threaded book of the history
     pub book_on_tapes : cycles ≤ 100000 → BackedTapesAreTheBooks → cycles ≤ seals entries → (after : Tapes) → after.drops ≡ before.drops →
         BacksTheTapes d (cycles * d.cycle_time) background before.links.items after.links.items →
         (book : Contents) × HasTheTapes d entries offers background cycles after book

@@ -1,4 +1,4 @@
--- From a fault that is told to its cause.
+-- From a fault that is reported to its cause.
 use Rattle.std.proofs.Common.{ℕ, ◌<◌, List, Contains, inl, inr, length, map, subst}
 use Rattle.cqf_lists.proofs.Members.{contains_map}
 use Rattle.cqf_model.specs.declared.frames.Background.{Background}
@@ -31,11 +31,11 @@ module _ (d : Domain) (opening : List Recorded) (offers : List Offer) (backgroun
   told_before conduct.Spawn is = tt
 
   module _ (p : PreparedRun) (is : IsPrepared d opening offers cycles admins p) where
-    -- an administrator with commands is one of those that were asked
+    -- an administrator with commands is one of those with requests
     calls_somewhere : (commands : List Command) → Contains (map commands_of p.ready.administrators.items) commands → 0 < length commands → SomeCall admins
     calls_somewhere commands there some = (commands, subst (λ (all : List (List Command)). Contains all commands) is.seated.commands there, some)
 
-    -- what its threads tell
+    -- the fault that its threads report
     pub told_of_threads : (fault : ConductFault) → MayBeTold cycles p.ready fault → IsConductFault d opening offers background cycles admins fault
     told_of_threads conduct.Memory may = tt
     told_of_threads (conduct.Bridge bridge reason) may = absurd may
@@ -50,7 +50,7 @@ module _ (d : Domain) (opening : List Recorded) (offers : List Offer) (backgroun
     told_of_threads conduct.Spawn may = tt
 
     module _ (e : EndedRun) (ended : IsEnded cycles p.ready e) where
-      -- why it isn't closed
+      -- why it can't be closed
       pub told_in_the_end : IsAccepted d → (fault : ConductFault) → IsSettleFault p.desk e fault →
           IsConductFault d opening offers background cycles admins fault
       told_in_the_end accepted conduct.Memory why = tt

@@ -41,7 +41,7 @@ partners_pipe wiring ins outs left before rest p end is on_ins on_outs were part
     ap (λ (e : End (Carried Stretch)). e.pipe) (sym partner.is_end)
     ∙ of_one_pipe wiring partner.out p (on_outs partner.out (were partner.out partner.there)) (on_ins p there) partner.of_link
 
--- the first end of a link is one of those that were there
+-- the first end of a link is one of the ends given
 pub partner_found : (outs : List StretchPort) (link place : ℕ) (found : StretchPort) → position (λ (out : StretchPort). out.link == link) outs ≡ Some place →
     found ≡ get_or outs place found → IsPartner outs link found.pipe
 partner_found outs link place found at is =
@@ -53,7 +53,7 @@ partner_found outs link place found at is =
       is_end = refl;
     }
 
--- a port more that is fed, by an end that was among the others
+-- one more port is fed, by an end among the others
 pub fed_more : (outs left ins : List StretchPort) (p : StretchPort) (end : End (Carried Stretch)) (count : ℕ) →
     ((out : StretchPort) → Contains left out → Contains outs out) → IsPartner left p.link end → AreLeft end.items p.pipe.items count →
     AreFedBy outs ins → AreFedBy outs (ins ++ p ∷ [])
@@ -74,14 +74,14 @@ all_fed workers parts so fed w p of_workers there =
     let from = contains_from_flat outs_at workers f.out (subst (λ (ps : List StretchPort). Contains ps f.out) so.all_outs f.there) in
     record { from = from.0; out = f.out; of_workers = from.1; at_worker = from.2; same_link = f.of_link; beginning = f.beginning }
 
--- the tables of all workers are what was put for them
+-- the tables that all workers took are those put for them
 pub all_given : (tables : List (End (Carried CycleTable))) (workers : List Worker) (parts : Parts) → ArePartsOf workers parts →
     AreGivenBy tables parts.tables.items → AreGiven tables workers
 all_given tables workers parts so given place end w put here =
     given place end w.tables put
     (ap (λ (xs : List (End (Carried CycleTable))). slice_get xs place) so.all_tables ∙ slice_get-map tables_at workers place ∙ ap (option_map tables_at) here)
 
--- table by table the ends are of one pipe
+-- index by index the ends for tables are of one pipe
 pub same_pipes : (tables : List (End (Carried CycleTable))) (workers : List Worker) (parts : Parts) → ArePartsOf workers parts →
     map pipe_of_tables tables ≡ map tables_pipe workers → map pipe_of_tables tables ≡ map pipe_of_tables parts.tables.items
 same_pipes tables workers parts so same = same ∙ sym (ap (map pipe_of_tables) so.all_tables ∙ map-map pipe_of_tables tables_at workers)
@@ -91,7 +91,7 @@ one_at : {X : Type 0} (x a : X) (k : ℕ) → slice_get (x ∷ []) k ≡ Some a 
 one_at x a zero e = (refl, same_Some x a e)
 one_at x a (suc k) e = absurd cc
 
--- tables of one worker more
+-- the tables of one more worker
 pub given_more : (puts takes : List (End (Carried CycleTable))) (putting taking : End (Carried CycleTable)) (count : ℕ) → length takes ≡ length puts →
     AreGivenBy puts takes → AreLeft putting.items taking.items count → AreGivenBy (puts ++ putting ∷ []) (takes ++ taking ∷ [])
 given_more puts takes putting taking count as_many so closed place a b at_a at_b =
@@ -104,7 +104,7 @@ given_more puts takes putting taking count as_many so closed place a b at_a at_b
           (closed.0, ap (λ (e : End (Carried CycleTable)). e.items) (sym one.1) ∙ closed.1 ∙ ap (λ (e : End (Carried CycleTable)). e.items ++ closed.0) taken)
     ]
 
--- the ends at the next place are of one pipe
+-- the ends at the next index are of one pipe
 pub next_pair : (ins outs puts takes rest others : List (End (Carried CycleTable))) (putting taking : End (Carried CycleTable)) →
     puts ++ putting ∷ rest ≡ ins → outs ≡ takes ++ taking ∷ others → length takes ≡ length puts →
     map pipe_of_tables ins ≡ map pipe_of_tables outs → putting.pipe ≡ taking.pipe
@@ -120,7 +120,7 @@ next_pair ins outs puts takes rest others putting taking is_ins is_outs as_many 
     ∙ slice_get-map pipe_of_tables outs k
     ∙ ap (option_map pipe_of_tables) right)
 
--- where no element passes a test, none is counted
+-- if no element passes a test, the count is 0
 none_counted : {X : Type 0} (p : X → Bool) (xs : List X) → length xs ≤ position_or_len p xs → count_by p xs ≡ 0
 none_counted {X} p [] far = refl
 none_counted {X} p (x ∷ xs) far = elim (cases_Bool (p x)) [
@@ -136,7 +136,7 @@ none_counted {X} p (x ∷ xs) far = elim (cases_Bool (p x)) [
       omega (arith, both, first, rest)
 ]
 
--- so it is where there is no place of one
+-- so it is if no index is found
 pub no_place : {X : Type 0} (p : X → Bool) (xs : List X) → position p xs ≡ None → count_by p xs ≡ 0
 no_place p xs none = elim (cases_lt (position_or_len p xs) (length xs)) [
   | inl less ↦
@@ -149,7 +149,7 @@ no_place p xs none = elim (cases_lt (position_or_len p xs) (length xs)) [
     never : (k : ℕ) → Some k ≡ None → ⊥
     never k e = absurd cc
 
--- one end less of its link
+-- one end of its link fewer
 pub one_lost : (outs after : List StretchPort) (link place : ℕ) (d : StretchPort) → position (λ (out : StretchPort). out.link == link) outs ≡ Some place →
     after ≡ remove outs place → HasLostOne link outs after
 one_lost outs after link place d at is other =
@@ -160,7 +160,7 @@ one_lost outs after link place d at is other =
     ∙ ap (λ n. count_on other (remove outs place) + n) gone
     ∙ ap (λ (ps : List StretchPort). count_on other ps + (if link == other then 1 else 0)) (sym is)
 
--- the ends that are left and the ports that are fed are as many as the ends that were there
+-- for each link, the ends that are left and the ports that are fed are as many as the ends given
 pub counted_more : (outs left after ins : List StretchPort) (p : StretchPort) → ((link : ℕ) → count_on link outs ≡ count_on link left + count_on link ins) →
     HasLostOne p.link left after → (link : ℕ) → count_on link outs ≡ count_on link after + count_on link (ins ++ p ∷ [])
 counted_more outs left after ins p so lost link =
@@ -169,7 +169,7 @@ counted_more outs left after ins p so lost link =
     let more : count_on link (ins ++ p ∷ []) ≡ count_on link ins + count_on link (p ∷ []) = sum_by-append f ins (p ∷ []) in
     omega (arith, so link, lost link, one, more)
 
--- where none is left for a port, its link lacks an end
+-- if none is left for a port, its link lacks an end
 pub end_lacks : (outs left ins before rest : List StretchPort) (p : StretchPort) → before ++ p ∷ rest ≡ ins →
     ((link : ℕ) → count_on link outs ≡ count_on link left + count_on link before) → count_on p.link left ≡ 0 → LackEnds ins outs
 end_lacks outs left ins before rest p is so none =

@@ -1,4 +1,4 @@
--- Pipes are laid to workers, link by link.
+-- Pipes are laid between workers, link by link.
 use Rattle.std.proofs.Common.{ℕ, suc, ◌≡◌, ◌≢◌, ◌<◌, ◌++◌, ◌∷◌, [], List, Contains, Some, None, length}
 use Rattle.std.proofs.Common.{length-append, map, get_or, set, filter, sym, ap, subst, ◌∙◌, arith, refl, inl, inr}
 use Rattle.std.proofs.Common.{append-nil, add-one, eq-eqb, ne_eqb}
@@ -29,7 +29,7 @@ use Rattle.cqf_worker_loops.specs.PipeEnds.{End, PipeId}
 use Rattle.cqf_worker.specs.Wires.{AreOn, AreWired, AreWorkersOf, IsOn, Wiring, pipe_of_tables, tables_pipe}
 use Rattle.cqf_worker_loops.specs.Workers.{IsUnused, IsWorkerOf, MayWork, Offering, StretchPort, link_of}
 
--- a fact of each element and its place
+-- a fact about each element and its index
 abbrev pub EachAt : {X : Type 0} → (ℕ → X → Type 0) → List X → Type 0
 EachAt {X} P xs = (n : ℕ) (d : X) → n < length xs → P n (get_or xs n d)
 
@@ -47,7 +47,7 @@ each_push P xs y place at so mine n d below = elim (cases_lt n (length xs)) [
     get_or_behind [] y d = refl
     get_or_behind (x ∷ xs) y d = get_or_behind xs y d
 
--- it goes over into another, once one element is changed
+-- it becomes another fact once one element is changed
 pub each_set : {X : Type 0} (P Q : ℕ → X → Type 0) (xs : List X) (place : ℕ) (y : X) → ((n : ℕ) (x : X) → n ≢ place → P n x → Q n x) → Q place y →
     EachAt P xs → EachAt Q (set xs place y)
 each_set {X} P Q xs place y others mine so n d below =
@@ -59,20 +59,20 @@ each_set {X} P Q xs place y others mine so n d below =
       | inr differ ↦ subst (Q n) (sym (get_or-set_other xs place n y d differ)) (others n (get_or xs n d) differ (so n d inside))
     ]
 
--- the links below a number that are listed are below it
+-- the listed links are below the bound
 into_below : (d : Domain) (bridge count l : ℕ) → Contains (first_into d bridge count) l → l < count
 into_below d bridge count l c =
     let w = contains_from_below (λ k. if enters d k bridge then k ∷ [] else []) count l c in
     subst (λ k. k < count) (contains_one w.0 l (contains_if_there (enters d w.0 bridge) (w.0 ∷ []) l w.2).1) w.1
 
--- the links that go on to a bridge are below the count
+-- the links onward to a bridge are below the count
 onward_below : (d : Domain) (bridge count l : ℕ) → Contains (first_onward d bridge count) l → l < count
 onward_below d bridge count l c =
     let below = contains_from_filter (is_onward d) (each_below (λ k. if leaves d k bridge then k ∷ [] else []) count) l c in
     let w = contains_from_below (λ k. if leaves d k bridge then k ∷ [] else []) count l below.0 in
     subst (λ k. k < count) (contains_one w.0 l (contains_if_there (leaves d w.0 bridge) (w.0 ∷ []) l w.2).1) w.1
 
--- one link more is listed, or isn't
+-- one more link is listed, or isn't
 into_more : (d : Domain) (bridge link : ℕ) → enters d link bridge ≡ true → first_into d bridge (suc link) ≡ first_into d bridge link ++ link ∷ []
 into_more d bridge link ends = ap (λ ls. first_into d bridge link ++ ls) (cond-true (enters d link bridge) (link ∷ []) [] ends)
 
@@ -81,7 +81,7 @@ into_same : (d : Domain) (bridge link : ℕ) → enters d link bridge ≡ false 
 into_same d bridge link none =
     ap (λ ls. first_into d bridge link ++ ls) (cond-false (enters d link bridge) (link ∷ []) [] none) ∙ append-nil (first_into d bridge link)
 
--- a link from the bridge to another is one more that goes on
+-- a link from this bridge to another is one more onward
 onward_more : (d : Domain) (bridge link : ℕ) → leaves d link bridge ≡ true → is_onward d link ≡ true →
     first_onward d bridge (suc link) ≡ first_onward d bridge link ++ link ∷ []
 onward_more d bridge link begins ends =
@@ -107,12 +107,12 @@ onward_ended d bridge link none =
     ∙ ap (λ ls. filter p xs ++ ls) (dropped (leaves d link bridge))
     ∙ append-nil (filter p xs)
   where
-    -- it is dropped where it is listed
+    -- it is filtered out if it is listed
     dropped : (b : Bool) → filter (is_onward d) (if b then link ∷ [] else []) ≡ []
     dropped true = cond-false (is_onward d link) (link ∷ []) [] none
     dropped false = refl
 
--- a pipe more is on a link
+-- one more pipe is on a link
 abbrev pub with_pipe : Wiring → ℕ → PipeId (Carried Stretch) → Wiring
 with_pipe wiring link id l = if l == link then Some id else wiring l
 
@@ -124,7 +124,7 @@ no_ports wiring ports none = record {
   wired = λ p c. absurd (omega (arith, (subst (λ (ps : List StretchPort). Contains ps p) none c).1));
 }
 
--- ports of other links are as before
+-- ports of other links are unchanged
 ports_rewired : (wiring more : Wiring) (links : List ℕ) (ports : List StretchPort) → ((l : ℕ) → Contains links l → more l ≡ wiring l) →
     ArePorts wiring links ports → ArePorts more links ports
 ports_rewired wiring more links ports same so = record {
@@ -148,7 +148,7 @@ ports_more wiring links ports after p so more mine on = record {
   ];
 }
 
--- workers are as before, whatever pipe is on the next link
+-- workers are unchanged, for any pipe on the next link
 rewired : (t : Offering) (wiring : Wiring) (id : PipeId (Carried Stretch)) (link number : ℕ) (w : Worker) → IsLaid t wiring link link number w →
     IsLaid t (with_pipe wiring link id) link link number w
 rewired t wiring id link number w so = record {
@@ -159,11 +159,11 @@ rewired t wiring id link number w so = record {
       (λ l c. other l (onward_below t.domain number link l c)) so.outs;
 }
   where
-    -- another link has the pipe that it had
+    -- another link keeps its pipe
     other : (l : ℕ) → l < link → with_pipe wiring link id l ≡ wiring l
     other l below = cond-false (l == link) (Some id) (wiring l) (ne_eqb l link (λ e. omega (arith, e, below)))
 
--- a worker whose bridge the link doesn't leave, and the one whose bridge it leaves, once that one has the port
+-- a worker whose bridge the link doesn't leave; and the worker whose bridge it leaves, once it has the port
 out_other : (t : Offering) (wiring : Wiring) (link number : ℕ) (w : Worker) → leaves t.domain link number ≡ false → IsLaid t wiring link link number w →
     IsLaid t wiring link (suc link) number w
 out_other t wiring link number w none so = record {
@@ -195,7 +195,7 @@ out_own t wiring link number before after p has of_link mine on begins ends so =
       outs = more;
     })
 
--- a worker in whose bridge the link doesn't end, and the one in whose bridge it ends, once that one has the port
+-- a worker in whose bridge the link doesn't end; and the worker in whose bridge it ends, once it has the port
 in_other : (t : Offering) (wiring : Wiring) (link number : ℕ) (w : Worker) → enters t.domain link number ≡ false → IsLaid t wiring link (suc link) number w →
     IsLaid t wiring (suc link) (suc link) number w
 in_other t wiring link number w none so = record {
@@ -226,7 +226,7 @@ in_own t wiring link number before after p has of_link mine on ends so =
       outs = so.outs;
     })
 
--- a link that ends in no bridge wants no port
+-- a link that ends in no bridge needs no port
 none_wanted : (t : Offering) (wiring : Wiring) (link number : ℕ) (w : Worker) → enters t.domain link number ≡ false →
     is_onward t.domain link ≡ false → IsLaid t wiring link link number w → IsLaid t wiring (suc link) (suc link) number w
 none_wanted t wiring link number w none ended so = record {
@@ -235,7 +235,7 @@ none_wanted t wiring link number w none ended so = record {
   outs = subst (λ ls. ArePorts wiring ls w.outs.items) (sym (onward_ended t.domain number link ended)) so.outs;
 }
 
--- a pipe is laid, of which the one worker has the putting end, and the other the taking end
+-- a pipe is laid: one worker has the putting end, the other one the taking end
 pub pipe_laid : (workers : List Worker) (link from to : ℕ) (x y v w : Worker) (out into : StretchPort) → from < length workers → to < length workers →
     x ≡ get_or workers from x → HasOut x y out → v ≡ get_or (set workers from y) to v → HasIn v w into → out.link ≡ link → into.link ≡ link →
     IsUnused out → IsUnused into → out.pipe.pipe ≡ into.pipe.pipe → LaysPipe link from to workers (set (set workers from y) to w)
@@ -260,7 +260,7 @@ pipe_laid workers link from to x y v w out into from_inside to_inside x_is has_o
     second in
     (more, subst (λ k. AreLaidWires t more k k (set (set workers from y) to w)) (sym (add-one link)) third)
 
--- the same, where the places are given as other numbers
+-- the same, if the indices are given as other numbers
 pub pipe_laid_at : (workers : List Worker) (link from to a b : ℕ) (x y v w : Worker) (out into : StretchPort) → a ≡ from → b ≡ to → from < length workers →
     to < length workers → x ≡ get_or workers a x → HasOut x y out → v ≡ get_or (set workers a y) b v → HasIn v w into → out.link ≡ link →
     into.link ≡ link → IsUnused out → IsUnused into → out.pipe.pipe ≡ into.pipe.pipe → LaysPipe link from to workers (set (set workers a y) b w)
@@ -272,7 +272,7 @@ pipe_laid_at workers link from to a b x y v w out into is_from is_to from_inside
     out_unused into_unused one_pipe in
     subst (λ k. LaysPipe link from k workers (set (set workers a y) b w)) is_to (subst (λ k. LaysPipe link k b workers (set (set workers a y) b w)) is_from at)
 
--- what neither end of a pipe changes is kept of all workers
+-- all workers keep what neither end of a pipe changes
 pub pipe_keeps : {Y : Type 0} (f : Worker → Y) (workers : List Worker) (from to : ℕ) (x y v w : Worker) → x ≡ get_or workers from x → f y ≡ f x →
     v ≡ get_or (set workers from y) to v → f w ≡ f v → map f (set (set workers from y) to w) ≡ map f workers
 pipe_keeps f workers from to x y v w x_is kept_out v_is kept_in =
@@ -303,7 +303,7 @@ station_laid d link between station workers there ends t wiring is so =
     λ n x below. none_wanted t wiring link n (get_or workers n x) (none n) ended (so n x below) in
     (wiring, subst (λ k. AreLaidWires t wiring k k workers) (sym (add-one link)) all)
 
--- the pipe of tables of one worker more
+-- the pipe for tables of one more worker
 pub pipes_more : (ends more_ends : List (End (Carried CycleTable))) (workers more_workers : List Worker) (end : End (Carried CycleTable)) (w : Worker) →
     more_ends ≡ ends ++ end ∷ [] → more_workers ≡ workers ++ w ∷ [] → end.pipe ≡ tables_pipe w → map pipe_of_tables ends ≡ map tables_pipe workers →
     map pipe_of_tables more_ends ≡ map tables_pipe more_workers
@@ -313,18 +313,18 @@ pipes_more ends more_ends workers more_workers end w is_ends is_workers one_pipe
     ∙ (λ i. so i ++ one_pipe i ∷ [])
     ∙ sym (ap (map tables_pipe) is_workers ∙ map-append tables_pipe workers (w ∷ []))
 
--- an end more at which nothing was put
+-- one more end at which nothing was put
 pub nothing_more : (ends more : List (End (Carried CycleTable))) (end : End (Carried CycleTable)) → more ≡ ends ++ end ∷ [] → end.items ≡ [] →
     All (λ (e : End (Carried CycleTable)). e.items ≡ []) ends → All (λ (e : End (Carried CycleTable)). e.items ≡ []) more
 nothing_more ends more end is none so =
     subst (All (λ (e : End (Carried CycleTable)). e.items ≡ [])) (sym is) (All-push (λ (e : End (Carried CycleTable)). e.items ≡ []) ends end so none)
 
--- one bare worker more
+-- one more worker without ports
 pub bare_more : (t : Offering) (workers : List Worker) (w : Worker) (bridge : ℕ) → bridge ≡ length workers → AreBare t workers → IsBare t bridge w →
     AreBare t (workers ++ w ∷ [])
 bare_more t workers w bridge at so mine = each_push (λ n u. IsBare t n u) workers w bridge (sym at) so mine
 
--- bare workers are laid to no link
+-- workers without ports have pipes laid on no link
 pub bare_laid : (t : Offering) (wiring : Wiring) (workers : List Worker) → AreBare t workers → AreLaidWires t wiring 0 0 workers
 bare_laid t wiring workers so n x below = record {
   ready = (so n x below).ready;
@@ -332,7 +332,7 @@ bare_laid t wiring workers so n x below = record {
   outs = no_ports wiring (get_or workers n x).outs.items (so n x below).no_outs;
 }
 
--- workers that are laid to all links are those of the traffic
+-- workers with pipes laid on all links are those of the traffic
 pub workers_laid : (t : Offering) (wiring : Wiring) (workers : List Worker) → AreOffers t.domain t.offers →
     AreLaidWires t wiring (length t.domain.links) (length t.domain.links) workers → AreWorkersOf t workers
 workers_laid t wiring workers offers so number w there =
@@ -355,7 +355,7 @@ workers_laid t wiring workers offers so number w there =
       none_put = all_from_members IsUnused u.outs.items laid.outs.unused;
     }
 
--- bare workers to which pipes are laid on all links
+-- workers without ports, after pipes are laid on all links
 pub all_laid : (t : Offering) (before after : List Worker) → AreBare t before → LaysFirst t.domain (length t.domain.links) before after →
     (wiring : Wiring) × AreLaidWires t wiring (length t.domain.links) (length t.domain.links) after
 all_laid t before after bare first = let wiring : Wiring = λ l. None in first t wiring refl (bare_laid t wiring before bare)
@@ -368,7 +368,7 @@ wired_laid t wiring into onward workers so = record {
   at_outs = λ w there. subst (λ (u : Worker). AreOn wiring u.outs.items) there.2 (so there.0 w there.1).outs.wired;
 }
 
--- workers that keep their numbers of cycles have as many as before
+-- workers that keep their numbers of cycles have the same as before
 pub cycles_kept : (cycles : ℕ) (before after : List Worker) → map cycles_at after ≡ map cycles_at before → All (HasCycles cycles) before →
     All (HasCycles cycles) after
 cycles_kept cycles before after same so place w below =
@@ -378,7 +378,7 @@ cycles_kept cycles before after same so place w below =
     ∙ get_or-map cycles_at before place w
     ∙ so place w (omega (arith, below, as_many))
 
--- each worker of a traffic's bridges may work
+-- each worker of this traffic's bridges may work
 pub workers_may : (t : Offering) (cycles : ℕ) (workers : List Worker) → AreWorkersOf t workers → All (HasCycles cycles) workers →
     All (MayWork cycles) workers
 workers_may t cycles workers are so place w below = record {

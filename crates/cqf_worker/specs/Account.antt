@@ -1,5 +1,4 @@
--- The account of a run on threads: the headline of `cqf_model/specs/Headline.antt`, of what the administrators' commands call for
--- 
+-- The account of a run on threads: the headline of `cqf_model/specs/Headline.antt`, for what the administrators' commands request.
 use Rattle.std.specs.Prelude.{ℕ, ◌≡◌, List, length, map}
 use Rattle.cqf_model.specs.declared.frames.Background.{Background}
 use Rattle.cqf_model.specs.declared.frames.Offer.{Offer}
@@ -16,7 +15,7 @@ use Rattle.cqf_worker.specs.declared.account.Account.{Account}
 use Rattle.cqf_worker.specs.declared.account.TapedAccount.{TapedAccount}
 use Rattle.cqf_worker_loops.specs.Commands.{acts_asked}
 
--- what each administrator's commands call for
+-- what each administrator's commands request
 abbrev pub all_asked : List (List Command) → List (List Act)
 all_asked admins = map acts_asked admins
 
@@ -24,8 +23,8 @@ all_asked admins = map acts_asked admins
 abbrev pub entries_of : History → List Recorded
 entries_of history = map recorded_of history.entries.items
 
--- a history and a book say all that is promised of a run, of what the administrators' commands call for, and the history tells the number
--- of entries in the opening part
+-- a history and a book satisfy everything that is promised of a run in which the administrators' commands make these requests, and the
+-- history records the number of entries in its opening part
 pub record IsOutcomeOf (d : Domain) (opening : List Recorded) (offers : List Offer) (background : List Background) (cycles : ℕ)
     (admins : List (List Command)) (history : History) (book : Contents) : Type 0 where
   pub opens : history.opening ≡ length opening
@@ -36,7 +35,7 @@ abbrev pub IsAccount : Domain → List Recorded → List Offer → List Backgrou
 IsAccount d opening offers background cycles admins account =
     IsOutcomeOf d opening offers background cycles admins account.history (contents_of account.book)
 
--- and one by tapes has such a history, and the tapes of such a book, link by link
+-- an account by tapes has such a history, and its tapes are those of such a book, link by link
 pub record IsTapedAccount (d : Domain) (opening : List Recorded) (offers : List Offer) (background : List Background) (cycles : ℕ)
     (admins : List (List Command)) (account : TapedAccount) : Type 0 where
   pub book : Contents

@@ -11,14 +11,14 @@ use Rattle.cqf_worker_loops.specs.Workers.{StretchPort}
 use Rattle.cqf_worker_loops.specs.PipeEnds.{End}
 use Rattle.cqf_worker.specs.Wires.{IsBeginning, count_on, ins_at, outs_at}
 
--- what a worker has
+-- the table end and the reel of a worker
 abbrev pub tables_at : Worker → End (Carried CycleTable)
 tables_at w = w.tables
 
 abbrev pub reel_at : Worker → Reel
 reel_at w = w.reel
 
--- a worker's parts stand behind those that were there
+-- a worker's parts were appended to those before
 pub record HaveMore (before after : Parts) (w : Worker) : Type 0 where
   pub more_ins : after.ins.items ≡ before.ins.items ++ ins_at w
   pub more_outs : after.outs.items ≡ before.outs.items ++ outs_at w
@@ -32,18 +32,18 @@ pub record ArePartsOf (workers : List Worker) (parts : Parts) : Type 0 where
   pub all_tables : parts.tables.items ≡ map tables_at workers
   pub all_reels : parts.reels.items ≡ map reel_at workers
 
--- a putting end is one of some, of a link
+-- a putting end is one of these ends and is of this link
 pub record IsPartner (outs : List StretchPort) (link : ℕ) (end : End (Carried Stretch)) : Type 0 where
   pub out : StretchPort
   pub there : Contains outs out
   pub of_link : out.link ≡ link
   pub is_end : out.pipe ≡ end
 
--- one end of a link is gone, and no other
+-- one end of a link was removed, and no other
 abbrev pub HasLostOne : ℕ → List StretchPort → List StretchPort → Type 0
 HasLostOne link before after = (other : ℕ) → count_on other before ≡ count_on other after + (if link == other then 1 else 0)
 
--- what was taken at a port is the beginning of what was put at some port of its link
+-- what was taken at a port is a prefix of what was put at some port of its link
 pub record IsFedBy (outs : List StretchPort) (p : StretchPort) : Type 0 where
   pub out : StretchPort
   pub there : Contains outs out
@@ -53,7 +53,7 @@ pub record IsFedBy (outs : List StretchPort) (p : StretchPort) : Type 0 where
 abbrev pub AreFedBy : List StretchPort → List StretchPort → Type 0
 AreFedBy outs ins = (p : StretchPort) → Contains ins p → IsFedBy outs p
 
--- place by place what was taken is the beginning of what was put
+-- at each index what was taken is a prefix of what was put
 abbrev pub AreGivenBy : List (End (Carried CycleTable)) → List (End (Carried CycleTable)) → Type 0
 AreGivenBy puts takes = (place : ℕ) (putting taking : End (Carried CycleTable)) → slice_get puts place ≡ Some putting →
     slice_get takes place ≡ Some taking → IsBeginning taking.items putting.items

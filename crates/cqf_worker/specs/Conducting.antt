@@ -1,4 +1,4 @@
--- A run on threads before they begin, and when all have ended.
+-- A run on threads before it begins, and after all threads have ended.
 use Rattle.std.specs.Prelude.{ℕ, ◌≡◌, ◌⊎◌, ◌++◌, List, [], ◌∷◌, All, length, map}
 use Rattle.std.specs.List.{flat_map}
 use Rattle.cqf_model.specs.declared.frames.Offer.{Offer}
@@ -24,7 +24,7 @@ use Rattle.cqf_worker_loops.specs.Workers.{MayWork}
 use Rattle.cqf_worker.specs.Laying.{traffic_of}
 use Rattle.cqf_worker.specs.Wires.{AreFedByWires, AreGiven, AreWired, AreWorkersOf, LackEnds, Wiring, ins_at, outs_at, pipe_of_tables, tables_pipe}
 
--- what an administrator is to make, and with which seat
+-- the commands of an administrator, and its seat
 abbrev pub commands_of : Administrator → List Command
 commands_of a = a.commands.items
 
@@ -37,7 +37,7 @@ pub record AreSeatedFor (admins : List (List Command)) (administrators : List Ad
   pub seats : map seat_of administrators ≡ fresh_seats (length admins)
   pub next : conductor ≡ record { number = length admins; calls = []; tables = [] }
 
--- the workers of all bridges, which have done nothing, with pipes between them, and an end of each one's pipe for tables
+-- the workers of all bridges, which have done nothing, with pipes between them, and the putting end of each worker's pipe for tables
 pub record AreLaidFor (d : Domain) (offers : List Offer) (cycles : ℕ) (those : List Worker) (ends : List TableEnd) : Type 0 where
   pub many : length those ≡ length d.bridges
   pub workers : AreWorkersOf (traffic_of d offers) those
@@ -53,30 +53,30 @@ pub record IsPrepared (d : Domain) (opening : List Recorded) (offers : List Offe
   pub laid : AreLaidFor d offers cycles p.ready.workers.items p.ready.tables.items
   pub seated : AreSeatedFor admins p.ready.administrators.items p.ready.conductor
 
--- all seats in the end: the administrators', and behind them the conductor's
+-- all seats in the end: the administrators' seats, followed by the conductor's
 abbrev pub all_seats : EndedRun → List Sitting
 all_seats e = e.seats.items ++ e.sealed.seat ∷ []
 
--- all pipes are closed: what was taken from each is the beginning of what was put there, and the reels are those of the workers
+-- all pipes are closed: what was taken from each is a prefix of what was put there, and the reels are those of the workers
 pub record AreShut (ends : List TableEnd) (those : List Worker) (reels : List Reel) : Type 0 where
   pub fed : AreFedByWires those
   pub given : AreGiven ends those
   pub own : reels ≡ map reel_at those
 
--- there is such a fault, and it isn't for memory
+-- there is such a fault other than an allocation failure
 abbrev pub KeepsOpen : {F : Type 0} → F → (F → Type 0) → Type 0
 KeepsOpen {F} memory IsFault = (why : F) × (¬ (why ≡ memory)) × IsFault why
 
--- why a desk isn't closed, as a run tells it
+-- the fault that a run reports if its desk can't be closed
 abbrev pub IsDeskFault : Counter → List Sitting → ConductFault → Type 0
 IsDeskFault desk seats fault = (fault ≡ conduct.Memory) ⊎ ((fault ≡ conduct.DeskDisagrees) × KeepsOpen closing.Memory (IsCloseFault desk seats))
 
--- why pipes aren't closed
+-- the fault that a run reports if its pipes can't be closed
 abbrev pub IsPipeFault : List Worker → ConductFault → Type 0
 IsPipeFault those fault =
     (fault ≡ conduct.Memory) ⊎ ((fault ≡ conduct.ChannelLost) × LackEnds (flat_map ins_at those) (flat_map outs_at those))
 
--- its pipes and its desk are closed, and its tapes gathered: what was taken from each pipe is the beginning of what was put there, the history
+-- the run's pipes and desk are closed and its tapes gathered: what was taken from each pipe is a prefix of what was put there, the history
 -- is that of the seats, and the tapes are those of the workers' reels
 pub record IsSettled (d : Domain) (desk : Counter) (e : EndedRun) (account : TapedAccount) : Type 0 where
   pub fed : AreFedByWires e.workers.items
@@ -84,8 +84,8 @@ pub record IsSettled (d : Domain) (desk : Counter) (e : EndedRun) (account : Tap
   pub history : IsClosed desk (all_seats e) account.history
   pub gathered : AreGatheredFrom d (map reel_at e.workers.items) account.tapes
 
--- why an ended run isn't closed: memory is refused; of some link there are fewer putting than taking ends; or its desk isn't closed with its
--- seats, for another cause than memory
+-- why a run that has ended isn't closed: an allocation fails, some link has fewer putting than taking ends, or its desk can't be closed
+-- with its seats for a cause other than memory
 abbrev pub IsSettleFault : Counter → EndedRun → ConductFault → Type 0
 IsSettleFault desk e conduct.Memory = Unit {0}
 IsSettleFault desk e (conduct.Bridge bridge reason) = ⊥

@@ -1,4 +1,4 @@
--- Which fault a run on threads may tell, and of what cause.
+-- Which fault a run on threads may report, and for what cause.
 use Rattle.std.specs.Prelude.{ℕ, ◌≡◌, ◌+◌, ◌<◌, ◌⊎◌, List, Contains, length}
 use Rattle.cqf_model.specs.declared.frames.Background.{Background}
 use Rattle.cqf_model.specs.declared.frames.Offer.{Offer}
@@ -18,11 +18,11 @@ use Rattle.cqf_worker.specs.declared.faults.ConductFault.TheVariants as conduct
 abbrev pub SomeCall : List (List Command) → Type 0
 SomeCall admins = (commands : List Command) × Contains admins commands × (0 < length commands)
 
--- the desk of a run before it begins, with a seat more than administrators
+-- the desk of a run before it begins, with one seat more than there are administrators
 abbrev pub desk_of_run : Domain → List Recorded → ℕ → Counter
 desk_of_run d opening admins = record { opening = record { domain = d; entries = opening }; seats = admins + 1 }
 
--- all calls were made and all cycles closed, but the desk isn't closed with the seats of the run, for another cause than memory
+-- all calls were made and all cycles closed, but the desk can't be closed with the seats of the run, for a cause other than memory
 pub record KeepsDeskOpen (d : Domain) (opening : List Recorded) (cycles : ℕ) (admins : List (List Command)) : Type 0 where
   pub seats : List Sitting
   pub seated : AreSeated (all_asked admins) cycles seats
@@ -30,8 +30,9 @@ pub record KeepsDeskOpen (d : Domain) (opening : List Recorded) (cycles : ℕ) (
   pub other : ¬ (why ≡ desk.Memory)
   pub fault : IsCloseFault (desk_of_run d opening (length admins)) seats why
 
--- which fault a run may tell: never that of a bridge; that the desk disagrees where a Seal or a call isn't entered, or the desk isn't closed;
--- never that the book does; and that an end of a pipe was lost where there are cycles to go through, but never as pipes are closed. Memory may be refused in each run, and in each there are threads to be started
+-- which fault a run may report. Memory and Spawn are possible in every run. DeskDisagrees is possible if there are cycles to close, if an
+-- administrator has commands, or if the desk can't be closed. ChannelLost is possible only if there are cycles to go through: it never
+-- arises from closing the pipes. Bridge and BookDisagrees are impossible
 abbrev pub IsConductFault : Domain → List Recorded → List Offer → List Background → ℕ → List (List Command) → ConductFault → Type 0
 IsConductFault d opening offers background cycles admins conduct.Memory = Unit {0}
 IsConductFault d opening offers background cycles admins (conduct.Bridge bridge reason) = ⊥

@@ -5,7 +5,7 @@ use Rattle.cqf_worker.specs.declared.faults.ConductFault.{ConductFault}
 use Rattle.cqf_worker.specs.declared.faults.ConductFault.TheVariants.{Memory, Bridge, DeskDisagrees, BookDisagrees, ChannelLost, Spawn}
 use Rattle.cqf_worker.specs.declared.faults.Faults.{Faults}
 
--- the text of a fault: its name, and then its values
+-- the text of a fault: its name followed by its values
 abbrev pub conduct_fault_text : ConductFault → List ℕ
 conduct_fault_text Memory = codes "Memory"
 conduct_fault_text (Bridge bridge fault) = codes "Bridge " ++ (decimal bridge ++ (codes " " ++ text_of_fault fault))
@@ -14,7 +14,7 @@ conduct_fault_text BookDisagrees = codes "BookDisagrees"
 conduct_fault_text ChannelLost = codes "ChannelLost"
 conduct_fault_text Spawn = codes "Spawn"
 
--- the order in which faults are told
+-- the order in which faults are reported
 abbrev pub rank : ConductFault → ℕ
 rank Spawn = 0
 rank Memory = 1
@@ -27,7 +27,7 @@ abbrev pub is_before : ConductFault → ConductFault → Bool
 is_before (Bridge one fault) (Bridge other reason) = nat_lt one other
 is_before one other = nat_lt (rank one) (rank other)
 
--- which of two is told, where there was one before
+-- which of two faults is kept, if there was one before
 abbrev pub first_noted : Option ConductFault → ConductFault → ConductFault
 first_noted None fault = fault
 first_noted (Some first) fault = if is_before fault first then fault else first
@@ -36,7 +36,7 @@ first_noted (Some first) fault = if is_before fault first then fault else first
 abbrev pub IsClean : Faults → Type 0
 IsClean faults = (faults.first ≡ None) × (faults.is_stopped ≡ false)
 
--- what is told: the first fault, and where there is none but a thread ended before its time, that an end of a pipe was lost
+-- the fault to report: the first one noted in that order; if there is none but a thread ended early, ChannelLost
 abbrev pub told_of : Option ConductFault → Bool → Option ConductFault
 told_of (Some first) is_stopped = Some first
 told_of None is_stopped = if is_stopped then Some ChannelLost else None

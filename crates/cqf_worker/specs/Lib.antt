@@ -7,5 +7,5 @@ pub mod Running
 pub mod Telling
 pub mod Account
 pub mod Failing
--- what the inner functions say
+-- definitions used by the contracts of inner functions
 pub mod Conducting

@@ -1,4 +1,4 @@
--- The threads of a run: what they begin with and what they have in the end.
+-- The threads of a run: their initial and their final state.
 use Rattle.std.specs.Prelude.{ℕ, ◌≡◌, ◌≤◌, List, [], All, IfErr, IfOk, Result}
 use Rattle.std.specs.List.{AllZip}
 use Rattle.cqf_desk.specs.Desk.{Sitting}
@@ -18,8 +18,8 @@ use Rattle.cqf_worker_loops.specs.Workers.{MayWork, Works}
 use Rattle.cqf_worker.specs.Telling.{MayBeTold}
 use Rattle.cqf_model.specs.Limits.{most_cycles}
 
--- what a worker's thread answers: the worker that has done its part, or what comes back of it where it gives up, with the number of
--- the worker's own bridge
+-- what a worker's thread answers: the worker that has done its part, or what a worker that gives up returns, with the number of the
+-- worker's own bridge
 abbrev pub AnswersWorker : ℕ → Worker → Result Worker GaveUp → Type 0
 AnswersWorker cycles w answer = IfOk answer (Works cycles w) × IfErr answer (HasGivenUp cycles w)
 
@@ -27,7 +27,7 @@ AnswersWorker cycles w answer = IfOk answer (Works cycles w) × IfErr answer (Ha
 abbrev pub CallsOf : Administrator → Sitting → Type 0
 CallsOf a done = HasCalled a.commands.items a.seat done
 
--- what its thread answers: that seat, or the one with the commands before the first that wasn't entered
+-- what its thread answers: that seat, or the seat with the commands before the first one that wasn't entered
 abbrev pub CallAnswers : Administrator → Result Sitting Unmade → Type 0
 CallAnswers a answer = IfOk answer (CallsOf a) × IfErr answer (HasLeftOff a.commands.items a.seat)
 
@@ -35,7 +35,7 @@ CallAnswers a answer = IfOk answer (CallsOf a) × IfErr answer (HasLeftOff a.com
 abbrev pub BreaksOff : ℕ → Sitting → List TableEnd → SealingFault → Type 0
 BreaksOff cycles seat before fault = (left : Unsealed) × (left.fault ≡ fault) × HasBrokenOff cycles seat before left
 
--- threads may begin: nothing is done yet
+-- the threads may begin: nothing is done yet
 pub record IsReadyWorker (cycles : ℕ) (r : ReadyRun) : Type 0 where
   pub few : cycles ≤ most_cycles
   pub workers : All (MayWork cycles) r.workers.items
@@ -44,12 +44,12 @@ pub record IsReadyWorker (cycles : ℕ) (r : ReadyRun) : Type 0 where
   pub no_tables : r.conductor.tables ≡ []
   pub nothing_put : All (λ (end : TableEnd). end.items ≡ []) r.tables.items
 
--- they have ended, each having done its part
+-- the threads have ended, and each has done its part
 pub record IsEnded (cycles : ℕ) (r : ReadyRun) (e : EndedRun) : Type 0 where
   pub worked : AllZip (Works cycles) r.workers.items e.workers.items
   pub called : AllZip CallsOf r.administrators.items e.seats.items
   pub sealed : HasSealed cycles r.conductor e.sealed.seat r.tables.items e.sealed.tables.items
 
--- what the run answers: that they have ended so, or a fault that may be told
+-- what the run answers: that the threads have ended so, or a fault that may be reported
 abbrev pub RunAnswers : ℕ → ReadyRun → Result EndedRun ConductFault → Type 0
 RunAnswers cycles r answer = IfOk answer (IsEnded cycles r) × IfErr answer (MayBeTold cycles r)

@@ -1,11 +1,11 @@
--- Which fault a run on threads may tell.
+-- Which fault a run on threads may report.
 use Rattle.std.specs.Prelude.{ℕ, ◌<◌, ◌⊎◌, Contains, length}
 use Rattle.cqf_worker.specs.declared.faults.ConductFault.{ConductFault}
 use Rattle.cqf_worker.specs.declared.faults.ConductFault.TheVariants as conduct
 use Rattle.cqf_worker.specs.declared.threads.Administrator.{Administrator}
 use Rattle.cqf_worker.specs.declared.threads.ReadyRun.{ReadyRun}
 
--- why a run doesn't begin: memory is refused, or not all of its threads are started
+-- why a run doesn't begin: an allocation fails, or not all of its threads can be started
 abbrev pub IsStartFault : ConductFault → Type 0
 IsStartFault conduct.Memory = Unit {0}
 IsStartFault (conduct.Bridge bridge reason) = ⊥
@@ -20,8 +20,8 @@ pub record OneCalls (r : ReadyRun) : Type 0 where
   pub there : Contains r.administrators.items administrator
   pub some : 0 < length administrator.commands.items
 
--- which fault may be told of a run: never that of a bridge; that the desk disagrees where cycles are to be closed, or an administrator has
--- commands; never that the book does; and that an end of a pipe was lost where there are cycles to go through
+-- which fault a run may report. Memory and Spawn are always possible. DeskDisagrees is possible if there are cycles to close or an
+-- administrator has commands. ChannelLost is possible if there are cycles to go through. Bridge and BookDisagrees are impossible
 abbrev pub MayBeTold : ℕ → ReadyRun → ConductFault → Type 0
 MayBeTold cycles r conduct.Memory = Unit {0}
 MayBeTold cycles r (conduct.Bridge bridge reason) = ⊥

@@ -1,4 +1,4 @@
--- The pipes between the workers of a run: which is on which link, and what is known of them once they are closed.
+-- The pipes between the workers of a run: which pipe is on which link, and what is known of the pipes once they are closed.
 use Rattle.std.specs.Prelude.{ℕ, ◌≡◌, ◌<◌, ◌==◌, ◌++◌, List, Option, Some, Contains, count_by, slice_get}
 use Rattle.cqf_admission.specs.Tables.{CycleTable}
 use Rattle.cqf_relay.specs.declared.moving.Stretch.{Stretch}
@@ -7,7 +7,7 @@ use Rattle.cqf_worker_loops.specs.declared.worker.Worker.{Worker}
 use Rattle.cqf_worker_loops.specs.PipeEnds.{End, PipeId}
 use Rattle.cqf_worker_loops.specs.Workers.{IsWorkerOf, Offering, StretchPort}
 
--- which pipe is on each link, where one is
+-- the pipe on each link, if there is one
 abbrev pub Wiring : Type 0
 Wiring = ℕ → Option (PipeId (Carried Stretch))
 
@@ -18,20 +18,20 @@ IsOn wiring port = wiring port.link ≡ Some port.pipe.pipe
 abbrev pub AreOn : Wiring → List StretchPort → Type 0
 AreOn wiring ports = (p : StretchPort) → Contains ports p → IsOn wiring p
 
--- each end at the workers is of the pipe on its link, so that a putting and a taking end of one link are of one pipe
+-- each end at the workers is of the pipe on its link, so a putting and a taking end of one link are of one pipe
 pub record AreWired (wiring : Wiring) (workers : List Worker) : Type 0 where
   pub at_ins : (w : Worker) → Contains workers w → AreOn wiring w.ins.items
   pub at_outs : (w : Worker) → Contains workers w → AreOn wiring w.outs.items
 
--- the workers of all bridges of a traffic, by number
+-- the workers of all bridges of this traffic, by number
 abbrev pub AreWorkersOf : Offering → List Worker → Type 0
 AreWorkersOf t workers = (number : ℕ) (w : Worker) → slice_get workers number ≡ Some w → IsWorkerOf t number w
 
--- how many ends there are of a link
+-- how many ends of a link there are
 abbrev pub count_on : ℕ → List StretchPort → ℕ
 count_on link ports = count_by (λ (p : StretchPort). p.link == link) ports
 
--- of some link there are fewer putting than taking ends
+-- some link has fewer putting than taking ends
 abbrev pub LackEnds : List StretchPort → List StretchPort → Type 0
 LackEnds ins outs = (link : ℕ) × (count_on link outs < count_on link ins)
 
@@ -49,11 +49,11 @@ tables_pipe w = w.tables.pipe
 abbrev pub pipe_of_tables : End (Carried CycleTable) → PipeId (Carried CycleTable)
 pipe_of_tables end = end.pipe
 
--- what was taken is the beginning of what was put
+-- what was taken is a prefix of what was put
 abbrev pub IsBeginning : {T : Type 0} → List T → List T → Type 0
 IsBeginning {T} taken put = (rest : List T) × (put ≡ taken ++ rest)
 
--- what was taken at a port is the beginning of what some worker put on the port's link
+-- what was taken at a port is a prefix of what some worker put on the port's link
 pub record IsFed (workers : List Worker) (p : StretchPort) : Type 0 where
   pub from : Worker
   pub out : StretchPort
@@ -66,7 +66,7 @@ pub record IsFed (workers : List Worker) (p : StretchPort) : Type 0 where
 abbrev pub AreFedByWires : List Worker → Type 0
 AreFedByWires workers = (w : Worker) (p : StretchPort) → Contains workers w → Contains w.ins.items p → IsFed workers p
 
--- and the tables that each worker took are the beginning of what was put for it
+-- the tables that each worker took are a prefix of those put for it
 abbrev pub AreGiven : List (End (Carried CycleTable)) → List Worker → Type 0
 AreGiven tables workers = (place : ℕ) (end : End (Carried CycleTable)) (w : Worker) → slice_get tables place ≡ Some end →
     slice_get workers place ≡ Some w → IsBeginning w.tables.items end.items

@@ -1,17 +1,17 @@
-//! What a run on threads gives.
+//! The result of a run on threads.
 
 use cqf_desk::History;
 use cqf_model::Book;
 use cqf_tape::Tapes;
 
-/// What a run on threads gives: the history of all calls, and the book of every transmission and drop.
+/// The result of a run on threads: the history of all calls, and the book of every transmission and drop.
 #[derive(Debug, Drop)]
 pub struct Account {
     pub history: History,
     pub book: Book,
 }
 
-/// The same with the tapes of the book, as the bridges kept them: link by link what each sent, and what each bridge dropped.
+/// The same with the book's tapes, as the bridges kept them: for each link what it sent, and for each bridge what it dropped.
 #[derive(Debug, Drop)]
 pub struct TapedAccount {
     pub history: History,

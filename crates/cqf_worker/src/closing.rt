@@ -1,4 +1,4 @@
-//! Closing the pipes of a run, when its threads have ended.
+//! Closing the pipes of a run after its threads have ended.
 ghost use Rattle.std.specs.Prelude.{◌≡◌, ◌==◌, ◌++◌, Contains, IfNone, IfOk, IfSome, IsErrOf, OnErr, OnOk, map};
 ghost use Rattle.std.specs.List.{flat_map, position};
 ghost use Rattle.cqf_worker.specs.Closing.{AreFedBy, AreGivenBy, ArePartsOf, HasLostOne, HaveMore, IsPartner, reel_at};
@@ -27,13 +27,13 @@ use std::alloc::Global;
 /// Why the pipes of a run aren't closed.
 #[derive(Clone, Copy, Debug, PartialEq, Eq, Drop)]
 pub enum ClosingFault {
-    /// A growth was refused.
+    /// An allocation failed.
     Memory,
-    /// A taking end on a link lacks its putting end.
+    /// A taking end on a link has no putting end.
     ChannelLost,
 }
 
-/// Want of memory, as a fault.
+/// Converts an allocation failure into a fault.
 impl From<Memory> for ClosingFault {
     ghost use Rattle.cqf_worker.specs.declared.closing.ClosingFault.TheVariants as variant;
 
@@ -44,7 +44,7 @@ impl From<Memory> for ClosingFault {
     }
 }
 
-/// What workers had, apart: their ends on links, worker by worker, and their table ends and reels, one a worker.
+/// The parts of workers: their ends on links, worker by worker, and one table end and one reel per worker.
 #[derive(Drop)]
 struct Parts {
     ins: Vec<LinkEnd<PipeOut<Carried<Stretch>>>>,
@@ -53,7 +53,7 @@ struct Parts {
     reels: Vec<Reel>,
 }
 
-/// Puts more at the end of a list.
+/// Appends items to a list.
 fn append<T: Drop>(list: &mut Vec<T>, more: Vec<T>) -> Result<(), Memory>
     ensures { OnOk result (list.new.items ≡ list.old.items ++ more.items) }
 {
@@ -63,7 +63,7 @@ fn append<T: Drop>(list: &mut Vec<T>, more: Vec<T>) -> Result<(), Memory>
     Ok(())
 }
 
-/// Puts what a worker had behind the others' parts.
+/// Appends a worker's parts to those of the others.
 fn add_parts(parts: &mut Parts, worker: Worker) -> Result<(), Memory>
     ensures { OnOk result (HaveMore parts.old parts.new worker) }
 {
@@ -83,7 +83,7 @@ fn add_parts(parts: &mut Parts, worker: Worker) -> Result<(), Memory>
     Ok(())
 }
 
-/// The parts of all workers, in their order.
+/// Returns the parts of all workers, in order.
 fn take_apart(alloc: Global, workers: Vec<Worker>) -> Result<Parts, Memory>
     ensures { IfOk result (λ parts. ArePartsOf workers.items parts) }
 {
@@ -99,14 +99,14 @@ fn take_apart(alloc: Global, workers: Vec<Worker>) -> Result<Parts, Memory>
     Ok(parts)
 }
 
-/// The place of the first putting end of a link.
+/// Returns the index of the first putting end of a link.
 fn place_of(outs: &[LinkEnd<PipeIn<Carried<Stretch>>>], link: u16) -> Option<usize>
     ensures { result ≡ position (λ (out : StretchPort). out.link == link) outs.now }
 {
     outs.iter().position(|out| out.link == link)
 }
 
-/// Takes the first putting end of a link from among others.
+/// Removes the first putting end of a link from a list and returns it.
 fn take_partner(
     outs: &mut Vec<LinkEnd<PipeIn<Carried<Stretch>>>>,
     link: u16,
@@ -141,7 +141,7 @@ fn close_links(
     Ok(())
 }
 
-/// Closes the pipes of tables, place by place.
+/// Closes the pipes for tables, the two ends at each index together.
 fn close_tables(ins: Vec<PipeIn<Carried<Table>>>, outs: Vec<PipeOut<Carried<Table>>>)
     requires { map pipe_of_tables ins.items ≡ map pipe_of_tables outs.items }
     ensures { AreGivenBy ins.items outs.items }
@@ -155,10 +155,10 @@ fn close_tables(ins: Vec<PipeIn<Carried<Table>>>, outs: Vec<PipeOut<Carried<Tabl
     }
 }
 
-/// Closes all pipes of a run when its threads have ended: those on links between bridges, whose ends the workers have, and those
-/// of tables, whose putting ends stand by number of worker. It gives back the workers' reels, by worker. `Memory` where a growth
-/// is refused, and `ChannelLost` where there are fewer putting than taking ends of a link; then the ends and reels are gone. The
-/// workers' ends are of the pipe on their link, and the ends for tables of the workers' pipes, as `lay` gives them. It waits for nobody.
+/// Closes all pipes of a run after its threads have ended: those on links between bridges, whose ends the workers have, and those for
+/// tables, whose putting ends are given by worker number. Returns the workers' reels, by worker number. The workers' ends must be of the
+/// pipe on their link, and the ends for tables of the workers' pipes, as `lay` returns them. Returns `Memory` if an allocation fails, and
+/// `ChannelLost` if some link has fewer putting than taking ends; the ends and reels are then dropped. It doesn't block.
 pub fn close_pipes(
     alloc: Global,
     tables: Vec<PipeIn<Carried<Table>>>,

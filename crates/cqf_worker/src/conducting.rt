@@ -1,4 +1,4 @@
-//! The conductor: a whole run on threads.
+//! The conductor: a complete run on threads.
 ghost use Rattle.std.specs.Prelude.{◌≡◌, ◌≤◌, ◌+◌, ◌*◌, IfErr, IfOk, OnOk, length, map};
 ghost use Rattle.cqf_instants_run.specs.Taping.{BacksTheTapes, SomeTapedRun};
 ghost use Rattle.cqf_desk.specs.Closing.{IsClosed};
@@ -35,7 +35,7 @@ use std::alloc::Global;
 use std::sync::Wait;
 use std::thread::Threads;
 
-/// What a run is given beside its admission, its administrators and its cycles: a domain, what is offered at its bridges, and the background
+/// The inputs of a run besides its admission, its administrators and its cycles: a domain, the offers at its bridges, and the background
 /// frames of its links.
 #[derive(Clone, Copy)]
 struct GivenRun<'d, 'o, 'b> {
@@ -44,14 +44,14 @@ struct GivenRun<'d, 'o, 'b> {
     background: &'b [Background],
 }
 
-/// A run that is ready to begin: its desk, and what its threads begin with.
+/// A run that is ready to begin: its desk, and the initial state of its threads.
 #[derive(Drop)]
 struct PreparedRun {
     desk: Desk,
     ready: ReadyRun,
 }
 
-/// A desk of the admission with a seat for each administrator and one for the conductor.
+/// Returns a desk of the admission, with a seat for each administrator and one for the conductor.
 fn open_desk(
     alloc: Global,
     admission: Admission,
@@ -71,7 +71,7 @@ fn open_desk(
     Ok(made)
 }
 
-/// Gives each administrator its seat, and the conductor the one behind them.
+/// Gives each administrator its seat, and the conductor the next one.
 fn seat_each(
     alloc: Global,
     seats: Vec<Seat>,
@@ -96,7 +96,7 @@ fn seat_each(
     Ok((administrators, conductor))
 }
 
-/// The workers of the domain's bridges, with pipes between them.
+/// Returns the workers of the domain's bridges, with pipes between them.
 fn lay_all(alloc: Global, given: GivenRun<'_, '_, '_>, cycles: u32) -> Result<Laid, ConductFault>
     requires offers { AreOffers given.domain.now given.offers.now }
     requires few_offers { length given.offers.now ≤ most_rows }
@@ -108,7 +108,7 @@ fn lay_all(alloc: Global, given: GivenRun<'_, '_, '_>, cycles: u32) -> Result<La
     Ok(laid)
 }
 
-/// Makes all that a run begins with.
+/// Makes everything that a run needs to begin.
 fn prepare(
     alloc: Global,
     given: GivenRun<'_, '_, '_>,
@@ -165,7 +165,7 @@ fn shut_pipes(
     }
 }
 
-/// The account of a run whose threads have ended: it closes its pipes and its desk, and gathers its tapes.
+/// Returns the account of a run whose threads have ended: closes its pipes and its desk, and gathers its tapes.
 fn settle(
     alloc: Global,
     domain: &Domain,
@@ -191,7 +191,7 @@ fn settle(
     Ok(TapedAccount { history, tapes })
 }
 
-/// Puts on the tapes of a run of so many cycles what their links start of background frames.
+/// Adds the background frames that the links start in the first `cycles` cycles to the tapes of a run.
 fn back(
     alloc: Global,
     given: GivenRun<'_, '_, '_>,
@@ -216,18 +216,17 @@ fn back(
     )
 }
 
-/// Runs a network under administration: a thread for each bridge of the domain, one for each administrator, and the calling one,
-/// which closes the cycles. Administrator i makes its commands in order with seat i, while the bridges run; the cycles are closed
-/// with the next seat. What comes of it is one history and the tapes of one book, and the book is the one that the compiled gate lists
-/// demand for that history, whatever turns the threads took (IEEE 802.1Q, Annex T; history and book: profile). The tapes tell it with
-/// nothing to be sorted.
+/// Runs a network under administration. There is a thread for each bridge of the domain and one for each administrator; the calling thread
+/// closes the cycles. Administrator i makes its commands in order with seat i while the bridges run. The cycles are closed with the next
+/// seat. Returns one history and the tapes of one book. The book is the one that the compiled gate lists demand for that history, no matter
+/// how the threads were scheduled (IEEE 802.1Q, Annex T). It can be read off the tapes without sorting.
 ///
-/// The admission is for that domain and has no Seal yet. `cycles` is at most 100,000; there are at most 16,777,215 offers, each at a
-/// bridge of the domain, and 16,777,215 background frames, each on a link of it. Before each command and before each step of a bridge
-/// the pace is asked, while no lock is held. It waits until all threads have ended.
+/// The admission is for that domain and has no Seal yet. `cycles` is at most 100,000. There are at most 16,777,215 offers, each at a bridge of
+/// the domain, and at most 16,777,215 background frames, each on a link of it. The pace is called before each command and before each step
+/// of a bridge, while no lock is held. It waits until all threads have ended.
 ///
-/// Refused with the first fault in the order that [`ConductFault`] tells; then the history and the tapes are gone. `Bridge` and
-/// `BookDisagrees` never come, and `ChannelLost` never comes of a run over no cycles.
+/// On failure returns the first fault in the order given by [`ConductFault`]; the history and the tapes are then dropped. `Bridge` and
+/// `BookDisagrees` are never returned, and `ChannelLost` is never returned for a run of no cycles.
 pub fn conduct_tapes<R: Threads + Wait + Sync, P: Pace>(
     rt: &R,
     alloc: Global,
@@ -268,9 +267,9 @@ pub fn conduct_tapes<R: Threads + Wait + Sync, P: Pace>(
     Ok(account)
 }
 
-/// Runs a network as [`conduct_tapes`] does, of which it takes the same and is refused with the same, and gives the book that the tapes
-/// tell, in order: the one that the compiled gate lists demand for the history, whatever turns the threads took (IEEE 802.1Q, Annex T;
-/// history and book: profile). Refused too with `Memory` where the book has no room; then the history and the book are gone.
+/// Runs a network as [`conduct_tapes`] does, with the same inputs and the same faults, and returns the book in place of the tapes. The book
+/// is the one that the compiled gate lists demand for the history, no matter how the threads were scheduled (IEEE 802.1Q, Annex T). Also
+/// returns `Memory` if the book can't be allocated; the history and the book are then dropped.
 pub fn conduct<R: Threads + Wait + Sync, P: Pace>(
     rt: &R,
     alloc: Global,

@@ -8,19 +8,19 @@ use std::alloc::AllocFailed;
 use std::fmt;
 use thiserror::Error;
 
-/// Why a run on threads gives no account. Of several causes that its threads note, or that closing it has, it tells the first in the
-/// order Spawn, Memory, Bridge, ChannelLost, DeskDisagrees, BookDisagrees; a run that can't begin, or whose threads failed, is
-/// not closed. It prints as its name, and then its values.
+/// Why a run on threads gives no account. If several causes were noted by its threads, or arise when the run is closed, the fault is the
+/// first in the order Spawn, Memory, Bridge, ChannelLost, DeskDisagrees, BookDisagrees. A run that can't begin, or whose threads failed, is
+/// not closed. A fault prints as its name followed by its values.
 #[derive(Clone, Copy, Debug, PartialEq, Eq, Drop, Error)]
 pub enum ConductFault {
-    /// A growth was refused outside a bridge.
+    /// An allocation failed outside a bridge.
     Memory,
-    /// This bridge refused a cycle, for this reason: of those that did, the one with the least number. No run tells it: a worker has no
-    /// bridge that refuses.
+    /// This bridge refused a cycle, for this reason; the bridge with the lowest number if several did. No run returns it: a worker's bridge
+    /// never refuses.
     Bridge(u16, BridgeFault),
     /// The desk's history isn't that of its seats, or had no room for a call or a Seal.
     DeskDisagrees,
-    /// The book isn't that of its bridges. No run tells it: what a bridge sends and drops stands nowhere but on its own reel.
+    /// The book isn't that of its bridges. No run returns it: what a bridge sends and drops is recorded only on its own reel.
     BookDisagrees,
     /// An end of a pipe was gone, though no thread has failed.
     ChannelLost,
@@ -43,7 +43,7 @@ impl fmt::Display for ConductFault {
     }
 }
 
-/// Want of memory, as a fault.
+/// Converts an allocation failure into a fault.
 impl From<Memory> for ConductFault {
     ghost use Rattle.cqf_worker.specs.declared.faults.ConductFault.TheVariants as variant;
 
@@ -54,7 +54,7 @@ impl From<Memory> for ConductFault {
     }
 }
 
-/// Want of room for a value, likewise.
+/// Likewise converts a failed allocation of a value.
 impl<T: Drop> From<AllocFailed<T>> for ConductFault {
     ghost use Rattle.cqf_worker.specs.declared.faults.ConductFault.TheVariants as variant;
 
@@ -65,7 +65,7 @@ impl<T: Drop> From<AllocFailed<T>> for ConductFault {
     }
 }
 
-/// A fault's place in the order in which faults are told.
+/// Returns a fault's rank in the order in which faults are reported.
 fn place_of(fault: ConductFault) -> u8
     ensures { result ≡ rank fault }
 {
@@ -79,7 +79,7 @@ fn place_of(fault: ConductFault) -> u8
     }
 }
 
-/// Whether a fault is told before another: by its place, and of two bridges the one with the lesser number.
+/// Returns whether a fault is reported before another one: by rank, and of two bridges the one with the lower number.
 fn comes_before(one: ConductFault, other: ConductFault) -> bool
     ensures { result ≡ is_before one other }
 {
@@ -92,14 +92,14 @@ fn comes_before(one: ConductFault, other: ConductFault) -> bool
 /// What has gone wrong in a run so far.
 #[derive(Clone, Copy, Debug, Drop)]
 pub struct Faults {
-    /// The fault to be told first.
+    /// The fault to report.
     pub first: Option<ConductFault>,
-    /// Whether a thread ended before its time for no cause of its own.
+    /// Whether a thread ended early for no cause of its own.
     pub is_stopped: bool,
 }
 
 impl Faults {
-    /// Nothing has gone wrong.
+    /// Returns the state in which nothing has gone wrong.
     pub fn none() -> Faults
         ensures { IsClean result }
     {
@@ -109,8 +109,8 @@ impl Faults {
         }
     }
 
-    /// Notes a fault. Of it and the one noted before, the one that [`ConductFault`] tells first stays, and of two that stand alike
-    /// the one noted before.
+    /// Notes a fault. Of this fault and the one noted before, keeps the one that comes first in the order of [`ConductFault`], and the
+    /// earlier one if they have the same rank.
     pub fn note(&mut self, fault: ConductFault)
         ensures first { self.new.first ≡ Some (first_noted self.old.first fault) }
         ensures stopped { self.new.is_stopped ≡ self.old.is_stopped }
@@ -121,15 +121,14 @@ impl Faults {
         };
     }
 
-    /// A thread has ended before its time for no cause of its own.
+    /// Notes that a thread ended early for no cause of its own.
     pub fn note_stop(&mut self)
         ensures { self.new ≡ record self.old { is_stopped = true } }
     {
         self.is_stopped = true;
     }
 
-    /// The fault that is told, if anything has gone wrong: where no thread failed, but one ended before its time, an end of a pipe
-    /// was lost.
+    /// Returns the fault to report, if anything has gone wrong. If no thread failed but one ended early, this is `ChannelLost`.
     pub fn told(self) -> Option<ConductFault>
         ensures told { result ≡ is_noted self }
         ensures clean { IfNone result (IsClean self) }

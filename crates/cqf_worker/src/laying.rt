@@ -17,14 +17,15 @@ use cqf_worker_loops::{Bell, Carried, LinkEnd, PipeIn, PipeOut, Worker, pipe_bet
 use std::alloc::Global;
 use std::sync::Arc;
 
-/// What the threads of a run begin with: a worker for each bridge, by number, and the ends at which their tables are put, likewise.
+/// The initial state of a run's threads: a worker for each bridge, and the ends at which the workers' tables are put, both by bridge
+/// number.
 #[derive(Drop)]
 pub struct Laid {
     pub workers: Vec<Worker>,
     pub tables: Vec<PipeIn<Carried<Table>>>,
 }
 
-/// What a bridge is offered; background frames stand on the tapes in the end.
+/// Returns a bridge's offers by cycle. Background frames are left out: they are added to the tapes at the end.
 fn agenda_of(
     alloc: Global,
     domain: &Domain,
@@ -38,7 +39,7 @@ fn agenda_of(
     Ok(agenda)
 }
 
-/// A bridge's worker with no ports, and the end at which its tables are put.
+/// Returns a bridge's worker with no ports, and the end at which its tables are put.
 fn ready_worker(
     alloc: Global,
     domain: &Arc<Domain>,
@@ -72,7 +73,7 @@ fn ready_worker(
     Ok((worker, putting))
 }
 
-/// The workers of all bridges with no ports, and the ends at which their tables are put.
+/// Returns the workers of all bridges with no ports, and the ends at which their tables are put.
 fn ready_workers(
     alloc: Global,
     domain: &Domain,
@@ -97,7 +98,7 @@ fn ready_workers(
     Ok(Laid { workers, tables })
 }
 
-/// Gives a worker a port at which it puts.
+/// Adds a port to a worker at which it puts.
 fn add_out(worker: &mut Worker, port: LinkEnd<PipeIn<Carried<Stretch>>>) -> Result<(), Memory>
     ensures { OnOk result (HasOut worker.old worker.new port) }
 {
@@ -105,7 +106,7 @@ fn add_out(worker: &mut Worker, port: LinkEnd<PipeIn<Carried<Stretch>>>) -> Resu
     Ok(())
 }
 
-/// Gives a worker a port at which it takes.
+/// Adds a port to a worker at which it takes.
 fn add_in(worker: &mut Worker, port: LinkEnd<PipeOut<Carried<Stretch>>>) -> Result<(), Memory>
     ensures { OnOk result (HasIn worker.old worker.new port) }
 {
@@ -140,7 +141,7 @@ fn lay_pipe(
     Ok(())
 }
 
-/// Lays a pipe on a link, where it ends in a bridge.
+/// Lays a pipe on a link if the link ends in a bridge.
 fn lay_link(
     alloc: Global,
     domain: &Domain,
@@ -175,9 +176,10 @@ fn lay_links(alloc: Global, domain: &Domain, workers: &mut Vec<Worker>) -> Resul
     Ok(())
 }
 
-/// The workers of all bridges of a domain, by number, which have done nothing and are to go through so many cycles: on each link between two bridges a
-/// pipe from the one's worker to the other's, and a pipe for tables to each worker, whose putting ends stand by number too. There are
-/// fewer than 2^32 offers, each at a bridge of the domain. `Memory` where a growth is refused.
+/// Returns the workers of all bridges of a domain, by number, which have done nothing and have `cycles` cycles to go through. On each link
+/// between two bridges there is a pipe from one bridge's worker to the other's. Each worker also has a pipe for tables; the putting ends of
+/// these are returned by number too. There are fewer than 2^32 offers, each at a bridge of the domain. Returns `Memory` if an allocation
+/// fails.
 pub fn lay(alloc: Global, domain: &Domain, offers: &[Offer], cycles: u32) -> Result<Laid, Memory>
     requires few_offers { length offers.now < 2 ^ 32 }
     requires offers { AreOffers domain.now offers.now }

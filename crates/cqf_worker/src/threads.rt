@@ -1,4 +1,4 @@
-//! The threads of a run: one a bridge, one an administrator, and the conductor's own.
+//! The threads of a run: one per bridge, one per administrator, and the conductor's own.
 ghost use Rattle.std.specs.Prelude.{◌≡◌, ◌≤◌, [], All, IfErr, IfOk, List, Ok, Result, Some, map};
 ghost use Rattle.std.specs.List.{AllZip};
 ghost use Rattle.cqf_desk.specs.Desk.{Sitting};
@@ -33,8 +33,8 @@ pub struct Administrator {
     pub commands: Vec<Command>,
 }
 
-/// What the threads of a run begin with: the workers of all bridges and the ends at which their tables are put, both by number,
-/// the administrators by number, and the conductor's seat.
+/// The initial state of a run's threads: the workers of all bridges and the ends at which their tables are put, both by number, the
+/// administrators by number, and the conductor's seat.
 #[derive(Drop)]
 pub struct ReadyRun {
     pub workers: Vec<Worker>,
@@ -43,7 +43,7 @@ pub struct ReadyRun {
     pub conductor: Seat,
 }
 
-/// What they have in the end: the workers again, the administrators' seats, both by number, and what the conductor has.
+/// The final state of a run's threads: the workers and the administrators' seats, both by number, and what the conductor has.
 #[derive(Drop)]
 pub struct EndedRun {
     pub workers: Vec<Worker>,
@@ -51,20 +51,20 @@ pub struct EndedRun {
     pub sealed: Sealed,
 }
 
-/// What the threads of a run share: what they do before each call and step, the desk at which administrators call and cycles are
-/// closed, and how many cycles each worker is to go through.
+/// What the threads of a run share: what they call before each call and step, the desk at which administrators call and cycles are closed,
+/// and how many cycles each worker goes through.
 struct Shared<'s, P> {
     pace: &'s P,
     desk: &'s Desk,
     cycles: u32,
 }
 
-/// That a worker's thread gives what its work promises, also where it gives up.
+/// The promise that a worker's thread does its part, or returns what a worker that gives up returns.
 #[derive(Drop)]
 pub struct OfWorker {
-    /// How many cycles it goes through.
+    /// How many cycles the worker goes through.
     pub cycles: u32,
-    /// The worker as it began.
+    /// The worker in its initial state.
     pub worker: Snapshot<Worker>,
 }
 
@@ -74,7 +74,7 @@ impl Promise<Result<Worker, GaveUp>> for OfWorker {
     ghost kept_by = { λ p r. AnswersWorker p.cycles p.worker.value r };
 }
 
-/// That an administrator's thread makes its commands with its seat.
+/// The promise that an administrator's thread makes its commands with its seat.
 #[derive(Drop)]
 struct OfAdministrator {
     administrator: Snapshot<Administrator>,
@@ -92,9 +92,10 @@ pub type Working = PromisedHandle<Result<Worker, GaveUp>, OfWorker>;
 /// An administrator's thread.
 type Calling = PromisedHandle<Result<Seat, Unmade>, OfAdministrator>;
 
-/// Starts a thread for each worker, with this to go through; the handles stand in the workers' order. `Spawn` where one can't be
-/// started, `Memory` where its handle can't be kept: the workers that aren't started are let go of. Those that were started go on,
-/// and their scope waits for them, so the caller has to tell them that no table comes (`stop_tables`), or to let go of the ends.
+/// Starts a thread for each worker, to go through `cycles` cycles, and returns the handles in the workers' order. Returns `Spawn` if a
+/// thread can't be started, and `Memory` if its handle can't be kept. The workers that weren't started are then dropped. Those that were
+/// started go on, and their scope waits for them. So the caller must then notify them that no tables follow (`stop_tables`), or drop the
+/// ends.
 pub fn start_workers<'s, E, R: Threads + Wait + Sync, P: Pace>(
     alloc: Global,
     scope: &'s Scope<'s, E>,
@@ -144,7 +145,7 @@ fn call_all<R: Wait, P: Pace>(
     make_calls(rt, pace, desk, number, seat, commands)
 }
 
-/// Starts a thread for each administrator, in the same way.
+/// Starts a thread for each administrator, likewise.
 fn start_administrators<'s, E, R: Threads + Wait + Sync, P: Pace>(
     alloc: Global,
     scope: &'s Scope<'s, E>,
@@ -176,7 +177,7 @@ fn start_administrators<'s, E, R: Threads + Wait + Sync, P: Pace>(
     Ok(handles)
 }
 
-/// Notes why a bridge's worker gave up: none of its own where it was stopped.
+/// Notes why a bridge's worker gave up: no fault of its own if it was stopped.
 fn note_worker(faults: &mut Faults, why: GaveUp)
     ensures some { IsClean faults.new → ⊥ }
     ensures told { faults.new ≡ noted faults.old (fault_of_worker why) }
@@ -198,7 +199,7 @@ fn note_caller(faults: &mut Faults, why: Unmade)
     }
 }
 
-/// Notes why the conductor gave up: no fault of its own where a worker had ended before.
+/// Notes why the conductor gave up: no fault of its own if a worker had ended before.
 fn note_conductor(faults: &mut Faults, fault: SealingFault)
     ensures some { IsClean faults.new → ⊥ }
     ensures told { faults.new ≡ noted faults.old (fault_of_conductor fault) }
@@ -210,7 +211,7 @@ fn note_conductor(faults: &mut Faults, fault: SealingFault)
     }
 }
 
-/// Keeps what a thread gave behind what others did, or notes `Memory` where it can't be kept.
+/// Appends what a thread returned to what others returned, or notes `Memory` if it can't be kept.
 fn keep<T: Drop>(given: T, kept: &mut Vec<T>, faults: &mut Faults)
     ensures { KeepsGiven faults.old faults.new kept.old.items kept.new.items given }
 {
@@ -220,7 +221,7 @@ fn keep<T: Drop>(given: T, kept: &mut Vec<T>, faults: &mut Faults)
     }
 }
 
-/// Waits for a worker's thread. Where it notes no fault, the worker stands behind the others.
+/// Waits for a worker's thread. If it notes no fault, it appends the worker to the others.
 fn join_worker<R: Threads + Wait>(
     rt: &R,
     handle: Working,
@@ -236,9 +237,9 @@ fn join_worker<R: Threads + Wait>(
     }
 }
 
-/// Waits for all workers' threads, and gives the workers that come back, in the handles' order. It notes the fault of each that gave
-/// up, in that order, or that it was stopped, where it has none of its own, and `Memory` where a worker can't be kept. Where nothing
-/// has gone wrong in the end, nor before, all are there, and each has done its part.
+/// Waits for all workers' threads, and returns the workers that come back, in the handles' order. For each worker that gave up it notes, in
+/// that order, the fault, or a stop if the worker has no fault of its own. It notes `Memory` if a worker can't be kept. If nothing has gone
+/// wrong in the end, nothing had before, all workers are returned, and each has done its part.
 pub fn join_workers<R: Threads + Wait>(
     rt: &R,
     alloc: Global,
@@ -258,7 +259,7 @@ pub fn join_workers<R: Threads + Wait>(
     workers
 }
 
-/// Waits for an administrator's thread, in the same way.
+/// Waits for an administrator's thread, likewise.
 fn join_administrator<R: Threads + Wait>(
     rt: &R,
     handle: Calling,
@@ -317,7 +318,7 @@ fn start_all<'s, E, R: Threads + Wait + Sync, P: Pace>(
     Ok((working, calling))
 }
 
-/// Closes the cycles, and hands their tables on. Where this isn't done, the conductor's seat and ends are let go of.
+/// Closes the cycles and passes their tables on. If this fails, it drops the conductor's seat and ends.
 fn seal_each<R: Wait>(
     rt: &R,
     alloc: Global,
@@ -339,8 +340,8 @@ fn seal_each<R: Wait>(
     }
 }
 
-/// Starts all threads, closes the cycles while they run, and waits for them. Where one can't be started, or memory is refused, it
-/// tells the workers that no table comes any more: those that were started end then, and it waits for none.
+/// Starts all threads, closes the cycles while they run, and waits for them. If a thread can't be started or an allocation fails, it
+/// notifies the workers that no tables follow. Those that were started then end, and it waits for none of them.
 fn run_in<'s, E, R: Threads + Wait + Sync, P: Pace>(
     alloc: Global,
     scope: &'s Scope<'s, E>,
@@ -378,7 +379,8 @@ fn run_in<'s, E, R: Threads + Wait + Sync, P: Pace>(
     }
 }
 
-/// What the threads have in the end, if nothing has gone wrong; else the first fault of those that were noted and the conductor's.
+/// Returns what the threads have in the end, if nothing has gone wrong; else the first of the faults that were noted and the conductor's
+/// fault.
 fn all_ended(
     mut faults: Faults,
     workers: Vec<Worker>,
@@ -407,11 +409,11 @@ fn all_ended(
     }
 }
 
-/// Runs the threads: each worker goes through all cycles and each administrator makes its commands on a thread of its own, while
-/// this one closes the cycles and hands their tables on. There are at most 100,000 cycles, and nothing is done yet: no seat has calls, and
-/// nothing was put. It returns when all threads have ended: `Spawn` where a thread couldn't be started, `Memory` where its handle
-/// couldn't be kept, and else the first fault in the order of [`ConductFault`], if there is one, which is never that of a bridge. Then
-/// all that was ready is gone. It waits for threads, pipes and locks.
+/// Runs the threads. Each worker goes through all cycles and each administrator makes its commands on a thread of its own, while this
+/// thread closes the cycles and passes their tables on. There are at most 100,000 cycles, and nothing is done yet: no seat has calls, and
+/// nothing was put. It returns when all threads have ended. Returns `Spawn` if a thread couldn't be started, `Memory` if its handle
+/// couldn't be kept, and else the first fault in the order of [`ConductFault`], if there is one; this is never a bridge's fault. On failure
+/// everything in `ready` is dropped. It waits for threads, pipes and locks.
 pub fn run_threads<R: Threads + Wait + Sync, P: Pace>(
     rt: &R,
     alloc: Global,

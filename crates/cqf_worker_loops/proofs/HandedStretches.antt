@@ -1,4 +1,4 @@
--- A bridge on its thread hands on what its links have sent.
+-- A bridge on its thread passes on what its links have sent.
 use Rattle.std.proofs.Common.{◌≡◌, ◌∙◌, ℕ, ◌+◌, ◌<◌, ◌≤◌, Bool, true, false, List, [], ◌∷◌, ◌++◌, Some, All, Contains, Result, Ok, Err, IfErr}
 use Rattle.std.proofs.Common.{length, length-append, map, set, set-set, get_or, refl, sym, ap, subst, arith, inl, inr, append-nil, option_map}
 use Rattle.std.specs.Prelude.{◌⊎◌, filter, if◌then◌else◌, nat_lt, slice_get, take, OnErr, OnOk}
@@ -40,7 +40,7 @@ use Rattle.cqf_worker_loops.proofs.Ports.{made_of_some, member_of_set, next_more
 use Rattle.cqf_worker_loops.proofs.Stopping.{CarriesItems, items_and_one}
 use Rattle.cqf_worker_loops.proofs.UnderWay.{IsHandedAt, come_same, handed_still, may_same, takes_under_way}
 
--- a port with a stretch more, that may come next
+-- a port with one more stretch, which may come next
 put_more : (told : ℕ) (port : StretchPort) (stretch : Stretch) → HasPut told port → IsNextStretch told stretch → told < stretch.upto →
     HasPut stretch.upto (with_item_at port (Item stretch))
 put_more told port stretch put next more =
@@ -62,7 +62,7 @@ module _ (t : Offering) (number place k : ℕ) (before after : Worker) (port : S
   abbrev new_port : StretchPort
   new_port = with_item_at port (Item stretch)
 
-  -- its links are those of before
+  -- its links are the same as before
   links_put : map link_of after.outs.items ≡ links_onward t.domain number
   links_put = ap (map link_of) outs ∙ map_kept link_of before.outs.items k port new_port there refl ∙ way.links_out
 
@@ -87,7 +87,7 @@ module _ (t : Offering) (number place k : ℕ) (before after : Worker) (port : S
         | inr old ↦ old
       ]
 
-  -- the link is the one that has handed on
+  -- the link is the one that has passed on
   outlet_of_link : (o : Outlet) → Contains after.relay.outlets.items o → o.tape.link ≡ hands.outlet.tape.link → o ≡ hands.handed
   outlet_of_link o held same =
       let own : slice_get after.relay.outlets.items place ≡ Some hands.handed =
@@ -106,20 +106,20 @@ module _ (t : Offering) (number place k : ℕ) (before after : Worker) (port : S
         | inr old ↦ old
       ]
 
-  -- the link was one of the bridge's
+  -- the link was one of the bridge's links
   outlet_there : Contains before.relay.outlets.items hands.outlet
   outlet_there = contains_at before.relay.outlets.items place hands.outlet hands.was
 
-  -- the stretch may come next, behind what it had handed on, and ends where the link has sent
+  -- the stretch may come next after those already passed on, and ends at the cycle that the link has reached
   stretch_is_next : IsNextStretch hands.outlet.told stretch
   stretch_is_next = hands.is_next (All-contains IsTidy before.relay.outlets.items hands.outlet way.tidy outlet_there)
 
-  -- and ends within the cycles
+  -- and that is within the worker's cycles
   stretch_within : stretch.upto ≤ before.relay.cycles
   stretch_within =
       omega (arith, hands.takes.upto, All-contains (IsWithin before.relay.cycles) before.relay.outlets.items hands.outlet way.within outlet_there)
 
-  -- so through each port went what its link has handed on
+  -- so through each port went what its link has passed on
   put_with_stretch : (p : StretchPort) (o : Outlet) → Contains after.outs.items p → Contains after.relay.outlets.items o → p.link ≡ o.tape.link → HasPut o.told p
   put_with_stretch p o held here same = elim (cases_eq o.tape.link hands.outlet.tape.link) [
     | inl own ↦
@@ -132,11 +132,11 @@ module _ (t : Offering) (number place k : ℕ) (before after : Worker) (port : S
     | inr apart ↦ way.outs p o (port_of_other p held (λ e. apart (sym same ∙ e))) (outlet_of_other o here apart) same
   ]
 
-  -- what has come is the same
+  -- what has arrived is the same
   same_come : come_to after ≡ come_to before
   same_come = come_same before after agenda tables ins
 
-  -- of each cycle that the link has handed on now went through its port what it sent
+  -- what the link sent went through its port, for each cycle that the link has now passed on
   handed_with_stretch : (sends : Sendings) → StandsSo t.domain (come_to before) sends before.relay →
       IsHandedAt t before.outs.items sends hands.outlet.tape.link hands.outlet.told →
       IsHandedAt t after.outs.items sends hands.outlet.tape.link stretch.upto
@@ -182,7 +182,7 @@ module _ (t : Offering) (number place k : ℕ) (before after : Worker) (port : S
             ]
       ]
 
-  -- so each link has handed on what it tells
+  -- so each link has passed on the cycles that it records
   each_handed : (sends : Sendings) → StandsSo t.domain (come_to before) sends before.relay → All (HasHandedOn t before sends) before.relay.outlets.items →
       (o : Outlet) → Contains after.relay.outlets.items o → HasHandedOn t after sends o
   each_handed sends stands handed o here = elim (cases_eq o.tape.link hands.outlet.tape.link) [
@@ -204,7 +204,7 @@ module _ (t : Offering) (number place k : ℕ) (before after : Worker) (port : S
         }
   ]
 
-  -- and its bridge stands by what has come
+  -- and its bridge is in the state that follows from what has arrived
   stands_with_put : MayHaveComeTo t after → HasComeSoFar t number after
   stands_with_put may =
       let so = way.come (may_same before after agenda tables ins t may) in
@@ -218,7 +218,7 @@ module _ (t : Offering) (number place k : ℕ) (before after : Worker) (port : S
             (subst (λ edge. AreDropsOf t.domain number (come_to before) before.relay.tables edge.drops.items) (sym hands.same.edge) so.drops));
       }
 
-  -- each wire says whether its link ends in a bridge, also that of the link that has handed on
+  -- each wire says whether its link ends in a bridge, also that of the link that has passed on
   wires_put : All (λ (o : Outlet). o.wire.onward ≡ is_onward t.domain o.tape.link) after.relay.outlets.items
   wires_put =
       let says : Outlet → Type 0 = λ o. o.wire.onward ≡ is_onward t.domain o.tape.link in
@@ -251,7 +251,7 @@ module _ (t : Offering) (number place k : ℕ) (before after : Worker) (port : S
     come = stands_with_put;
   }
 
--- a worker goes on with a bridge that hands a stretch on
+-- a worker goes on if its bridge passes a stretch on
 pub goes_with_put : (place k : ℕ) (before after : Worker) (port : StretchPort) (stretch : Stretch) (at : HandsOnAt place k before) →
     HandsOn place before.relay after.relay stretch → port ≡ at.at → after.outs.items ≡ set before.outs.items k (with_item_at port (Item stretch)) →
     after.agenda ≡ before.agenda → after.tables ≡ before.tables → after.ins ≡ before.ins → GoesFurther before after
@@ -275,18 +275,18 @@ goes_with_put place k before after port stretch at hands is outs agenda tables i
           (ap (λ ports. ports.items) ins);
     }
 
--- ---- a stretch that couldn't be handed on
+-- ---- a stretch that couldn't be passed on
 
 module _ (place told : ℕ) (older between after : Relay) (stretch : Stretch) (hands : HandsOn place older between stretch)
     (keeps : KeepsBack place told stretch between after) (by_then : slice_get (told_by older) place ≡ Some told) where
-  -- a bridge that has it back has handed on as much as before
+  -- a bridge that gets it back has passed on as much as before
   pub told_again : told_by after ≡ told_by older
   told_again =
       keeps.told_by_then ∙ ap (λ (xs : List ℕ). set xs place told) hands.told ∙ set-set (told_by older) place stretch.upto told
       ∙ ap (set (told_by older) place) (sym (get_or_from_slice_get (told_by older) place told told by_then))
       ∙ set-get_or (told_by older) place told
 
-  -- and is the same
+  -- and is otherwise the same
   pub stays_again : StaysAs older after
   stays_again = record {
     domain = keeps.same.domain ∙ hands.same.domain;
@@ -303,16 +303,16 @@ module _ (place told : ℕ) (older between after : Relay) (stretch : Stretch) (h
         subst (All (IsWithin older.cycles)) (sym keeps.is) (All-set (IsWithin older.cycles) between.outlets.items place keeps.kept kept now);
   }
 
--- a worker goes on with a bridge that stays as it was but for what it takes in
+-- a worker goes on if its bridge changes only by what it takes in
 module _ (before after : Worker) (stays : StaysAs before.relay after.relay) (told : told_by after.relay ≡ told_by before.relay)
     (same_tables : after.relay.tables ≡ before.relay.tables) (same_drops : after.relay.edge.drops ≡ before.relay.edge.drops)
     (agenda : after.agenda ≡ before.agenda) (tables : after.tables ≡ before.tables) (ins : after.ins.items ≡ before.ins.items)
     (outs : after.outs.items ≡ before.outs.items) where
-  -- the same has come
+  -- the same has arrived
   come_still : come_to after ≡ come_to before
   come_still = come_same before after agenda (ap (λ end. end.items) tables) ins
 
-  -- where its links have sent this, and in the cycles that they have handed on the same as before, it is under way
+  -- the worker is under way if its links have sent this, and the same as before in the cycles that they have passed on
   pub goes_with_same :
       ((t : Offering) (number : ℕ) (sends : Sendings) → IsUnderWay t number before → MayHaveComeTo t before →
       StandsSo t.domain (come_to before) sends before.relay →
@@ -354,7 +354,7 @@ module _ (before after : Worker) (stays : StaysAs before.relay after.relay) (tol
         });
   }
 
--- so it does with one that has a stretch back
+-- so it does if the bridge gets a stretch back
 pub goes_with_back : (place told : ℕ) (before after : Worker) (between : Relay) (stretch back : Stretch) → HandsOn place before.relay between stretch →
     KeepsBack place told back between after.relay → back ≡ stretch → slice_get (told_by before.relay) place ≡ Some told → after.agenda ≡ before.agenda →
     after.tables ≡ before.tables → after.ins.items ≡ before.ins.items → after.outs.items ≡ before.outs.items → GoesFurther before after
@@ -366,7 +366,7 @@ goes_with_back place told before after between stretch back hands kept is by_the
     (λ t number sends way may stands.
     (sends, keeps.again before.relay hands by_then t.domain (come_to before) sends stands, λ outlet held cycle early. refl))
 
--- and with one whose links have gone on
+-- and if the bridge's links have gone on
 pub goes_with_sends : (before after : Worker) → GoesOnAlone before.relay after.relay → after.agenda ≡ before.agenda → after.tables ≡ before.tables →
     after.ins ≡ before.ins → after.outs ≡ before.outs → GoesFurther before after
 goes_with_sends before after goes agenda tables ins outs =
@@ -385,7 +385,7 @@ goes_with_sends before after goes agenda tables ins outs =
           ∙ get_or_append_left (sends outlet.tape.link) more.0 [] cycle (omega (arith, early, of.handed, of.as_far)),
     ))
 
--- and one whose bridge is the same, with the same taken and put
+-- and if the bridge, and what was taken and put, are the same
 pub goes_as_before : (before after : Worker) → after.relay ≡ before.relay → after.agenda ≡ before.agenda → after.tables ≡ before.tables →
     after.ins.items ≡ before.ins.items → after.outs.items ≡ before.outs.items → GoesFurther before after
 goes_as_before before after relay agenda tables ins outs =
@@ -395,16 +395,16 @@ goes_as_before before after relay agenda tables ins outs =
     ins outs (λ t number sends way may stands.
     (sends, subst (StandsSo t.domain (come_to before) sends) (sym relay) stands, λ outlet held cycle early. refl))
 
--- ---- where it gives up
+-- ---- if the worker gives up
 
--- a port goes on from a link that ends in another bridge
+-- a port is that of a link of the bridge that ends in another bridge
 pub record HasOutlet (t : Offering) (w : Worker) (port : StretchPort) : Type 0 where
   pub outlet : Outlet
   pub there : Contains w.relay.outlets.items outlet
   pub link : port.link ≡ outlet.tape.link
   pub onward : is_onward t.domain port.link ≡ true
 
--- each does
+-- and so is each port
 pub outlet_of_port : (t : Offering) (number : ℕ) (w : Worker) (port : StretchPort) → IsUnderWay t number w → Contains w.outs.items port → HasOutlet t w port
 outlet_of_port t number w port way held =
     let one : Contains (links_onward t.domain number) port.link =
@@ -414,7 +414,7 @@ outlet_of_port t number w port way held =
     (subst (λ (links : List ℕ). Contains links port.link) (sym way.outlets) from.0) in
     record { outlet = out.0; there = out.1; link = sym out.2; onward = from.1 }
 
--- at each as many stretches were put as there are cycles at most
+-- at each port at most as many stretches were put as there are cycles
 pub few_put : (t : Offering) (number : ℕ) (w : Worker) (port : StretchPort) → IsUnderWay t number w → Contains w.outs.items port →
     length port.pipe.items ≤ most_cycles
 few_put t number w port way held =
@@ -433,7 +433,7 @@ stretches_put t number w port way held =
     let from = outlet_of_port t number w port way held in
     (way.outs port from.outlet held from.there from.link).items
 
--- a worker that has put nothing more has put stretches alone
+-- a worker that has put nothing more has put only stretches
 pub nothing_put : (before after : Worker) → SomeUnderWay before → after.outs.items ≡ before.outs.items → HasPutStretches before after
 nothing_put before after some outs = record {
   outs = ap wires_of outs;
@@ -444,7 +444,7 @@ nothing_put before after some outs = record {
       omega (arith, few_put some.traffic some.number before port some.is held)));
 }
 
--- and so has one that has put a stretch at a port, or not
+-- and so has one that may have put a stretch at a port
 pub maybe_put : (before after : Worker) (k : ℕ) (port new : StretchPort) (stretch : Stretch) → SomeUnderWay before → slice_get before.outs.items k ≡ Some port →
     after.outs.items ≡ set before.outs.items k new → new.link ≡ port.link → new.pipe.pipe ≡ port.pipe.pipe →
     (new.pipe.items ≡ port.pipe.items) ⊎ (new.pipe.items ≡ port.pipe.items ++ Item stretch ∷ []) → HasPutStretches before after
@@ -468,16 +468,16 @@ maybe_put before after k port new stretch some there outs link pipe may =
           (All-set (λ (it : StretchPort). length it.pipe.items < most_items) before.outs.items k new room so.room);
     }
 
--- ---- steps one behind the other
+-- ---- consecutive steps
 
--- at first a worker has not gone on
+-- at first a worker is unchanged
 pub goes_nowhere : (w : Worker) → GoesFurther w w
 goes_nowhere w = record {
   same = record { number = refl; cycles = refl; agenda = refl; tables = refl; ins = refl; outs = refl };
   way = λ t number way. way;
 }
 
--- and then step by step
+-- and then it goes on step by step
 pub goes_further : (first between after : Worker) → GoesFurther first between → GoesFurther between after → GoesFurther first after
 goes_further first between after early late = record {
   same = record {
@@ -499,27 +499,27 @@ some_further before after some goes = record {
   is = goes.way some.traffic some.number some.is;
 }
 
--- and where it gives up then it has put stretches alone
+-- if it then gives up, it has put only stretches
 pub put_further : (first between after : Worker) → GoesFurther first between → HasPutStretches between after → HasPutStretches first after
 put_further first between after goes put = record { outs = put.outs ∙ goes.same.outs; items = put.items; room = put.room }
 
--- as it has where it has put nothing more since it went on
+-- and so it has if it has put nothing more since it went on
 pub gives_up : (first between after : Worker) → SomeUnderWay first → GoesFurther first between → after.outs.items ≡ between.outs.items →
     HasPutStretches first after
 gives_up first between after some goes outs =
     put_further first between after goes (nothing_put between after (some_further first between some goes) outs)
 
--- what is so is so where there is a fault
+-- a fact holds also if there is a fault
 pub on_fault : {V F : Type 0} (result : Result V F) (P : Type 0) → P → OnErr result P
 on_fault (Ok v) P so = tt
 on_fault (Err fault) P so = so
 
--- where a call does one thing, and another with a fault, it does either
+-- if a call does one thing on success and another with a fault, it does either
 pub either_way : {V F : Type 0} (result : Result V F) (P Q : Type 0) → OnOk result P → IfErr result (λ fault. Q) → Q ⊎ P
 either_way (Ok v) P Q done failed = inr done
 either_way (Err fault) P Q done failed = inl failed
 
--- up to which cycle the link at a place has handed on
+-- the cycle up to which the link at an index has passed on
 pub told_there : (outlets xs : List Outlet) (place : ℕ) (outlet read : Outlet) (told : ℕ) → slice_get outlets place ≡ Some outlet → xs ≡ outlets →
     read ≡ get_or xs place read → told ≡ read.told → slice_get (map (λ (o : Outlet). o.told) outlets) place ≡ Some told
 told_there outlets xs place outlet read told there same is by =
@@ -529,14 +529,14 @@ told_there outlets xs place outlet read told there same is by =
     ∙ ap (option_map (λ (o : Outlet). o.told)) there
     ∙ ap Some (sym (by ∙ ap (λ (o : Outlet). o.told) own))
 
--- a port at which nothing was put is as it was
+-- a port at which nothing was put is unchanged
 pub port_same : (ports : List StretchPort) (k : ℕ) (port : StretchPort) (new : End (Carried Stretch)) → port ≡ get_or ports k port → new.pipe ≡ port.pipe.pipe →
     new.items ≡ port.pipe.items → set ports k (record { link = port.link; pipe = new }) ≡ ports
 port_same ports k port new is pipe same =
     ap (λ (end : End (Carried Stretch)). set ports k (record { link = port.link; pipe = end })) (λ i. record { pipe = pipe i; items = same i })
     ∙ ap (set ports k) is ∙ set-get_or ports k port
 
--- and one at which an item was put has it more
+-- a port at which an item was put has one more
 pub port_more : (ports : List StretchPort) (k : ℕ) (port : StretchPort) (new : End (Carried Stretch)) (stretch : Stretch) → new.pipe ≡ port.pipe.pipe →
     new.items ≡ port.pipe.items ++ Item stretch ∷ [] → set ports k (record { link = port.link; pipe = new }) ≡ set ports k (with_item_at port (Item stretch))
 port_more ports k port new stretch pipe more =
@@ -549,7 +549,7 @@ back_of refused inner back stretch full item is =
     let same : Item back ≡ Item stretch = sym item ∙ ap item_back (sym full) ∙ is in
     cc
 
--- a bridge that has handed a stretch on has as many links
+-- a bridge that has passed a stretch on has the same number of links
 pub outlets_inside : (place : ℕ) (before after : Relay) (outlet : Outlet) → StaysAs before after → slice_get before.outlets.items place ≡ Some outlet →
     place < length after.outlets.items
 outlets_inside place before after outlet stays there =
@@ -559,20 +559,20 @@ outlets_inside place before after outlet stays there =
       as_long link_out link_out after.outlets.items before.outlets.items stays.links_out,
     )
 
--- the port at a place
+-- the port at an index
 pub port_there : (ports : List StretchPort) (k : ℕ) (port : StretchPort) → k < length ports → port ≡ get_or ports k port → slice_get ports k ≡ Some port
 port_there ports k port inside is = slice_get-get_or ports k port inside ∙ ap Some (sym is)
 
--- a worker that has gone on takes by as many ports
+-- a worker that has gone on has the same number of ports in
 pub ports_still : (before after : Worker) → GoesFurther before after → length after.ins.items ≡ length before.ins.items
 ports_still before after goes = as_long wire_at wire_at after.ins.items before.ins.items goes.same.ins
 
--- and its bridge by as many inlets
+-- and its bridge the same number of inlets
 pub inlet_inside : (w : Worker) (place : ℕ) → SomeUnderWay w → place < length w.ins.items → place < length w.relay.inlets.items
 inlet_inside w place some inside =
     omega (arith, inside, as_long link_of link_in w.ins.items w.relay.inlets.items (some.is.links_in ∙ sym some.is.inlets))
 
--- its bridge has as many links
+-- and the same number of links
 pub outlets_still : (before after : Worker) → SomeUnderWay before → GoesFurther before after →
     length after.relay.outlets.items ≡ length before.relay.outlets.items
 outlets_still before after some goes =
@@ -581,7 +581,7 @@ outlets_still before after some goes =
 
 -- ---- the port of the next link that ends in another bridge
 
--- how many are kept of one element more
+-- how many elements are kept of one element more
 pub rank_more : {X : Type 0} (keeps : X → Bool) (xs : List X) (place : ℕ) (d : X) → place < length xs →
     rank keeps xs (place + 1) ≡ rank keeps xs place + (if keeps (get_or xs place d) then 1 else 0)
 rank_more {X} keeps xs place d inside =
@@ -590,14 +590,14 @@ rank_more {X} keeps xs place d inside =
     ∙ length-append (filter keeps (take place xs)) (filter keeps (get_or xs place d ∷ []))
     ∙ ap (λ (n : ℕ). rank keeps xs place + n) (one (keeps (get_or xs place d)))
   where
-    -- one, where it is kept
+    -- one, if it is kept
     one : (b : Bool) → length (if b then get_or xs place d ∷ [] else []) ≡ (if b then 1 else 0)
     one true = refl
     one false = refl
 
 module _ (t : Offering) (number place : ℕ) (w : Worker) (way : IsUnderWay t number w) (xs : List Outlet) (read : Outlet)
     (all : xs ≡ w.relay.outlets.items) (is : read ≡ get_or xs place read) (inside : place < length w.relay.outlets.items) where
-  -- the link at a place
+  -- the link at an index
   outlet_at : slice_get w.relay.outlets.items place ≡ Some read
   outlet_at = slice_get-get_or w.relay.outlets.items place read inside
       ∙ ap Some (sym (is ∙ ap (λ (os : List Outlet). get_or os place read) all))
@@ -620,13 +620,13 @@ module _ (t : Offering) (number place : ℕ) (w : Worker) (way : IsUnderWay t nu
       all_at (λ (o : Outlet). o.wire.onward ≡ is_onward t.domain o.tape.link) w.relay.outlets.items place read way.wires outlet_at
       ∙ ap (is_onward t.domain) (sym number_read)
 
-  -- the next port, behind the link
+  -- the port of the next link that ends in another bridge
   pub next_port : (port : ℕ) → port ≡ rank (is_onward t.domain) (links_from t.domain number) place →
       port + (if read.wire.onward then 1 else 0) ≡ rank (is_onward t.domain) (links_from t.domain number) (place + 1)
   next_port port so =
       (λ i. so i + (if onward_read i then 1 else 0)) ∙ sym (rank_more (is_onward t.domain) (links_from t.domain number) place 0 number_inside)
 
-  -- and what the link hands on goes by the port
+  -- and what the link passes on goes through the port
   pub hands_on_at : (port : ℕ) → port ≡ rank (is_onward t.domain) (links_from t.domain number) place → read.wire.onward ≡ true → read.told < read.sent →
       HandsOnAt place port w
   hands_on_at port so onward more =
@@ -639,12 +639,12 @@ module _ (t : Offering) (number place : ℕ) (w : Worker) (way : IsUnderWay t nu
       (sym (slice_get-map link_of w.outs.items port) ∙ ap (λ (links : List ℕ). slice_get links port) way.links_out ∙ there) in
       record { outlet = read; there = outlet_at; onward = onward; more = more; at = at.0; its_port = at.1; same_link = at.2 }
 
--- one link is one at most
+-- one link adds at most one port
 pub one_at_most : (b : Bool) → (if b then 1 else 0) ≤ 1
 one_at_most true = omega arith
 one_at_most false = omega arith
 
--- what follows from what is so where all went well is so there
+-- what follows from a success holds if there was one
 pub on_done : {V F : Type 0} (result : Result V F) (P Q : Type 0) → (P → Q) → OnOk result P → OnOk result Q
 on_done (Ok v) P Q gives so = gives so
 on_done (Err fault) P Q gives so = tt

@@ -1,4 +1,4 @@
--- Ends of pipes at each of which items are put, in turn, passing over those whose other end is gone.
+-- Ends of pipes: items are put at each in turn, skipping those whose other end is gone.
 use Rattle.std.proofs.Common.{ℕ, ◌≡◌, ◌<◌, ◌≤◌, ◌+◌, ◌⊎◌, ◌++◌, Bool, List, length, get_or, set, refl, sym, ap, ◌∙◌, arith, inl, inr}
 use Rattle.std.specs.Prelude.{All, true, false}
 use Rattle.std.proofs.lemmas.Bool.{cases_Bool, cases_eq, false≢true}
@@ -9,7 +9,7 @@ use Rattle.cqf_worker_loops.specs.PipeEnds.{End}
 use Rattle.cqf_worker_loops.specs.Rows.{MayGet, with_items}
 use Rattle.cqf_worker_loops.specs.PipeRule.{most_items}
 
--- the first ends, so many, have the items more where all have them; those behind are as they were
+-- the first count ends have the new items if all got them; the later ends are unchanged
 pub record HandsOn {T : Type 0} (xs : List T) (before after : List (End T)) (count : ℕ) (all : Bool) : Type 0 where
   pub many : length after ≡ length before
   pub pipes : pipes_of after ≡ pipes_of before
@@ -22,7 +22,7 @@ pub record IsHanded {T : Type 0} (xs : List T) (before after : End T) (given : B
   pub got : MayGet xs before after
   pub has : given ≡ true → after.items ≡ before.items ++ xs
 
--- the items that were put are known by what they equal
+-- the items that were put, replaced by equal ones
 pub handed_as : {T : Type 0} (xs ys : List T) (before after : End T) (given : Bool) → ys ≡ xs → (given ≡ true → after ≡ with_items before ys) →
     (given ≡ false → after ≡ before) → IsHanded xs before after given
 handed_as {T} xs ys before after given same has gone = record {
@@ -33,7 +33,7 @@ handed_as {T} xs ys before after given same has gone = record {
   has = λ is. ap (λ (e : End T). e.items) (has is) ∙ ap (λ (zs : List T). before.items ++ zs) same;
 }
 
--- the end stays that pipe's
+-- the end is still that of the pipe
 same_pipe : {T : Type 0} (xs : List T) (before after : End T) → MayGet xs before after → after.pipe ≡ before.pipe
 same_pipe {T} xs before after may =
     elim may [
@@ -41,7 +41,7 @@ same_pipe {T} xs before after may =
       | inr more ↦ ap (λ (e : End T). e.pipe) more
     ]
 
--- ends by what they equal
+-- ends, replaced by equal ones
 got_as : {T : Type 0} (xs : List T) (before after was now : End T) → before ≡ was → now ≡ after → MayGet xs before after → MayGet xs was now
 got_as {T} xs before after was now is_was is_now may =
     elim may [
@@ -49,11 +49,11 @@ got_as {T} xs before after was now is_was is_now may =
       | inr more ↦ inr (is_now ∙ more ∙ ap (λ (e : End T). with_items e xs) is_was)
     ]
 
--- where not all have it, one of the first ends is as it was
+-- if not all got the items, one of the first ends is unchanged
 abbrev pub MissesFirst : {T : Type 0} → List (End T) → List (End T) → ℕ → Bool → Type 0
 MissesFirst {T} before after count all = all ≡ false → (place : ℕ) × (place < count) × ((d : End T) → get_or after place d ≡ get_or before place d)
 
--- whether all have it, by whether those before have and whether this one has
+-- whether all got them, by whether those before did and whether this one did
 abbrev pub HaveAll : Bool → Bool → Bool → Type 0
 HaveAll all given more = more ≡ true → (all ≡ true) × (given ≡ true)
 
@@ -68,11 +68,11 @@ module _ {T : Type 0} (xs : List T) where
     given = λ all place d h. absurd (omega (arith, h));
   }
 
-  -- and all have that
+  -- and all got that
   pub misses_none : (before : List (End T)) → MissesFirst before before 0 true
   misses_none before is = absurd (false≢true (sym is))
 
-  -- the same where it isn't asked whether all have it
+  -- the same if it doesn't matter whether all got them
   pub hands_some : (before : List (End T)) → HandsOn xs before before 0 false
   hands_some before = record {
     many = refl;
@@ -84,11 +84,11 @@ module _ {T : Type 0} (xs : List T) where
 
   module _ (before after : List (End T)) (count : ℕ) (all : Bool) (d end : End T) (given more : Bool) (so_far : HandsOn xs before after count all)
       (below : count < length before) (handed : IsHanded xs (get_or after count d) end given) (have : HaveAll all given more) where
-    -- the end at a place, with the next one put there
+    -- the end at an index, after the items were put at the next one
     at_next : (e : End T) → get_or (set after count end) count e ≡ end
     at_next e = get_or-set_same after count end e (omega (arith, below, so_far.many))
 
-    -- each end has the items more, or nothing
+    -- each end has the new items, or nothing new
     some_next : GivesSome xs before (set after count end)
     some_next place e inside =
         elim (cases_eq place count) [
@@ -103,7 +103,7 @@ module _ {T : Type 0} (xs : List T) where
               (so_far.some place e inside)
         ]
 
-    -- each of those so far has the items where all have
+    -- each of those so far has the items if all got them
     given_next : more ≡ true → (place : ℕ) (e : End T) → place < count + 1 → (get_or (set after count end) place e).items ≡ (get_or before place e).items ++ xs
     given_next is place e inside =
         elim (cases_eq place count) [
@@ -127,7 +127,7 @@ module _ {T : Type 0} (xs : List T) where
       given = given_next;
     }
 
-  -- where the next one isn't handed them, or one before wasn't, one of those so far is as it was
+  -- if the next end or one before wasn't given them, one of those so far is unchanged
   pub misses_next : (before after : List (End T)) (count : ℕ) (all : Bool) (d end : End T) (given more : Bool) → HandsOn xs before after count all →
       count < length before → MissesFirst before after count all → (given ≡ false → end ≡ get_or after count d) →
       (more ≡ false → (all ≡ false) ⊎ (given ≡ false)) → MissesFirst before (set after count end) (count + 1) more
@@ -147,7 +147,7 @@ module _ {T : Type 0} (xs : List T) where
         )
       ]
 
-  -- in the end, so it is of all
+  -- at the end it holds of all
   pub hands_all : (before after : List (End T)) (count : ℕ) (all : Bool) → HandsOn xs before after count all → length before ≤ count → all ≡ true →
       GivesEach xs before after
   hands_all before after count all h upto is place d inside = h.given is place d (omega (arith, inside, upto))

@@ -11,18 +11,18 @@ use Rattle.cqf_worker_loops.specs.declared.pipe_rule.PipeLog.{PipeLog}
 use Rattle.cqf_worker_loops.specs.PipeRule.{FitsPass, IsPut, IsRest, IsTaken, Piped, bundle_items, items_of, log, most_items}
 
 module _ {T : Type 0} where
-  -- what stands at a place of a list with one more, and stood at none before, stands at its end
+  -- an element of an extended list that wasn't in the original at the same index is at the end
   at_end : (l : List (PipeLog T)) (a b : PipeLog T) (j : ℕ) → get_elem? l j ≢ some b → get_elem? (l ++ a ∷ []) j ≡ some b → j ≡ length l
   at_end [] a b zero n e = refl
   at_end [] a b (suc j) n e = absurd (some-ne-none b (sym e))
   at_end (x ∷ xs) a b zero n e = absurd (n e)
   at_end (x ∷ xs) a b (suc j) n e = ap suc (at_end xs a b j n e)
 
-  -- so it is of each view, by the pass's number
+  -- what holds of each view, by the pass's number
   abbrev Each : (ℕ → PipeLog T → Type 0) → List (PipeLog T) → Type 0
   Each F views = (pass : ℕ) (v : PipeLog T) → get_elem? views pass ≡ some v → F pass v
 
-  -- so it is once one view is another, where it is of that one, and was of the others
+  -- it holds of each after one view is replaced, if it holds of the new one and held of the others
   each_set : (F : ℕ → PipeLog T → Type 0) (views : List (PipeLog T)) (pass : ℕ) (w : PipeLog T) → F pass w
       → ((j : ℕ) (u : PipeLog T) → j ≢ pass → get_elem? views j ≡ some u → F j u) → Each F (set views pass w)
   each_set F views pass w mine others j u e = ⊎_elim (λ (x : (j ≡ pass) × (w ≡ u)). subst (λ (y : ℕ × PipeLog T). F y.0 y.1) (λ i. (sym x.0 i, x.1 i)) mine)
@@ -41,12 +41,12 @@ module _ {T : Type 0} where
         (λ j u other e. absurd (other (at_end [] _ u j (λ x. some-ne-none u (sym x)) e)));
   }
 
-  -- one bundle more brings its items behind those of the others
+  -- one more bundle adds its items after those of the others
   items_snoc : (held : List (Bundle T)) (x : Bundle T) → items_of (held ++ x ∷ []) ≡ items_of held ++ bundle_items x
   items_snoc [] x = append-nil (bundle_items x)
   items_snoc (b ∷ bs) x = ap (λ l. bundle_items b ++ l) (items_snoc bs x) ∙ sym (append_assoc (bundle_items b) (items_of bs) (bundle_items x))
 
-  -- sending: a bundle more was put, and waits behind the others
+  -- sending: one more bundle was put, and waits after the others
   pub sends : (n pass : ℕ) (v : PipeLog T) (x : Bundle T) → v.puts ≡ true → length v.put + length x.behind.items < most_items
       → Pushes Piped n pass v x (IsPut v x)
   sends n pass v x may room items views _ h at =
@@ -118,7 +118,7 @@ module _ {T : Type 0} where
             (at_snoc vs r u j e);
       }
 
-  -- joining a pass: what the one has put, and the other taken, stands in one view
+  -- joining a pass: what one has put and the other has taken is in one view
   pub merges : (pass : ℕ) (v : PipeLog T) (other : ℕ) (u : PipeLog T) → v.puts ≡ true → u.takes ≡ true
       → Merges Piped pass v other u (log true true v.put u.taken) (log false false [] [])
   merges pass v other u a b items views h at two at' =

@@ -20,20 +20,20 @@ use Rattle.cqf_worker_loops.specs.declared.carried.Carried.TheVariants.{Item}
 use Rattle.cqf_worker_loops.specs.Rows.{wire_at, wires_of, with_item_at}
 use Rattle.cqf_worker_loops.specs.Workers.{IsUnused, StretchPort, item_in, items_in, link_of, links_onward, stretches_at, stretches_in}
 
--- ---- lists of which two things are made alike
+-- ---- lists from which two functions make the same
 
--- what is there is made of something there
+-- a member is made of some member of the other list
 pub made_of_some : {Y Z : Type 0} (g : Y → Z) (o : Option Y) (z : Z) → option_map g o ≡ Some z → (y : Y) × (o ≡ Some y) × (g y ≡ z)
 made_of_some g None z is = cc
 made_of_some g (Some y) z is = (y, refl, same_Some (g y) z is)
 
--- what of two lists that are made alike stands at a place
+-- the elements of two such lists at an index
 pub record IsPartner {X Y Z : Type 0} (f : X → Z) (g : Y → Z) (ys : List Y) (k : ℕ) (x : X) : Type 0 where
   pub other : Y
   pub there : slice_get ys k ≡ Some other
   pub alike : g other ≡ f x
 
--- where the same is made of two lists, each element of the one has its partner in the other
+-- if the same list is made of two lists, each element of the one has its counterpart in the other
 pub partner : {X Y Z : Type 0} (f : X → Z) (g : Y → Z) (xs : List X) (ys : List Y) (k : ℕ) (x : X) → map f xs ≡ map g ys → slice_get xs k ≡ Some x →
     IsPartner f g ys k x
 partner {X} {Y} {Z} f g xs ys k x same there =
@@ -42,24 +42,24 @@ partner {X} {Y} {Z} f g xs ys k x same there =
     let some = made_of_some g (slice_get ys k) (f x) made in
     record { other = some.0; there = some.1; alike = some.2 }
 
--- and what stands at one place of both is made alike
+-- the elements at one index of both are made alike
 pub alike_at : {X Y Z : Type 0} (f : X → Z) (g : Y → Z) (xs : List X) (ys : List Y) (k : ℕ) (x : X) (y : Y) → map f xs ≡ map g ys →
     slice_get xs k ≡ Some x → slice_get ys k ≡ Some y → f x ≡ g y
 alike_at f g xs ys k x y same here there =
     let p = partner f g xs ys k x same here in
     sym (ap g (same_Some y p.other (sym there ∙ p.there)) ∙ p.alike)
 
--- they are as long
+-- both have the same length
 pub as_long : {X Y Z : Type 0} (f : X → Z) (g : Y → Z) (xs : List X) (ys : List Y) → map f xs ≡ map g ys → length xs ≡ length ys
 as_long f g xs ys same = sym (length-map xs f) ∙ ap length same ∙ length-map ys g
 
--- a member of a list of which one element is another is that one, or was there
+-- a member of a list with one element replaced is the new element, or was a member before
 pub member_of_set : {X : Type 0} (xs : List X) (k : ℕ) (y x : X) → Contains (set xs k y) x → (x ≡ y) ⊎ Contains xs x
 member_of_set {X} xs k y x held =
     let at = place_of_member (set xs k y) x held in
     stands xs k at.0 at.1
   where
-    -- what stands at a place is the other one, or stood there
+    -- the element at an index is the new one, or was there before
     stands : (xs : List X) (k j : ℕ) → slice_get (set xs k y) j ≡ Some x → (x ≡ y) ⊎ Contains xs x
     stands [] k j is = inr (contains_at [] j x is)
     stands (z ∷ xs) zero zero is = inl (sym (same_Some y x is))
@@ -72,7 +72,7 @@ member_of_set {X} xs k y x held =
 
 -- ---- links, each once
 
--- the links that end in a bridge, that leave it, and that end in another, ascend
+-- the numbers of the links that end in a bridge, that leave it, and that end in another bridge ascend
 pub into_ascends : (d : Domain) (bridge : ℕ) → AllPairs (λ (a b : ℕ). a < b) (links_into d bridge)
 into_ascends d bridge = numbers_ascend (λ l. enters d l bridge) (length d.links)
 
@@ -83,15 +83,15 @@ pub onward_ascends : (d : Domain) (bridge : ℕ) → AllPairs (λ (a b : ℕ). a
 onward_ascends d bridge = AllPairs-filter (λ (a b : ℕ). a < b) (is_onward d) (links_from d bridge) (from_ascends d bridge)
 
 module _ {X : Type 0} (key : X → ℕ) where
-  -- elements by key, each key once
+  -- elements with distinct keys
   abbrev pub Ascend : List X → Type 0
   Ascend xs = AllPairs (λ (a b : X). key a < key b) xs
 
-  -- where the keys ascend, the elements do
+  -- if the keys ascend, so do the elements
   pub ascend_by : (xs : List X) (keys : List ℕ) → map key xs ≡ keys → AllPairs (λ (a b : ℕ). a < b) keys → Ascend xs
   ascend_by xs keys same up = pairs_from_map (λ (a b : ℕ). a < b) key xs (subst (AllPairs (λ (a b : ℕ). a < b)) (sym same) up)
 
-  -- of each key there is one
+  -- there is one element of each key
   pub one_of_key : (xs : List X) (x y : X) → Ascend xs → Contains xs x → Contains xs y → key x ≡ key y → x ≡ y
   one_of_key xs x y up here there same =
       one_of_pairs (λ (a b : X). key a < key b) xs x y up here there (λ l. omega (arith, l, same)) (λ l. omega (arith, l, same))
@@ -102,7 +102,7 @@ module _ {X : Type 0} (key : X → ℕ) where
 pub items_in_more : {T : Type 0} (carried : List (Carried T)) (x : T) → items_in (carried ++ Item x ∷ []) ≡ items_in carried ++ x ∷ []
 items_in_more carried x = flat_map-append item_in carried (Item x ∷ [])
 
--- what went through a port of ports each of another link went through the port of its link
+-- if each port is of another link, what went through a port went through the port of its link
 pub stretches_at_port : (ports : List StretchPort) (port : StretchPort) → Ascend link_of ports → Contains ports port → stretches_at ports port.link ≡ stretches_in port
 stretches_at_port [] port up held = absurd (contains_none port held)
 stretches_at_port (p ∷ ports) port up held = elim (contains_cases p ports port held) [
@@ -114,7 +114,7 @@ stretches_at_port (p ∷ ports) port up held = elim (contains_cases p ports port
       ∙ stretches_at_port ports port (pairs_tail (λ (a b : StretchPort). a.link < b.link) p ports up) rest
 ]
 
--- a stretch more at the port of a link is one more there
+-- one more stretch at the port of a link is one more at that link
 pub stretches_at_own : (ports : List StretchPort) (k : ℕ) (port : StretchPort) (stretch : Stretch) → Ascend link_of ports → slice_get ports k ≡ Some port →
     stretches_at (set ports k (with_item_at port (Item stretch))) port.link ≡ stretches_at ports port.link ++ stretch ∷ []
 stretches_at_own [] k port stretch up there = absurd (contains_none port (contains_at [] k port there))
@@ -131,7 +131,7 @@ stretches_at_own (p ∷ ports) (suc k) port stretch up there =
     ∙ stretches_at_own ports k port stretch (pairs_tail (λ (a b : StretchPort). a.link < b.link) p ports up) there
     ∙ sym (ap (λ (stretches : List Stretch). stretches ++ stretch ∷ []) (cond-false (p.link == port.link) (stretches_in p) (stretches_at ports port.link) apart))
 
--- and changes nothing of other links
+-- and changes nothing at other links
 pub stretches_at_other : (ports : List StretchPort) (k : ℕ) (port : StretchPort) (stretch : Stretch) (l : ℕ) → slice_get ports k ≡ Some port → (port.link ≡ l → ⊥) →
     stretches_at (set ports k (with_item_at port (Item stretch))) l ≡ stretches_at ports l
 stretches_at_other [] k port stretch l there apart = refl
@@ -142,17 +142,17 @@ stretches_at_other (p ∷ ports) zero port stretch l there apart =
 stretches_at_other (p ∷ ports) (suc k) port stretch l there apart =
     ap (λ (stretches : List Stretch). if p.link == l then stretches_in p else stretches) (stretches_at_other ports k port stretch l there apart)
 
--- through unused ports none went
+-- no stretches went through unused ports
 pub none_at : (ports : List StretchPort) (l : ℕ) → All IsUnused ports → stretches_at ports l ≡ []
 none_at [] l unused = refl
 none_at (p ∷ ports) l unused = none (p.link == l) (none_at ports l (λ k d inside. unused (suc k) d (omega (arith, inside))))
   where
-    -- neither here nor there
+    -- neither at this port nor at the others
     none : (b : Bool) → stretches_at ports l ≡ [] → (if b then stretches_in p else stretches_at ports l) ≡ []
     none true rest = ap items_in (unused 0 p (omega arith))
     none false rest = rest
 
--- ---- stretches one behind the other
+-- ---- consecutive stretches
 
 -- one more that may come next
 pub next_more : (begin : ℕ) (stretches : List Stretch) (stretch : Stretch) → AreNextStretches begin stretches → IsNextStretch (end_of_stretches begin stretches) stretch →
@@ -160,23 +160,23 @@ pub next_more : (begin : ℕ) (stretches : List Stretch) (stretch : Stretch) →
 next_more begin [] stretch are next = (next, tt)
 next_more begin (x ∷ stretches) stretch are next = (are.0, next_more x.upto stretches stretch are.1 next)
 
--- those before the last may come, and the last next behind them
+-- those before the last may come, and the last may come next
 pub next_front : (begin : ℕ) (stretches : List Stretch) (stretch : Stretch) → AreNextStretches begin (stretches ++ stretch ∷ []) →
     AreNextStretches begin stretches × IsNextStretch (end_of_stretches begin stretches) stretch
 next_front begin [] stretch are = (tt, are.0)
 next_front begin (x ∷ stretches) stretch are = let rest = next_front x.upto stretches stretch are.1 in ((are.0, rest.0), rest.1)
 
--- they end where the last ends
+-- they end where the last one ends
 pub end_more : (begin : ℕ) (stretches : List Stretch) (stretch : Stretch) → end_of_stretches begin (stretches ++ stretch ∷ []) ≡ stretch.upto
 end_more begin [] stretch = refl
 end_more begin (x ∷ stretches) stretch = end_more x.upto stretches stretch
 
--- and its frames stand behind those before
+-- the frames of the last one follow those of the others
 pub frames_more : (stretches : List Stretch) (stretch : Stretch) → all_frames (stretches ++ stretch ∷ []) ≡ all_frames stretches ++ frames_of stretch
 frames_more stretches stretch =
     flat_map-append frames_of stretches (stretch ∷ []) ∙ ap (λ (xs : List ArrivedFrame). all_frames stretches ++ xs) (append-nil (frames_of stretch))
 
--- a port keeps its wire, its link and that it carries items, whatever item it gets
+-- with one more item a port keeps its wire and its link, and still carries only items
 pub wires_with : (ports : List StretchPort) (k : ℕ) (port : StretchPort) (stretch : Stretch) → slice_get ports k ≡ Some port →
     wires_of (set ports k (with_item_at port (Item stretch))) ≡ wires_of ports
 wires_with [] k port stretch there = refl

@@ -25,7 +25,7 @@ use Rattle.cqf_worker_loops.proofs.Each.{written_back}
 use Rattle.cqf_worker_loops.proofs.Stopping.{HasItems, items_or_none, items_then_stop}
 use Rattle.cqf_worker_loops.specs.PipeRule.{most_items}
 
--- what a Seal leaves with a seat
+-- the effect of a Seal on a seat
 pub seals_as : (old new : Sitting) (table : CycleTable) → new ≡ with_seal old table → SealsOne old new table
 seals_as old new table is = record {
   number = ap (λ (s : Sitting). s.number) is;
@@ -44,7 +44,7 @@ seals_one old new table last copy is newest copied =
     let same : copy ≡ table = copied ∙ same_Some last table (newest ∙ there) in
     subst (SealsOne old new) (sym same) (seals_as old new table is)
 
--- at first no cycle is closed, and then one more behind so many
+-- at first no cycle is closed; then one more after the others
 pub seals_nothing : (seat : Sitting) (tables : List CycleTable) → tables ≡ [] → SealsMany 0 seat seat tables
 seals_nothing seat tables none = record {
   number = refl;
@@ -53,7 +53,7 @@ seals_nothing seat tables none = record {
   behind = sym (append-nil seat.tables) ∙ ap (λ (ts : List CycleTable). seat.tables ++ ts) (sym none);
 }
 
--- a Seal more, with its table
+-- one more Seal, with its table
 pub seals_more : (count : ℕ) (old now new : Sitting) (tables : List CycleTable) (table : CycleTable) → SealsMany count old now tables →
     SealsOne now new table → SealsMany (count + 1) old new (tables ++ table ∷ [])
 seals_more count old now new tables table many one = record {
@@ -64,7 +64,7 @@ seals_more count old now new tables table many one = record {
   behind = one.tables ∙ ap (λ (ts : List CycleTable). ts ++ table ∷ []) many.behind ∙ append_assoc old.tables tables (table ∷ []);
 }
 
--- so many are closed, and behind them more
+-- some cycles are closed, and then more
 seals_on : (count more : ℕ) (old now new : Sitting) (tables others : List CycleTable) → SealsMany count old now tables → SealsMany more now new others →
     SealsMany (count + more) old new (tables ++ others)
 seals_on count more old now new tables others one other = record {
@@ -76,25 +76,25 @@ seals_on count more old now new tables others one other = record {
   behind = other.behind ∙ ap (λ (ts : List CycleTable). ts ++ others) one.behind ∙ append_assoc old.tables tables others;
 }
 
--- a cycle alone is closed
+-- one cycle alone is closed
 seals_first : (old new : Sitting) (table : CycleTable) → SealsOne old new table → SealsMany 1 old new (table ∷ [])
 seals_first old new table one = record { number = one.number; acts = one.acts; many = refl; behind = one.tables }
 
--- one cycle is closed, and behind it so many
+-- one cycle is closed, and then the others
 pub seals_behind : (count : ℕ) (old now new : Sitting) (table : CycleTable) (tables : List CycleTable) → 0 < count → SealsOne old now table →
     SealsMany (count - 1) now new tables → SealsMany count old new (table ∷ tables)
 seals_behind count old now new table tables some one many =
     let all : 1 + (count - 1) ≡ count = omega (arith, some) in
     subst (λ (n : ℕ). SealsMany n old new (table ∷ tables)) all (seals_on 1 (count - 1) old now new (table ∷ []) tables (seals_first old now table one) many)
 
--- want of memory is none of the other causes
+-- an allocation failure is none of the other faults
 not_spent : Memory ≡ CyclesSpent → ⊥
 not_spent is = absurd cc
 
 not_lost : Memory ≡ Lost → ⊥
 not_lost is = absurd cc
 
--- the cause of a refused Seal is none of the conductor's own
+-- the reason of a refused Seal is never that a worker ended
 pub seal_not_lost : (refused : SealFault) → fault_of_seal refused ≡ Lost → ⊥
 seal_not_lost seal.CyclesSpent is = absurd cc
 seal_not_lost seal.Memory is = absurd cc
@@ -110,7 +110,7 @@ some_none old new refused fault same is = record {
   not_lost = λ lost. seal_not_lost refused (sym is ∙ lost);
 }
 
--- so many are closed, and then memory is refused
+-- some cycles are closed, and then an allocation fails
 pub some_many : (count closed : ℕ) (old new : Sitting) (tables : List CycleTable) → SealsMany closed old new tables → closed ≤ count →
     SealsSome count old new Memory
 some_many count closed old new tables sealed upto = record {
@@ -122,11 +122,11 @@ some_many count closed old new tables sealed upto = record {
   not_lost = not_lost;
 }
 
--- one is closed, and its table can't be had
+-- one is closed, and its table can't be copied
 pub some_one : (old new : Sitting) (table : CycleTable) → new ≡ with_seal old table → SealsSome 1 old new Memory
 some_one old new table is = some_many 1 1 old new (table ∷ []) (seals_first old new table (seals_as old new table is)) (omega arith)
 
--- so many are closed, and of those behind them some
+-- some cycles are closed, and then some of the others
 pub some_on : (count more all : ℕ) (old now new : Sitting) (tables : List CycleTable) (fault : SealingFault) → SealsMany count old now tables →
     SealsSome more now new fault → count + more ≤ all → SealsSome all old new fault
 some_on count more all old now new tables fault many some few = record {
@@ -138,18 +138,18 @@ some_on count more all old now new tables fault many some few = record {
   not_lost = some.not_lost;
 }
 
--- the first of so many
+-- the first one isn't closed
 pub some_first : (count : ℕ) (old new : Sitting) (fault : SealingFault) → SealsSome 1 old new fault → 0 < count → SealsSome count old new fault
 some_first count old new fault some few =
     some_on 0 1 count old old new [] fault (seals_nothing old [] refl) some (omega (arith, few))
 
--- or some of those behind it
+-- or only some of the later ones are
 pub some_behind : (count : ℕ) (old now new : Sitting) (table : CycleTable) (fault : SealingFault) → SealsOne old now table →
     SealsSome (count - 1) now new fault → 0 < count → SealsSome count old new fault
 some_behind count old now new table fault one some few =
     some_on 1 (count - 1) count old now new (table ∷ []) fault (seals_first old now table one) some (omega (arith, few))
 
--- so many cycles are closed so far, and where all workers were there, each has their tables
+-- the cycles so far are closed, and if all workers were there, each has their tables
 pub record IsSealing (seat : Sitting) (ends : List TableEnd) (count : ℕ) (now : Sitting) (after : List TableEnd) (all : Bool) : Type 0 where
   pub number : now.number ≡ seat.number
   pub acts : acts_of now.calls ≡ replicate count Seals
@@ -172,12 +172,12 @@ seals_none seat ends no_calls no_tables nothing = record {
   lacks = λ is. absurd (false≢true (sym is));
 }
 
--- ends of the same pipes are as many
+-- ends of the same pipes are of the same number
 as_many : (before after : List TableEnd) → pipes_of after ≡ pipes_of before → length after ≡ length before
 as_many before after pipes =
     sym (length-map after (λ (e : TableEnd). e.pipe)) ∙ ap length pipes ∙ length-map before (λ (e : TableEnd). e.pipe)
 
--- tables were put for some, or none
+-- tables were put for some workers, or none
 more_put : (more : ℕ) (after later : List TableEnd) → GivesTables more after later → (place : ℕ) (d : TableEnd) → place < length after →
     HasItems (get_or after place d) → HasItems (get_or later place d) × (length (get_or later place d).items ≤ length (get_or after place d).items + more)
 more_put more after later gives place d below was =
@@ -190,7 +190,7 @@ more_put more after later gives place d below was =
           (then.0, omega (arith, then.1, some.1))
     ]
 
--- and so behind so many cycles
+-- and so after the cycles before
 table_put : (seat : Sitting) (ends : List TableEnd) (count more : ℕ) (now : Sitting) (after later : List TableEnd) (all : Bool) →
     IsSealing seat ends count now after all → pipes_of later ≡ pipes_of after → GivesTables more after later → (place : ℕ) (d : TableEnd) →
     place < length later →
@@ -201,7 +201,7 @@ table_put seat ends count more now after later all s pipes gives place d inside 
     let then = more_put more after later gives place d below was.0 in
     (then.0, omega (arith, then.1, was.1))
 
--- where an end lacked one, or lacks one now, it lacks one behind so many more
+-- if an end lacked a table, or lacks one now, it lacks one after count more cycles
 lacks_next : (seat : Sitting) (ends : List TableEnd) (count more : ℕ) (now next : Sitting) (after later : List TableEnd) (all given have : Bool) →
     IsSealing seat ends count now after all → pipes_of later ≡ pipes_of after → GivesTables more after later → SealsBlock more now next after later given →
     0 < more → (have ≡ false → (all ≡ false) ⊎ (given ≡ false)) → have ≡ false → LacksOne later (count + more)
@@ -229,7 +229,7 @@ pub stop_room : (seat : Sitting) (ends : List TableEnd) (count more : ℕ) (now 
 stop_room seat ends count more now after later all s pipes gives few place d inside =
     omega (arith, (table_put seat ends count more now after later all s pipes gives place d inside).1, few)
 
--- and with it tables were put, and then at most one Stop
+-- and tables were put, and then at most one Stop
 then_stopped : (seat : Sitting) (ends : List TableEnd) (count more : ℕ) (now : Sitting) (after later last : List TableEnd) (all : Bool) →
     IsSealing seat ends count now after all → pipes_of later ≡ pipes_of after → GivesTables more after later → pipes_of last ≡ pipes_of later →
     GivesSome (Stop ∷ []) later last → All (λ (e : TableEnd). AreItemsThenStop e.items) last
@@ -255,19 +255,19 @@ told_stop seat ends count more now after first later before last n all s many is
     (then_stopped seat ends count more now after later last all s pipes_then (subst (λ (old : List TableEnd). GivesTables more old later) is gives) pipes_last
     (subst (λ (old : List TableEnd). GivesSome (Stop ∷ []) old last) told stopped))
 
--- where all cycles are closed there is none
+-- if all cycles are closed, none is left
 pub none_stopped : (seat : Sitting) (ends : List TableEnd) (count : ℕ) (now : Sitting) (after : List TableEnd) (all : Bool) →
     IsSealing seat ends count now after all → All (λ (e : TableEnd). AreItemsThenStop e.items) after
 none_stopped seat ends count now after all s place d inside =
     let items : HasItems (get_or after place d) = (s.put place d inside).0 in
     (items.0, inl items.1)
 
--- whether all have their tables, by whether they had them before and whether they were given those behind
+-- whether all have their tables, by whether they had the earlier ones and were given these
 pub record HaveThen (all given have : Bool) : Type 0 where
   pub had : have ≡ true → (all ≡ true) × (given ≡ true)
   pub lack : have ≡ false → (all ≡ false) ⊎ (given ≡ false)
 
--- then so many more
+-- then count more cycles
 pub seals_next : (seat : Sitting) (ends : List TableEnd) (count more : ℕ) (now next : Sitting) (after later : List TableEnd) (all given have : Bool) →
     IsSealing seat ends count now after all → pipes_of later ≡ pipes_of after → GivesTables more after later → SealsBlock more now next after later given →
     0 < more → HaveThen all given have → IsSealing seat ends (count + more) next later have
@@ -300,22 +300,22 @@ seals_back seat ends count more now next after first later n all given have s ma
     (subst (λ (old : List TableEnd). GivesTables more old later) is gives) (subst (λ (old : List TableEnd). SealsBlock more now next old later given) is block)
     some then)
 
--- each end has room for what is to come
+-- each end has room for what is still to be put
 pub seals_room : (seat : Sitting) (ends : List TableEnd) (count more : ℕ) (now : Sitting) (after : List TableEnd) (all : Bool) →
     IsSealing seat ends count now after all → count + more ≤ 100000 → All (λ (e : TableEnd). length e.items + more < most_items) after
 seals_room seat ends count more now after all s few place d inside = omega (arith, (s.put place d inside).1, few)
 
--- in the end all cycles are closed
+-- at the end all cycles are closed
 pub seals_all : (seat : Sitting) (ends : List TableEnd) (cycles : ℕ) (now : Sitting) (after : List TableEnd) (all : Bool) →
     IsSealing seat ends cycles now after all → all ≡ true → HasSealed cycles seat now ends after
 seals_all seat ends cycles now after all s is = record { number = s.number; acts = s.acts; many = s.many; pipes = s.pipes; given = s.given is }
 
--- whoever had the tables
+-- whether or not all have the tables
 pub seals_closed : (seat : Sitting) (ends : List TableEnd) (cycles : ℕ) (now : Sitting) (after : List TableEnd) (all : Bool) →
     IsSealing seat ends cycles now after all → HasClosed cycles seat now
 seals_closed seat ends cycles now after all s = record { number = s.number; acts = s.acts; many = s.many }
 
--- so many are closed, and of those behind them some
+-- the cycles before are closed, and some of the next ones
 pub closes_some : (seat : Sitting) (ends : List TableEnd) (count more cycles : ℕ) (now next : Sitting) (after : List TableEnd) (all : Bool)
     (fault : SealingFault) →
     IsSealing seat ends count now after all → SealsSome more now next fault → count + more ≤ cycles → ClosesSome cycles seat next fault
@@ -333,7 +333,7 @@ closes_some seat ends count more cycles now next after all fault s some few =
       not_lost = some.not_lost;
     }
 
--- a conductor that gives up with a fault that isn't of its workers
+-- a conductor that gives up with a fault other than a lost worker
 pub broken_off : (cycles : ℕ) (seat : Sitting) (before : List TableEnd) (left : Unsealed) → ClosesSome cycles seat left.conductor.seat left.fault →
     pipes_of left.conductor.tables.items ≡ pipes_of before → All (λ (end : TableEnd). AreItemsThenStop end.items) left.conductor.tables.items →
     HasBrokenOff cycles seat before left
@@ -361,10 +361,10 @@ broken_by_worker cycles seat before left is closed lacks pipes put = record {
   put = put;
 }
   where
-    -- it is one cause
+    -- there is only one fault
     lost_not_spent : (fault : SealingFault) → fault ≡ Lost → fault ≡ CyclesSpent → ⊥
     lost_not_spent fault lost spent = absurd cc
 
--- when none is left, all are closed
+-- when none is left, all cycles are closed
 pub none_left : (cycles left : ℕ) → left ≡ 0 → cycles - left ≡ cycles
 none_left cycles left none = omega (arith, none)

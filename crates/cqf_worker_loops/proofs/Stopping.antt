@@ -11,7 +11,7 @@ use Rattle.cqf_worker_loops.specs.Stops.{AreItems, AreItemsThenStop, AreStopped}
 use Rattle.cqf_worker_loops.proofs.Each.{written_back}
 
 module _ {T : Type 0} where
-  -- at an end items alone were put, and at a port
+  -- only items were put at an end, and at a port
   abbrev pub HasItems : End (Carried T) → Type 0
   HasItems end = AreItems end.items
 
@@ -22,7 +22,7 @@ module _ {T : Type 0} where
   pub items_and_one : (xs : List (Carried T)) (x : T) → AreItems xs → AreItems (xs ++ Item x ∷ [])
   items_and_one xs x h = (h.0 ++ x ∷ [], ap (λ (ys : List (Carried T)). ys ++ Item x ∷ []) h.1 ∙ sym (map-append Item h.0 (x ∷ [])))
 
-  -- a Stop behind them, or nothing
+  -- a Stop after them, or nothing
   pub items_then_stop : (before after : End (Carried T)) → HasItems before → MayGet (Stop ∷ []) before after → AreItemsThenStop after.items
   items_then_stop before after h may =
       elim may [
@@ -60,7 +60,7 @@ module _ {T : Type 0} where
         subst (All (λ (port : LinkEnd (End (Carried T))). AreItemsThenStop port.pipe.items)) (sym back) (ports_then_stop ports now all told items),
       )
 
-  -- a port at which a Stop was put, or nothing, has its wire still
+  -- a port at which a Stop was put, or nothing, still has its wire
   wire_kept : (before after : LinkEnd (End (Carried T))) → MayHaveGot Stop before after → wire_at after ≡ wire_at before
   wire_kept before after may =
       elim may [
@@ -68,7 +68,7 @@ module _ {T : Type 0} where
         | inr more ↦ ap wire_at more
       ]
 
-  -- and each of several
+  -- and so does each of several
   pub wires_kept : (before after : List (LinkEnd (End (Carried T)))) → length after ≡ length before → AreStopped before after → wires_of after ≡ wires_of before
   wires_kept [] [] same stopped = refl
   wires_kept [] (q ∷ after) same stopped = absurd (omega (arith, same))
@@ -86,7 +86,7 @@ module _ {T : Type 0} where
       let all : length now ≡ length ports = same ∙ ap length is in
       ap wires_of (written_back now ports n all many) ∙ wires_kept first now same stopped ∙ ap wires_of is
 
-  -- items more at an end, or nothing
+  -- more items at an end, or nothing
   pub items_or_none : (before after : End (Carried T)) (xs : List T) → HasItems before → MayGet (map Item xs) before after
       → HasItems after × (length after.items ≤ length before.items + length xs)
   items_or_none before after xs h may =

@@ -1,4 +1,4 @@
--- A bridge on its thread takes what came by a link.
+-- A bridge on its thread takes what arrived through a link.
 use Rattle.std.proofs.Common.{◌≡◌, ◌∙◌, ℕ, List, [], ◌∷◌, ◌++◌, Some, All}
 use Rattle.std.proofs.Common.{length, map, set, refl, sym, ap, subst, arith, inl, inr, eq-eqb, ne_eqb}
 use Rattle.std.specs.Prelude.{◌==◌, slice_get}
@@ -28,18 +28,18 @@ module _ (t : Offering) (number place : ℕ) (before after : Worker) (port : Str
     (there : slice_get before.ins.items place ≡ Some port) (ins : after.ins.items ≡ set before.ins.items place (with_item_at port (Item stretch)))
     (takes : TakesStretch place stretch before.relay after.relay) (agenda : after.agenda ≡ before.agenda) (tables : after.tables.items ≡ before.tables.items)
     (outs : after.outs.items ≡ before.outs.items) (way : IsUnderWay t number before) where
-  -- what came by the link ends with the stretch
+  -- what arrived through the link ends with the stretch
   stretch_by_link : stretches_at after.ins.items port.link ≡ stretches_at before.ins.items port.link ++ stretch ∷ []
   stretch_by_link =
       ap (λ (ports : List StretchPort). stretches_at ports port.link) ins
       ∙ stretches_at_own before.ins.items place port stretch
       (ascend_by link_of before.ins.items (links_into t.domain number) way.links_in (into_ascends t.domain number)) there
 
-  -- and by each other one it is the same
+  -- and through each other link it is the same
   same_by_others : (l : ℕ) → (port.link ≡ l → ⊥) → stretches_at after.ins.items l ≡ stretches_at before.ins.items l
   same_by_others l apart = ap (λ (ports : List StretchPort). stretches_at ports l) ins ∙ stretches_at_other before.ins.items place port stretch l there apart
 
-  -- up to which cycle it came
+  -- the cycle up to which it arrived
   comes_upto : (k : ℕ) → end_of_stretches 0 (stretches_at after.ins.items k) ≡ (with_stretch (come_to before) port.link stretch).upto k
   comes_upto k = elim (cases_eq k port.link) [
     | inl same ↦
@@ -52,7 +52,7 @@ module _ (t : Offering) (number place : ℕ) (before after : Worker) (port : Str
         ∙ sym (cond-false (k == port.link) stretch.upto ((come_to before).upto k) (ne_eqb k port.link differ))
   ]
 
-  -- and what
+  -- and the frames that arrived
   comes_with : (k : ℕ) → all_frames (stretches_at after.ins.items k) ≡ (with_stretch (come_to before) port.link stretch).brought k
   comes_with k = elim (cases_eq k port.link) [
     | inl same ↦
@@ -66,7 +66,7 @@ module _ (t : Offering) (number place : ℕ) (before after : Worker) (port : Str
         ∙ sym (cond-false (k == port.link) ((come_to before).brought k ++ frames_of stretch) ((come_to before).brought k) (ne_eqb k port.link differ))
   ]
 
-  -- what has come now is that with the stretch
+  -- what has arrived now is the former with the stretch
   come_with_stretch : come_to after ≡ with_stretch (come_to before) port.link stretch
   come_with_stretch = λ i. record {
     tables = map rows_in (items_in (tables i));
@@ -75,12 +75,12 @@ module _ (t : Offering) (number place : ℕ) (before after : Worker) (port : Str
     brought = λ m. comes_with m i;
   }
 
-  -- the stretch may come next, where all may come
+  -- the stretch may come next, if everything may come
   stretch_may_come : MayHaveComeTo t after → AreNextStretches 0 (stretches_at before.ins.items port.link) × IsNextStretch (end_of_stretches 0 (stretches_at before.ins.items port.link)) stretch
   stretch_may_come may =
       next_front 0 (stretches_at before.ins.items port.link) stretch (subst (AreNextStretches 0) stretch_by_link (may.stretches port.link))
 
-  -- and what came before may
+  -- and what arrived before may arrive
   may_before_stretch : MayHaveComeTo t after → MayHaveComeTo t before
   may_before_stretch may = record {
     stretches = λ l. elim (cases_eq port.link l) [
@@ -90,7 +90,7 @@ module _ (t : Offering) (number place : ℕ) (before after : Worker) (port : Str
     tables = subst (λ (carried : List (Carried CycleTable)). MayBeTables t.domain (map rows_in (items_in carried))) tables may.tables;
   }
 
-  -- so its bridge stands by it
+  -- so its bridge is in the state that follows from it
   stands_with_stretch : MayHaveComeTo t after → HasComeSoFar t number after
   stands_with_stretch may =
       let so = way.come (may_before_stretch may) in
@@ -133,7 +133,7 @@ module _ (t : Offering) (number place : ℕ) (before after : Worker) (port : Str
             (items_and_one port.pipe.items stretch (all_at CarriesItems before.ins.items place port items there)) items);
       }) way stands_with_stretch
 
--- a worker goes on with a bridge that takes what came
+-- a worker goes on if its bridge takes what arrived
 pub goes_with_stretch : (place : ℕ) (before after : Worker) (port : StretchPort) (stretch : Stretch) → slice_get before.ins.items place ≡ Some port →
     after.ins.items ≡ set before.ins.items place (with_item_at port (Item stretch)) → TakesStretch place stretch before.relay after.relay →
     after.agenda ≡ before.agenda → after.tables ≡ before.tables → after.outs ≡ before.outs → GoesFurther before after

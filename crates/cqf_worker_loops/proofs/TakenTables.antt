@@ -1,4 +1,4 @@
--- A bridge on its thread takes the table of one cycle more.
+-- A bridge on its thread takes the table of one more cycle.
 use Rattle.std.proofs.Common.{◌≡◌, ◌≢◌, ◌∙◌, ℕ, suc, ◌+◌, ◌*◌, ◌<◌, ◌≤◌, Bool, true, false, List, [], ◌∷◌, ◌++◌, All, AllPairs, Contains}
 use Rattle.std.proofs.Common.{length, length-append, map, get_or, refl, sym, ap, subst, arith, inl, inr, add-one, append-nil, eq-eqb, ne_eqb}
 use Rattle.std.specs.Prelude.{◌==◌, ◌&&◌, filter, if◌then◌else◌, slice_index_or}
@@ -40,7 +40,7 @@ use Rattle.cqf_worker_loops.proofs.UnderWay.{handed_still, takes_under_way}
 
 -- ---- offers of a cycle
 
--- what is offered at a bridge in a cycle is of the cycle
+-- what is offered at a bridge in a cycle is of that cycle
 pub offers_of_cycle : (t : Offering) (bridge cycle : ℕ) (agenda : AgendaOf) → HasItsOffers t bridge agenda →
     AreOfCycle t.domain cycle (offers_listed_at agenda cycle)
 offers_of_cycle t bridge cycle agenda is =
@@ -68,25 +68,25 @@ offers_of_cycle t bridge cycle agenda is =
 -- ---- tables before the last
 
 module _ (xs : List (List Row)) (last : List Row) where
-  -- a table before the last is the same with it
+  -- a table before the last is the same with and without the last
   early_table : (cycle : ℕ) → cycle < length xs → table_of (xs ++ last ∷ []) cycle ≡ table_of xs cycle
   early_table cycle inside = get_or_append_left xs (last ∷ []) [] cycle inside
 
-  -- a row of such a table is of a cycle before the last, and there with it
+  -- a row of such a table is of a cycle before the last, and also there with the last
   row_there : (cycle : ℕ) (row : Row) → Contains (table_of xs cycle) row → (cycle < length xs) × Contains (table_of (xs ++ last ∷ []) cycle) row
   row_there cycle row held = elim (cases_lt cycle (length xs)) [
     | inl inside ↦ (inside, subst (λ (rows : List Row). Contains rows row) (sym (early_table cycle inside)) held)
     | inr past ↦ absurd (contains_none row (subst (λ (rows : List Row). Contains rows row) (get_or_past xs cycle [] past) held))
   ]
 
-  -- what holds of the tables with it, and of none, holds of those before it
+  -- what holds of all tables, and of an empty one, holds of those before the last
   held_before : (P : List Row → Type 0) (cycle : ℕ) → P [] → P (table_of (xs ++ last ∷ []) cycle) → P (table_of xs cycle)
   held_before P cycle none held = elim (cases_lt cycle (length xs)) [
     | inl inside ↦ subst P (early_table cycle inside) held
     | inr past ↦ subst P (sym (get_or_past xs cycle [] past)) none
   ]
 
-  -- where all may come, those before the last may
+  -- if all tables may arrive, those before the last may
   pub tables_before : (d : Domain) → MayBeTables d (xs ++ last ∷ []) → MayBeTables d xs
   tables_before d may =
       let orderly : AreOrderly d xs = record {
@@ -114,7 +114,7 @@ module _ (xs : List (List Row)) (last : List Row) where
 
 -- ---- drops
 
--- the drops of one cycle more, behind those before
+-- the drops of one more cycle follow those before
 pub drops_more : (d : Domain) (number : ℕ) (come : Come) (table : List Row) (offers : List Offered) (cycles : ℕ) (drops fresh : List Dropped) →
     length come.tables ≡ cycles → length come.offers ≡ cycles → AreDropsOf d number come cycles drops →
     IsPermutation (dropped_behind d number cycles table [] offers) fresh → IsNonDecreasingBy (λ (x : Dropped). x.frame) fresh →
@@ -166,11 +166,11 @@ module _ (t : Offering) (number : ℕ) (table : CycleTable) (older after : Worke
     (takes : TakesTable table.rows offers older.relay after.relay) (listed : offers ≡ offers_listed_at older.agenda older.relay.tables)
     (agenda : after.agenda ≡ older.agenda) (tables : after.tables.items ≡ older.tables.items ++ Item table ∷ [])
     (ins : after.ins.items ≡ older.ins.items) (outs : after.outs.items ≡ older.outs.items) (way : IsUnderWay t number older) where
-  -- one table more among the items
+  -- one more table among the items
   one_table_more : items_in after.tables.items ≡ items_in older.tables.items ++ table ∷ []
   one_table_more = ap items_in tables ∙ items_in_more older.tables.items table
 
-  -- as many offers as tables
+  -- as many offer lists as tables
   as_many_offers : length (come_to older).offers ≡ older.relay.tables
   as_many_offers =
       length-singles (λ cycle. offers_listed_at older.agenda cycle) (length (items_in older.tables.items)) ∙ sym way.tables_taken
@@ -178,7 +178,7 @@ module _ (t : Offering) (number : ℕ) (table : CycleTable) (older after : Worke
   as_many_tables : length (come_to older).tables ≡ older.relay.tables
   as_many_tables = length-map (items_in older.tables.items) rows_in ∙ sym way.tables_taken
 
-  -- what has come now is that with the table and the cycle's offers
+  -- what has arrived now is the former with the table and the cycle's offers
   come_with_table : come_to after ≡ with_table (come_to older) table.rows offers
   come_with_table =
       let now : come_to after ≡ come_by (items_in older.tables.items ++ table ∷ []) older.agenda older.ins.items =
@@ -195,7 +195,7 @@ module _ (t : Offering) (number : ℕ) (table : CycleTable) (older after : Worke
       ∙ ap (λ (xs : List Offered). (come_to older).offers ++ xs ∷ []) last in
       now ∙ (λ i. record { tables = rows i; offers = each i; upto = (come_to older).upto; brought = (come_to older).brought })
 
-  -- it was what may come before
+  -- it was what may arrive before
   may_before_table : MayHaveComeTo t after → MayHaveComeTo t older
   may_before_table may = record {
     stretches = subst (λ (ports : List StretchPort). (l : ℕ) → AreNextStretches 0 (stretches_at ports l)) ins may.stretches;
@@ -203,7 +203,7 @@ module _ (t : Offering) (number : ℕ) (table : CycleTable) (older after : Worke
         (subst (λ (come : Come). MayBeTables t.domain come.tables) come_with_table may.tables);
   }
 
-  -- so its bridge stands by it
+  -- so its bridge is in the state that follows from it
   stands_with_table : MayHaveComeTo t after → HasComeSoFar t number after
   stands_with_table may =
       let before = way.come (may_before_table may) in
@@ -242,7 +242,7 @@ module _ (t : Offering) (number : ℕ) (table : CycleTable) (older after : Worke
         ins = subst (All CarriesItems) (sym ins);
       }) way stands_with_table
 
--- a worker that has taken its table goes on with its bridge that takes it
+-- a worker that has taken its table goes on if its bridge takes it
 pub entered : (t : Offering) (number : ℕ) (table : CycleTable) (older before after : Worker) (offers : List Offered) → IsUnderWay t number older →
     older.relay.tables < older.relay.cycles → before ≡ record older { tables = with_item older.tables (Item table) } →
     TakesTable table.rows offers before.relay after.relay → offers ≡ offers_listed_at before.agenda before.relay.tables →
@@ -257,7 +257,7 @@ entered t number table older before after offers way early was takes listed agen
     (ap (λ ports. ports.items) (outs ∙ ap (λ (w : Worker). w.outs) was))
     way early
 
--- the offers that are listed for it are of its cycle
+-- the offers that are listed for the cycle are of that cycle
 pub offers_entered : (w : Worker) (table : CycleTable) (offers : List Offered) (cycle : ℕ) → HasTable table w → cycle ≡ w.relay.tables →
     offers ≡ offers_listed_at w.agenda cycle → AreOfCycle (arc_value w.relay.domain) w.relay.tables offers
 offers_entered w table offers cycle has at listed =
@@ -293,7 +293,7 @@ enters_table table before after offers takes listed agenda tables ins outs = rec
 -- ---- what a look at a pipe finds
 
 module _ {T : Type 0} (old new : End T) (found : FoundItem T) (pipe : new.pipe ≡ old.pipe) (items : new.items ≡ old.items ++ items_found found) where
-  -- an item more was taken there
+  -- one more item was taken there
   pub found_item : (x : T) → found ≡ found_is.Item x → new ≡ with_item old x
   found_item x is =
       let more : new.items ≡ old.items ++ x ∷ [] = items ∙ ap (λ (f : FoundItem T). old.items ++ items_found f) is in
@@ -310,7 +310,7 @@ pub has_table : (table : CycleTable) (before : Worker) (new : End (Carried Cycle
     before.relay.tables < before.relay.cycles → new ≡ with_item before.tables (Item table) → HasTable table (record before { tables = new })
 has_table table before new some wants is = record { before = before; was = some; wants = wants; is = λ i. record before { tables = is i } }
 
--- goes on with its bridge that takes it
+-- goes on if its bridge takes it
 pub goes_with_table : (table : CycleTable) (before after : Worker) (new : End (Carried CycleTable)) → before.relay.tables < before.relay.cycles →
     new ≡ with_item before.tables (Item table) → EntersTable table (record before { tables = new }) after → GoesFurther before after
 goes_with_table table before after new wants is enters = record {
@@ -325,7 +325,7 @@ goes_with_table table before after new wants is enters = record {
   way = λ t number way. enters.way t number before way wants (λ i. record before { tables = is i });
 }
 
--- and one that has found none is as it was
+-- and one that has found none is unchanged
 pub goes_without_table : (first before : Worker) (new : End (Carried CycleTable)) → GoesFurther first before → new ≡ before.tables →
     GoesFurther first (record before { tables = new })
 goes_without_table first before new goes is = subst (λ end. GoesFurther first (record before { tables = end })) (sym is) goes

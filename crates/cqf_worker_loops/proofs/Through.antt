@@ -41,7 +41,7 @@ use Rattle.cqf_worker_loops.proofs.UnderWay.{come_same, may_same}
 -- ---- at first
 
 module _ (t : Offering) (number : ℕ) (w : Worker) (few : w.relay.cycles ≤ most_cycles) (new : IsWorkerOf t number w) where
-  -- nothing has come
+  -- nothing has arrived
   nothing_came : come_to w ≡ nothing_yet
   nothing_came = λ i. record {
     tables = map rows_in (items_in (new.no_tables i));
@@ -59,7 +59,7 @@ module _ (t : Offering) (number : ℕ) (w : Worker) (few : w.relay.cycles ≤ mo
   link_at_first o held =
       All-contains (λ (it : Outlet). IsOutletOf t.domain w.relay.number nothing_yet [] it) w.relay.outlets.items o new.stands.outlets held
 
-  -- or handed on
+  -- or passed on
   none_told : (o : Outlet) → Contains w.relay.outlets.items o → o.told ≡ 0
   none_told o held = let at = link_at_first o held in omega (arith, at.handed, at.as_far)
 
@@ -115,9 +115,9 @@ module _ (t : Offering) (number : ℕ) (w : Worker) (few : w.relay.cycles ≤ mo
 pub some_begins : (cycles : ℕ) (w : Worker) → w.relay.cycles ≤ most_cycles → MayWork cycles w → SomeUnderWay w
 some_begins cycles w few may = record { traffic = may.traffic; number = may.number; is = begins_under_way may.traffic may.number w few may.is }
 
--- ---- in the end
+-- ---- at the end
 
--- on the first tape of a link stands what is told of each link's
+-- the first tape of a link has the link's marks, if each tape has the marks of its own link
 marks_of_link : (marks : ℕ → List Mark) (outlets : List Outlet) (l : ℕ) → All (λ (o : Outlet). o.tape.starts.items ≡ marks o.tape.link) outlets →
     Contains (map link_out outlets) l → starts_at (map (λ (o : Outlet). o.tape) outlets) l ≡ marks l
 marks_of_link marks [] l all held = absurd (contains_none l held)
@@ -149,7 +149,7 @@ module _ (t : Offering) (number : ℕ) (w done : Worker) (way : IsUnderWay t num
         All-contains (λ (it : Outlet). w.relay.cycles ≤ it.sent) w.relay.outlets.items o over.sent held,
       )
 
-  -- and each that ends in another bridge has handed them on
+  -- and each link that ends in another bridge has passed them on
   all_told : (o : Outlet) → Contains w.relay.outlets.items o → is_onward t.domain o.tape.link ≡ true → o.told ≡ w.relay.cycles
   all_told o held goes =
       let onward : o.wire.onward ≡ true =
@@ -167,11 +167,11 @@ module _ (t : Offering) (number : ℕ) (w done : Worker) (way : IsUnderWay t num
       contains_from_map link_out w.relay.outlets.items l
       (subst (λ (links : List ℕ). Contains links l) (sym way.outlets) (leaving_listed t.domain number l own))
 
-  -- what has come is still the same
+  -- what has arrived is still the same
   came_still : come_to done ≡ come_to w
   came_still = come_same w done keeps.agenda (ap (λ end. end.items) keeps.tables) (ap (λ ports. ports.items) keeps.ins)
 
-  -- of each cycle what a link sent was put at its port
+  -- what a link sent in each cycle was put at its port
   all_put : (sends : Sendings) (o : Outlet) → Contains w.relay.outlets.items o → (cycle : ℕ) → is_onward t.domain o.tape.link ≡ true →
       length (sends o.tape.link) ≡ w.relay.cycles → HasHandedOn t w sends o →
       filter (is_in cycle) (all_frames (stretches_at done.outs.items o.tape.link)) ≡ map (came_in t.domain o.tape.link cycle) (batch_at (sends o.tape.link) cycle)
@@ -201,7 +201,7 @@ module _ (t : Offering) (number : ℕ) (w done : Worker) (way : IsUnderWay t num
       (stretches_at_port w.ins.items port (ascend_by link_of w.ins.items (links_into t.domain number) way.links_in (into_ascends t.domain number)) held) in
       omega (arith, upto, all_at (λ (it : Inlet). w.relay.cycles ≤ it.upto) w.relay.inlets.items at.0 p.other over.come p.there)
 
-  -- so its links have sent all
+  -- so its links have sent everything
   sent_all : MayHaveComeTo t done → HasSentAll t number w.relay.cycles done
   sent_all may =
       let so = way.come (may_same w done keeps.agenda (ap (λ end. end.items) keeps.tables) (ap (λ ports. ports.items) keeps.ins) t may) in

@@ -1,4 +1,4 @@
--- A bridge on its thread stays under way whatever it does.
+-- A bridge on its thread stays under way at every step.
 use Rattle.std.proofs.Common.{◌≡◌, ◌∙◌, ℕ, ◌<◌, ◌≤◌, true, List, [], All, Contains}
 use Rattle.std.proofs.Common.{length, map, sym, ap, subst, arith, inl, inr}
 use Rattle.std.specs.Prelude.{filter, if◌then◌else◌, nat_lt}
@@ -23,9 +23,9 @@ use Rattle.cqf_worker_loops.proofs.Ports.{alike_at}
 use Rattle.cqf_worker_loops.proofs.Ports.{partner}
 use Rattle.cqf_worker_loops.proofs.Stopping.{CarriesItems}
 
--- ---- links of a bridge that stays what it is
+-- ---- links of a bridge that doesn't change
 
--- what a link was that stands otherwise now
+-- the former state of a link that has changed
 pub record WasOutlet (before : List Outlet) (outlet : Outlet) : Type 0 where
   pub was : Outlet
   pub there : Contains before was
@@ -34,7 +34,7 @@ pub record WasOutlet (before : List Outlet) (outlet : Outlet) : Type 0 where
   pub wire : outlet.wire ≡ was.wire
 
 module _ (before after : Relay) (same : StaysAs before after) (told : told_by after ≡ told_by before) where
-  -- each link was one that has handed on as much
+  -- each link was one that has passed on the same cycles
   pub was_outlet : (outlet : Outlet) → Contains after.outlets.items outlet → WasOutlet before.outlets.items outlet
   was_outlet outlet held =
       let at = place_of_member after.outlets.items outlet held in
@@ -47,12 +47,12 @@ module _ (before after : Relay) (same : StaysAs before after) (told : told_by af
         wire = alike_at wire_out wire_out after.outlets.items before.outlets.items at.0 outlet p.other same.wires at.1 p.there;
       }
 
--- what went through the port of a link: what it sent in the cycles that it has handed on
+-- what went through the port of a link: what the link sent in the cycles that it has passed on
 abbrev pub IsHandedAt : Offering → List StretchPort → Sendings → ℕ → ℕ → Type 0
 IsHandedAt t outs sends l told = (cycle : ℕ) → is_onward t.domain l ≡ true →
     filter (is_in cycle) (all_frames (stretches_at outs l)) ≡ (if nat_lt cycle told then map (came_in t.domain l cycle) (batch_at (sends l) cycle) else [])
 
--- it is so where the link has sent the same in these cycles
+-- it is so if the link has sent the same in these cycles
 same_handed : (t : Offering) (outs : List StretchPort) (sends more : Sendings) (l told : ℕ) →
     ((cycle : ℕ) → cycle < told → batch_at (more l) cycle ≡ batch_at (sends l) cycle) → IsHandedAt t outs sends l told → IsHandedAt t outs more l told
 same_handed t outs sends more l told same handed cycle onward =
@@ -67,7 +67,7 @@ same_handed t outs sends more l told same handed cycle onward =
 
 module _ (t : Offering) (before after : Worker) (same : StaysAs before.relay after.relay) (told : told_by after.relay ≡ told_by before.relay)
     (outs : after.outs.items ≡ before.outs.items) where
-  -- where no link hands on more, what was put is what they have handed on still
+  -- if no link passes on more, what was put is still what they have passed on
   pub handed_still : (sends more : Sendings) →
       ((outlet : Outlet) → Contains before.relay.outlets.items outlet → (cycle : ℕ) → cycle < outlet.told →
       batch_at (more outlet.tape.link) cycle ≡ batch_at (sends outlet.tape.link) cycle) →
@@ -82,7 +82,7 @@ module _ (t : Offering) (before after : Worker) (same : StaysAs before.relay aft
       (subst (λ (n : ℕ). IsHandedAt t before.outs.items more was.was.tape.link n) (sym was.told) at_was) in
       record { each = subst (λ (ports : List StretchPort). IsHandedAt t ports more outlet.tape.link outlet.told) (sym outs) at_link })
 
-  -- and each port has what its link has handed on
+  -- and each port carried what its link has passed on
   pub put_still : ((port : StretchPort) (outlet : Outlet) → Contains before.outs.items port → Contains before.relay.outlets.items outlet →
       port.link ≡ outlet.tape.link → HasPut outlet.told port) → (port : StretchPort) (outlet : Outlet) → Contains after.outs.items port →
       Contains after.relay.outlets.items outlet → port.link ≡ outlet.tape.link → HasPut outlet.told port
@@ -101,7 +101,7 @@ module _ (t : Offering) (before after : Worker) (same : StaysAs before.relay aft
       ∙ All-contains (λ (it : Outlet). it.wire.onward ≡ is_onward t.domain it.tape.link) before.relay.outlets.items was.was wires was.there
       ∙ ap (is_onward t.domain) (sym was.link))
 
--- what a worker takes where no link hands on more
+-- what a worker takes while no link passes on more
 pub record TakesOnly (before after : Worker) : Type 0 where
   pub stays : StaysAs before.relay after.relay
   pub told : told_by after.relay ≡ told_by before.relay
@@ -113,7 +113,7 @@ pub record TakesOnly (before after : Worker) : Type 0 where
   pub early : after.relay.tables ≤ before.relay.cycles
   pub ins : All CarriesItems before.ins.items → All CarriesItems after.ins.items
 
--- it stays under way, where its bridge stands by what has come
+-- it stays under way if its bridge is in the state that follows from what has arrived
 pub takes_under_way : (t : Offering) (number : ℕ) (before after : Worker) → TakesOnly before after → IsUnderWay t number before →
     (MayHaveComeTo t after → HasComeSoFar t number after) → IsUnderWay t number after
 takes_under_way t number before after only way come = record {
@@ -137,15 +137,15 @@ takes_under_way t number before after only way come = record {
   come = come;
 }
 
--- ---- what comes
+-- ---- what arrives
 
 module _ (before after : Worker) (agenda : after.agenda ≡ before.agenda) (tables : after.tables.items ≡ before.tables.items)
     (ins : after.ins.items ≡ before.ins.items) where
-  -- where nothing more was taken, the same has come
+  -- if nothing more was taken, the same has arrived
   pub come_same : come_to after ≡ come_to before
   come_same = λ i. come_by (items_in (tables i)) (agenda i) (ins i)
 
-  -- and may come
+  -- and it may arrive
   pub may_same : (t : Offering) → MayHaveComeTo t after → MayHaveComeTo t before
   may_same t may = record {
     stretches = subst (λ (ports : List StretchPort). (l : ℕ) → AreNextStretches 0 (stretches_at ports l)) ins may.stretches;

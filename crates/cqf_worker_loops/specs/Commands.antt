@@ -1,4 +1,4 @@
--- What administrators call for in a run.
+-- What administrators request in a run.
 use Rattle.std.specs.Prelude.{ℕ, ◌≡◌, ◌<◌, List, length, map, take}
 use Rattle.cqf_model.specs.declared.history.Refused.{Refused}
 use Rattle.cqf_model.specs.declared.history.Refused.TheVariants as refused
@@ -11,7 +11,7 @@ use Rattle.cqf_worker_loops.specs.declared.calling.CallFault.{CallFault}
 use Rattle.cqf_worker_loops.specs.declared.calling.CallFault.TheVariants as call
 use Rattle.cqf_worker_loops.specs.declared.calling.Unmade.{Unmade}
 
--- what an administrator's commands call for, in order
+-- the acts that an administrator's commands request, in order
 abbrev pub acts_asked : List Command → List Act
 acts_asked commands = map act_of_command commands
 
@@ -20,12 +20,12 @@ pub record HasCalled (commands : List Command) (seat done : Sitting) : Type 0 wh
   pub number : done.number ≡ seat.number
   pub calls : acts_of done.calls ≡ acts_asked commands
 
--- the answer to a call that isn't entered, by why its administrator gives up
+-- the answer to a call that isn't entered, from the fault with which its administrator gives up
 abbrev pub answer_of : CallFault → Refused
 answer_of call.HistoryFull = refused.HistoryFull
 answer_of call.Memory = refused.Memory
 
--- an administrator that gives up at one of its commands: with its seat those before it were made, in order, and no other calls
+-- an administrator that gives up at one of its commands: with its seat the commands before that one were made, in order, and no other calls
 pub record HasLeftOff (commands : List Command) (seat : Sitting) (why : Unmade) : Type 0 where
   pub place : ℕ
   pub there : place < length commands

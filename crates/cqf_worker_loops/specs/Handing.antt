@@ -1,4 +1,4 @@
--- What the conductor of a run hands to the workers: the table of each cycle, at the end of a pipe for each.
+-- What the conductor of a run gives the workers: the table of each cycle, through one pipe per worker.
 use Rattle.std.specs.Prelude.{ℕ, ◌≡◌, ◌<◌, ◌≤◌, ◌⊎◌, ◌++◌, List, [], ◌∷◌, All, Bool, true, false, length, map, replicate, slice_index_or}
 use Rattle.cqf_model.specs.History.{Seals}
 use Rattle.cqf_model.specs.Calls.{acts_of}
@@ -20,7 +20,7 @@ use Rattle.cqf_worker_loops.specs.Stops.{AreItemsThenStop}
 abbrev pub TableEnd : Type 0
 TableEnd = End (Carried CycleTable)
 
--- whose pipes ends are
+-- the pipes of ends
 abbrev pub pipes_of : {T : Type 0} → List (End T) → List (PipeId T)
 pipes_of ends = map (λ end. end.pipe) ends
 
@@ -28,12 +28,12 @@ pipes_of ends = map (λ end. end.pipe) ends
 abbrev pub tables_handed : Block → List CycleTable
 tables_handed block = block.first ∷ block.behind.items
 
--- at each end there are these items more
+-- each end got these items
 abbrev pub GivesEach : {T : Type 0} → List T → List (End T) → List (End T) → Type 0
 GivesEach {T} xs before after = (place : ℕ) (d : End T) → place < length before →
     (slice_index_or after place d).items ≡ (slice_index_or before place d).items ++ xs
 
--- at each end there are these items more, or nothing
+-- each end got these items or nothing
 abbrev pub GivesSome : {T : Type 0} → List T → List (End T) → List (End T) → Type 0
 GivesSome {T} xs before after = (place : ℕ) (d : End T) → place < length before →
     MayGet xs (slice_index_or before place d) (slice_index_or after place d)
@@ -42,11 +42,11 @@ GivesSome {T} xs before after = (place : ℕ) (d : End T) → place < length bef
 abbrev pub MissesOne : {T : Type 0} → List (End T) → List (End T) → Type 0
 MissesOne {T} before after = (place : ℕ) × (place < length before) × ((d : End T) → slice_index_or after place d ≡ slice_index_or before place d)
 
--- at one of the ends fewer items were put than so many
+-- at one of the ends fewer than count items were put
 abbrev pub LacksOne : {T : Type 0} → List (End T) → ℕ → Type 0
 LacksOne {T} ends count = (place : ℕ) × (place < length ends) × ((d : End T) → length (slice_index_or ends place d).items < count)
 
--- so many tables were put for some of the workers, or none for any
+-- count tables were put at each of some of the ends and nothing at the others; or nothing was put at any end
 abbrev pub GivesTables : ℕ → List TableEnd → List TableEnd → Type 0
 GivesTables count before after = (after ≡ before) ⊎ ((tables : List CycleTable) × (length tables ≡ count) × GivesSome (map Item tables) before after)
 
@@ -56,19 +56,19 @@ pub record SealsOne (old new : Sitting) (table : CycleTable) : Type 0 where
   pub acts : acts_of new.calls ≡ acts_of old.calls ++ Seals ∷ []
   pub tables : new.tables ≡ old.tables ++ table ∷ []
 
--- so many cycles are closed, one behind the other
+-- count cycles are closed, one after the other
 pub record SealsMany (count : ℕ) (old new : Sitting) (tables : List CycleTable) : Type 0 where
   pub number : new.number ≡ old.number
   pub acts : acts_of new.calls ≡ acts_of old.calls ++ replicate count Seals
   pub many : length tables ≡ count
   pub behind : new.tables ≡ old.tables ++ tables
 
--- why the conductor gives up, by why a Seal is refused
+-- the fault with which the conductor gives up, from the reason of a refused Seal
 abbrev pub fault_of_seal : SealFault → SealingFault
 fault_of_seal seal.CyclesSpent = sealing.CyclesSpent
 fault_of_seal seal.Memory = sealing.Memory
 
--- of so many cycles some are closed, one behind the other, all but one at most where no more can be closed
+-- of count cycles the first ones are closed, one after the other; not all of them if the fault is that no more cycles can be closed
 pub record SealsSome (count : ℕ) (old new : Sitting) (fault : SealingFault) : Type 0 where
   pub closed : ℕ
   pub tables : List CycleTable
@@ -77,20 +77,20 @@ pub record SealsSome (count : ℕ) (old new : Sitting) (fault : SealingFault) : 
   pub spent : fault ≡ sealing.CyclesSpent → closed < count
   pub not_lost : fault ≡ sealing.Lost → ⊥
 
--- so many cycles are closed, and where all have their tables, each end has them, in order; else one of the ends was given none
+-- count cycles are closed; if all is true, each end got their tables, in order; else one of the ends got nothing
 pub record SealsBlock (count : ℕ) (old new : Sitting) (before after : List TableEnd) (all : Bool) : Type 0 where
   pub tables : List CycleTable
   pub sealed : SealsMany count old new tables
   pub given : all ≡ true → GivesEach (map Item tables) before after
   pub missed : all ≡ false → MissesOne before after
 
--- so many cycles are closed with a seat that had no calls
+-- this number of cycles is closed with a seat that had no calls and no tables
 pub record HasClosed (cycles : ℕ) (seat done : Sitting) : Type 0 where
   pub number : done.number ≡ seat.number
   pub acts : acts_of done.calls ≡ replicate cycles Seals
   pub many : length done.tables ≡ cycles
 
--- of so many cycles some are closed with it, not all where no more can be closed
+-- of these cycles the first ones are closed with such a seat; not all of them if the fault is that no more cycles can be closed
 pub record ClosesSome (cycles : ℕ) (seat done : Sitting) (fault : SealingFault) : Type 0 where
   pub count : ℕ
   pub closed : HasClosed count seat done
@@ -98,7 +98,7 @@ pub record ClosesSome (cycles : ℕ) (seat done : Sitting) (fault : SealingFault
   pub spent : fault ≡ sealing.CyclesSpent → count < cycles
   pub not_lost : fault ≡ sealing.Lost → ⊥
 
--- so many cycles are closed, and each of the pipes was given their tables, in order
+-- this number of cycles is closed with such a seat, and each of the pipes carried exactly their tables, in order
 pub record HasSealed (cycles : ℕ) (seat done : Sitting) (before after : List TableEnd) : Type 0 where
   pub number : done.number ≡ seat.number
   pub acts : acts_of done.calls ≡ replicate cycles Seals
@@ -106,8 +106,8 @@ pub record HasSealed (cycles : ℕ) (seat done : Sitting) (before after : List T
   pub pipes : pipes_of after ≡ pipes_of before
   pub given : (place : ℕ) (d : TableEnd) → place < length after → (slice_index_or after place d).items ≡ map Item done.tables
 
--- a conductor that gives up: of the cycles some are closed, not all where no more can be closed, and all where a worker had ended, for
--- whom tables are missing. At each end tables were put, and then at most one Stop
+-- a conductor that gives up. The first of the cycles are closed: not all of them if the fault is that no more cycles can be closed, and all
+-- of them if a worker had ended, which then lacks tables. At each end tables were put, and then at most one Stop
 pub record HasBrokenOff (cycles : ℕ) (seat : Sitting) (before : List TableEnd) (left : Unsealed) : Type 0 where
   pub count : ℕ
   pub closed : HasClosed count seat left.conductor.seat

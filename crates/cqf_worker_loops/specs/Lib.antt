@@ -6,5 +6,5 @@ pub mod Stops
 pub mod Commands
 pub mod Handing
 pub mod GivingUp
--- what the inner functions say
+-- definitions used by the contracts of inner functions
 pub mod Stepping

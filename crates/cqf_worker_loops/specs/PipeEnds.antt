@@ -28,29 +28,29 @@ module _ {T : Type 0} where
   abbrev pub pipe_of : Pass (Bundle T) (PipeLog T) → PipeId T
   pipe_of pass = record { table = pass.table_id; keys = pass.me.0.of }
 
-  -- what was put, and taken, by a pass: of what was taken some may wait to be handed out
+  -- the items put, and taken, by a pass; some of those taken may still wait to be returned
   abbrev pub put_by : Pass (Bundle T) (PipeLog T) → List T
   put_by pass = (view pass).put
 
   abbrev pub items_taken : Pass (Bundle T) (PipeLog T) → List T
   items_taken pass = (view pass).taken
 
-  -- the pass may put alone, or take alone
+  -- the pass may only put, or only take
   abbrev pub IsPutter : Pass (Bundle T) (PipeLog T) → Type 0
   IsPutter pass = view pass ≡ log true false (put_by pass) []
 
   abbrev pub IsTaker : Pass (Bundle T) (PipeLog T) → Type 0
   IsTaker pass = view pass ≡ log false true [] (items_taken pass)
 
-  -- of what was taken by a pass, what was handed out: all but what waits
+  -- the items that were returned, of those taken by a pass: all but those that wait
   abbrev pub handed_by : Pass (Bundle T) (PipeLog T) → List T → List T
   handed_by pass waiting = take (length (items_taken pass) - length waiting) (items_taken pass)
 
-  -- what was put is what was taken, and behind it so many items
+  -- the items put are the items taken followed by further items; left is the number of these
   abbrev pub AreLeft : List T → List T → ℕ → Type 0
   AreLeft put taken left = (rest : List T) × (put ≡ taken ++ rest) × (length rest ≡ left)
 
-  -- the item that a look found
+  -- the item that a look found, if any
   abbrev pub items_found : FoundItem T → List T
   items_found (Item x) = x ∷ []
   items_found Nothing = []

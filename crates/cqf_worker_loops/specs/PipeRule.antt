@@ -5,28 +5,28 @@ use lib.ListN.{get_elem?}
 use Rattle.cqf_worker_loops.specs.declared.pipe_rule.Bundle.{Bundle}
 use Rattle.cqf_worker_loops.specs.declared.pipe_rule.PipeLog.{PipeLog}
 
--- so many items may be put into a pipe
+-- the most items that may be put into a pipe
 abbrev pub most_items : ℕ
 most_items = 1000000
 
 module _ {T : Type 0} where
-  -- the items of a bundle, and of several one behind the other
+  -- the items of a bundle, and those of several bundles in order
   abbrev pub bundle_items : Bundle T → List T
   bundle_items b = b.first ∷ b.behind.items
 
   abbrev pub items_of : List (Bundle T) → List T
   items_of bundles = flat_map bundle_items bundles
 
-  -- a view: whether it may put and take, and what it has put and taken
+  -- a view: whether its pass may put and take, and what it has put and taken
   abbrev pub log : Bool → Bool → List T → List T → PipeLog T
   log puts takes put taken = record { puts = puts; takes = takes; put = put; taken = taken }
 
-  -- the view of a pass, by the pass's number: one that may put is the putter's and has all that was put, and one that may
-  -- take is the taker's and has all that was taken
+  -- the view of the pass with this number. If the pass may put, it is the putter's, and the view has everything that was put. If it may
+  -- take, it is the taker's, and the view has everything that was taken
   abbrev pub FitsPass : ℕ → ℕ → List T → List T → ℕ → PipeLog T → Type 0
   FitsPass putter taker put taken pass v = (v.puts ≡ true → (pass ≡ putter) × (v.put ≡ put)) × (v.takes ≡ true → (pass ≡ taker) × (v.taken ≡ taken))
 
-  -- what was put is what was taken and behind it what the channel holds
+  -- the items put are the items taken followed by those that the channel holds
   pub record Piped (held : List (Bundle T)) (views : List (PipeLog T)) : Type 0 where
     pub putter : ℕ
     pub taker : ℕ
@@ -40,7 +40,7 @@ module _ {T : Type 0} where
   abbrev pub IsPut : PipeLog T → Bundle T → PipeLog T → Type 0
   IsPut v x w = w ≡ log v.puts v.takes (v.put ++ bundle_items x) v.taken
 
-  -- the bundle's items were taken, and not more than may be put
+  -- the bundle's items were taken, and no more were taken in all than may be put
   abbrev pub IsTaken : PipeLog T → Bundle T → PipeLog T → Type 0
   IsTaken v x w = (w ≡ log v.puts v.takes v.put (v.taken ++ bundle_items x)) × (length w.taken ≤ most_items)
 

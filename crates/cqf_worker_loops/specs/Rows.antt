@@ -1,17 +1,17 @@
--- Items that are put at several ports, or taken there, one at each.
+-- Items put at several ports, or taken there, one at each.
 use Rattle.std.specs.Prelude.{ℕ, ◌≡◌, ◌⊎◌, List, [], ◌∷◌, ◌++◌, map}
 use Rattle.cqf_worker_loops.specs.declared.link_ends.LinkEnd.{LinkEnd}
 use Rattle.cqf_worker_loops.specs.PipeEnds.{End, PipeId}
 
 module _ {T : Type 0} where
-  -- a port's link and pipe, which stay whatever is put or taken
+  -- a port's link and pipe, which don't change when something is put or taken
   abbrev pub wire_at : LinkEnd (End T) → ℕ × PipeId T
   wire_at port = (port.link, port.pipe.pipe)
 
   abbrev pub wires_of : List (LinkEnd (End T)) → List (ℕ × PipeId T)
   wires_of ports = map wire_at ports
 
-  -- the end with these items more, and with one
+  -- the end with these items added, and with one item added
   abbrev pub with_items : End T → List T → End T
   with_items end xs = record { pipe = end.pipe; items = end.items ++ xs }
 

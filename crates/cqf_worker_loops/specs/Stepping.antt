@@ -1,4 +1,4 @@
--- How far a bridge on its thread is.
+-- How far a bridge has got on its thread.
 use Rattle.std.specs.Prelude.{ℕ, ◌≡◌, ◌+◌, ◌≤◌, ◌<◌, [], true, if◌then◌else◌, nat_lt, All, Contains, Some, filter, length, map, slice_get}
 use Rattle.std.specs.Arc.{arc_value}
 use Rattle.cqf_model.specs.Limits.{most_cycles}
@@ -17,22 +17,24 @@ use Rattle.cqf_worker_loops.specs.Workers.{AreDropsOf, HasGoneThrough, HasItsOff
 use Rattle.cqf_worker_loops.specs.Workers.{come_to, items_in, link_of, links_onward, stretches_at}
 use Rattle.cqf_worker_loops.specs.PipeRule.{most_items}
 
--- the frames that a link has put of a cycle: those that it sent, where it has handed the cycle on
+-- what a link that ends in another bridge has put of each cycle: all frames that it sent in the cycle, as they arrive, if it has passed the
+-- cycle on; else none
 pub record HasHandedOn (t : Offering) (w : Worker) (sends : Sendings) (outlet : Outlet) : Type 0 where
   pub each : (cycle : ℕ) → is_onward t.domain outlet.tape.link ≡ true →
       filter (is_in cycle) (all_frames (stretches_at w.outs.items outlet.tape.link))
       ≡ (if nat_lt cycle outlet.told then map (came_in t.domain outlet.tape.link cycle) (batch_at (sends outlet.tape.link) cycle) else [])
 
--- a worker's bridge stands by what has come to it: its links have sent, and handed on what they tell, and it has dropped the offers that weren't
--- covered
+-- the worker's bridge is in the state that follows from what has arrived: its links have sent these frames, each link has passed on the
+-- cycles that it records as passed on, and the drops are those of the offers that weren't covered
 pub record HasComeSoFar (t : Offering) (number : ℕ) (w : Worker) : Type 0 where
   pub sends : Sendings
   pub stands : StandsSo t.domain (come_to w) sends w.relay
   pub handed : All (HasHandedOn t w sends) w.relay.outlets.items
   pub drops : AreDropsOf t.domain number (come_to w) w.relay.tables w.relay.edge.drops.items
 
--- a worker under way: whatever comes, its tables and stretches are items, its links are tidy and have sent no more than its cycles, and through each
--- port went what its link has handed on; and where what came may come, its bridge stands by it
+-- a worker under way. In any case the tables and stretches that it took are items, its links are tidy and have sent no more than its
+-- cycles, and through each port went the cycles that the port's link has passed on. If what has arrived may arrive (MayHaveComeTo), its
+-- bridge is in the state that follows from it
 pub record IsUnderWay (t : Offering) (number : ℕ) (w : Worker) : Type 0 where
   pub good_offers : AreOffers t.domain t.offers
   pub is_agenda : HasItsOffers t number w.agenda
@@ -54,13 +56,13 @@ pub record IsUnderWay (t : Offering) (number : ℕ) (w : Worker) : Type 0 where
       port.link ≡ outlet.tape.link → HasPut outlet.told port
   pub come : MayHaveComeTo t w → HasComeSoFar t number w
 
--- a worker of some traffic under way
+-- a worker under way, for some traffic
 pub record SomeUnderWay (w : Worker) : Type 0 where
   pub traffic : Offering
   pub number : ℕ
   pub is : IsUnderWay traffic number w
 
--- what stays of it whatever it does
+-- what never changes in a worker
 pub record IsSameWorker (before after : Worker) : Type 0 where
   pub number : after.relay.number ≡ before.relay.number
   pub cycles : after.relay.cycles ≡ before.relay.cycles
@@ -69,25 +71,26 @@ pub record IsSameWorker (before after : Worker) : Type 0 where
   pub ins : wires_of after.ins.items ≡ wires_of before.ins.items
   pub outs : wires_of after.outs.items ≡ wires_of before.outs.items
 
--- it goes on: of whatever traffic it was under way, it is so still
+-- a worker goes on: it is still under way for all traffic for which it was under way before
 pub record GoesFurther (before after : Worker) : Type 0 where
   pub same : IsSameWorker before after
   pub way : (t : Offering) (number : ℕ) → IsUnderWay t number before → IsUnderWay t number after
 
--- and where it gives up, it has put stretches alone, and there is room for a Stop
+-- a worker that gives up has put only stretches, and there is room for a Stop
 pub record HasPutStretches (before after : Worker) : Type 0 where
   pub outs : wires_of after.outs.items ≡ wires_of before.outs.items
   pub items : All (λ (port : StretchPort). AreItems port.pipe.items) after.outs.items
   pub room : All (λ (port : StretchPort). length port.pipe.items < most_items) after.outs.items
 
--- a worker that has taken a table which its bridge hasn't
+-- a worker that has taken a table from its pipe, which its bridge hasn't taken yet
 pub record HasTable (table : CycleTable) (w : Worker) : Type 0 where
   pub before : Worker
   pub was : SomeUnderWay before
   pub wants : before.relay.tables < before.relay.cycles
   pub is : w ≡ record before { tables = with_item before.tables (Item table) }
 
--- its bridge has taken the table: of whatever traffic it was under way before it took it from the pipe, it is so now
+-- the bridge has taken the table: the worker is now under way for all traffic for which it was under way before it took the table from its
+-- pipe
 pub record EntersTable (table : CycleTable) (before after : Worker) : Type 0 where
   pub same : IsSameWorker before after
   pub tables : after.tables ≡ before.tables
@@ -95,7 +98,7 @@ pub record EntersTable (table : CycleTable) (before after : Worker) : Type 0 whe
   pub way : (t : Offering) (number : ℕ) (older : Worker) → IsUnderWay t number older → older.relay.tables < older.relay.cycles →
       before ≡ record older { tables = with_item older.tables (Item table) } → IsUnderWay t number after
 
--- the link at a place has something to hand on, by the port at another
+-- the link at index place has something to pass on, through the port at index port
 pub record HandsOnAt (place port : ℕ) (w : Worker) : Type 0 where
   pub outlet : Outlet
   pub there : slice_get w.relay.outlets.items place ≡ Some outlet
@@ -105,7 +108,7 @@ pub record HandsOnAt (place port : ℕ) (w : Worker) : Type 0 where
   pub its_port : slice_get w.outs.items port ≡ Some at
   pub same_link : at.link ≡ outlet.tape.link
 
--- what a bridge has sent and dropped stands on its worker's reel, taken away from it
+-- what the bridge has sent and dropped is on the worker's reel
 pub record KeepsReel (before after : Worker) : Type 0 where
   pub agenda : after.agenda ≡ before.agenda
   pub tables : after.tables ≡ before.tables
@@ -113,7 +116,8 @@ pub record KeepsReel (before after : Worker) : Type 0 where
   pub tapes : after.reel.tapes.items ≡ map (λ (outlet : Outlet). outlet.tape) before.relay.outlets.items
   pub drops : after.reel.drops ≡ before.relay.edge.drops
 
--- a worker has gone through all cycles
+-- a worker has gone through all cycles: it keeps its pipes, has put only stretches, and its bridge did its part for all traffic for which
+-- it was under way
 pub record EndsSo (before after : Worker) : Type 0 where
   pub tables : after.tables.pipe ≡ before.tables.pipe
   pub ins : wires_of after.ins.items ≡ wires_of before.ins.items

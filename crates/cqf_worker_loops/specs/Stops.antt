@@ -7,7 +7,7 @@ use Rattle.cqf_worker_loops.specs.PipeEnds.{End}
 use Rattle.cqf_worker_loops.specs.Rows.{MayHaveGot}
 
 module _ {T : Type 0} where
-  -- items alone
+  -- only items
   abbrev pub AreItems : List (Carried T) → Type 0
   AreItems carried = (items : List T) × (carried ≡ map Item items)
 
@@ -15,7 +15,7 @@ module _ {T : Type 0} where
   abbrev pub AreItemsThenStop : List (Carried T) → Type 0
   AreItemsThenStop carried = (items : List T) × ((carried ≡ map Item items) ⊎ (carried ≡ map Item items ++ Stop ∷ []))
 
-  -- at each of the ports a Stop was put, or nothing was
+  -- at each of the ports a Stop was put, or nothing
   abbrev pub AreStopped : List (LinkEnd (End (Carried T))) → List (LinkEnd (End (Carried T))) → Type 0
   AreStopped before after = (place : ℕ) (d : LinkEnd (End (Carried T))) → place < length before →
       MayHaveGot Stop (slice_index_or before place d) (slice_index_or after place d)

@@ -1,4 +1,4 @@
--- A bridge on a thread of its own: what it begins with, and what it promises.
+-- A bridge on a thread of its own: its initial state, and what it promises.
 use Rattle.std.specs.Prelude.{ℕ, ◌≡◌, ◌≤◌, ◌<◌, ◌==◌, List, [], ◌∷◌, true, if◌then◌else◌, All, filter, length, map}
 use Rattle.std.specs.List.{flat_map}
 use Rattle.std.specs.List.Sorted.{IsNonDecreasingBy, IsPermutation}
@@ -45,7 +45,7 @@ items_in carried = flat_map item_in carried
 abbrev pub StretchPort : Type 0
 StretchPort = LinkEnd (End (Carried Stretch))
 
--- the stretches that went through a port, and through that of a link
+-- the stretches that went through a port, and through the port of a link
 abbrev pub stretches_in : StretchPort → List Stretch
 stretches_in port = items_in port.pipe.items
 
@@ -57,7 +57,7 @@ stretches_at (port ∷ ports) l = if port.link == l then stretches_in port else 
 abbrev pub rows_in : CycleTable → List Row
 rows_in table = table.rows
 
--- what came by tables, with an agenda's offers of their cycles, and through ports
+-- what arrived by these tables, with an agenda's offers of their cycles, and through these ports
 abbrev pub come_by : List CycleTable → AgendaOf → List StretchPort → Come
 come_by tables agenda ins = record {
   tables = map rows_in tables;
@@ -71,28 +71,28 @@ pub record Offering : Type 0 where
   pub domain : Domain
   pub offers : List Offer
 
--- an agenda has, cycle by cycle, what a bridge is offered
+-- an agenda lists, for each cycle, what a bridge is offered
 abbrev pub HasItsOffers : Offering → ℕ → AgendaOf → Type 0
 HasItsOffers t number agenda = (cycle : ℕ) → offers_listed_at agenda cycle ≡ offered_for t.domain t.offers number cycle
 
--- and so what has come to a worker
+-- what has arrived at a worker
 abbrev pub come_to : Worker → Come
 come_to w = come_by (items_in w.tables.items) w.agenda w.ins.items
 
--- what may come to it: stretches one behind the other by each link, and tables of a history
+-- what may arrive at a worker: through each link consecutive stretches, and tables that a history can have
 pub record MayHaveComeTo (t : Offering) (w : Worker) : Type 0 where
   pub stretches : (l : ℕ) → AreNextStretches 0 (stretches_at w.ins.items l)
   pub tables : MayBeTables t.domain (come_to w).tables
 
--- the links of ports, and ports at which nothing was put or taken
+-- the link number of a port; and a port at which nothing was put or taken
 abbrev pub link_of : {T : Type 0} → LinkEnd (End T) → ℕ
 link_of port = port.link
 
 abbrev pub IsUnused : {T : Type 0} → LinkEnd (End T) → Type 0
 IsUnused port = port.pipe.items ≡ []
 
--- a worker of this traffic's bridge that has done nothing: it has the bridge, what the bridge is offered, and the ports of the links that
--- end in the bridge, and of those that leave it and end in another
+-- a worker of this traffic's bridge that has done nothing. It has the bridge, what the bridge is offered, and the ports of the links that
+-- end in the bridge and of those that leave it and end in another bridge
 pub record IsWorkerOf (t : Offering) (number : ℕ) (w : Worker) : Type 0 where
   pub good_offers : AreOffers t.domain t.offers
   pub stands : StandsSo t.domain nothing_yet (λ l. []) w.relay
@@ -106,21 +106,21 @@ pub record IsWorkerOf (t : Offering) (number : ℕ) (w : Worker) : Type 0 where
   pub links_out : map link_of w.outs.items ≡ links_onward t.domain number
   pub none_put : All IsUnused w.outs.items
 
--- a worker of some bridge that has done nothing, and is to go through so many cycles
+-- a worker of some bridge that has done nothing, and has this number of cycles to go through
 pub record MayWork (cycles : ℕ) (w : Worker) : Type 0 where
   pub traffic : Offering
   pub number : ℕ
   pub is : IsWorkerOf traffic number w
   pub has_cycles : w.relay.cycles ≡ cycles
 
--- through a port stretches were put one behind the other, up to a cycle, and nothing else
+-- through a port consecutive stretches were put, from cycle 0 up to the given cycle, and nothing else
 pub record HasPut (upto : ℕ) (port : StretchPort) : Type 0 where
   pub items : AreItems port.pipe.items
   pub next : AreNextStretches 0 (stretches_in port)
   pub ends : end_of_stretches 0 (stretches_in port) ≡ upto
   pub few : length port.pipe.items ≤ upto
 
--- so many cycles' drops, cycle by cycle those of the offers that weren't covered, by frame
+-- the drops of the first cycles, cycle by cycle: in each cycle the offers that weren't covered, by frame number
 pub record AreDropsOf (d : Domain) (number : ℕ) (come : Come) (cycles : ℕ) (drops : List Dropped) : Type 0 where
   pub fresh : ℕ → List Dropped
   pub are : drops ≡ each_below fresh cycles
@@ -128,8 +128,8 @@ pub record AreDropsOf (d : Domain) (number : ℕ) (come : Come) (cycles : ℕ) (
       IsPermutation (dropped_behind d number cycle (table_of come.tables cycle) [] (offers_in come cycle)) (fresh cycle)
   pub by_frame : (cycle : ℕ) → cycle < cycles → IsNonDecreasingBy (λ (x : Dropped). x.frame) (fresh cycle)
 
--- what a bridge's links have sent in so many cycles of what came to it: by each link it goes on by what came, it is what was put through the
--- link's port, and it stands on the reel, with the drops
+-- what a bridge's links have sent in the first cycles, given what arrived. Each link sends what follows from what arrived; the same was put
+-- through the link's port, and is on the reel, with the drops
 pub record HasSentAll (t : Offering) (number cycles : ℕ) (done : Worker) : Type 0 where
   pub sends : Sendings
   pub gone : (l : ℕ) → leaves t.domain l number ≡ true → HasGoneOnBy t.domain number (come_to done) l (sends l)
@@ -142,8 +142,8 @@ pub record HasSentAll (t : Offering) (number cycles : ℕ) (done : Worker) : Typ
   pub came : All (λ (port : StretchPort). cycles ≤ end_of_stretches 0 (stretches_in port)) done.ins.items
   pub drops : AreDropsOf t.domain number (come_to done) cycles done.reel.drops.items
 
--- the bridge did its part: it took so many tables, its links put stretches up to as many cycles, and on its reel are tapes of its links; where what
--- came may come, they have sent all
+-- the bridge did its part: it took the tables of all cycles, its links put stretches up to the last cycle, and its reel has a tape of each
+-- of its links. If what arrived may arrive, the links have sent everything
 pub record HasGoneThrough (t : Offering) (number cycles : ℕ) (done : Worker) : Type 0 where
   pub is_agenda : HasItsOffers t number done.agenda
   pub tables : AreItems done.tables.items
@@ -153,7 +153,7 @@ pub record HasGoneThrough (t : Offering) (number cycles : ℕ) (done : Worker) :
   pub links : links_of done.reel.tapes.items ≡ links_from t.domain number
   pub sent : MayHaveComeTo t done → HasSentAll t number cycles done
 
--- what a worker promises: it keeps its pipes, and, of whatever traffic it is a worker, its bridge did its part
+-- what a worker promises: it keeps its pipes, and its bridge did its part, for any traffic whose worker it is
 pub record Works (cycles : ℕ) (worker done : Worker) : Type 0 where
   pub tables : done.tables.pipe ≡ worker.tables.pipe
   pub ins : wires_of done.ins.items ≡ wires_of worker.ins.items

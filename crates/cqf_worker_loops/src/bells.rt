@@ -1,4 +1,4 @@
-//! A bell, at which one thread waits until others ring it.
+//! A bell: one thread waits at it until another thread rings it.
 
 use cqf_units::Memory;
 use crossbeam_utils::sync::{Parker, Unparker};
@@ -6,19 +6,19 @@ use std::alloc::Global;
 use std::marker::Model;
 use std::sync::Wait;
 
-/// The bell of a thread. A ring while nobody waits lets the next wait return at once, and several such rings are as one: so a thread that
-/// looks at all that may have come, and then waits, misses nothing that was rung for.
+/// The bell of a thread. If it is rung while nobody waits, the next wait returns at once. Several such rings count as one. So a thread
+/// misses nothing if it first looks at everything that may have arrived and then waits.
 #[derive(Drop)]
 pub struct Bell {
     parker: Parker,
 }
 
-/// What another thread rings a bell by. It rings a last time when it is let go of.
+/// A handle by which another thread rings a bell. It rings once more when it is dropped.
 pub struct Ringer {
     unparker: Unparker,
 }
 
-/// Clauses see nothing of a bell: that a thread wakes is no part of what is proved.
+/// Contracts see nothing of a bell: that a thread wakes up is not part of what is proved.
 impl Model for Bell {
     ghost use Rattle.std.specs.Prelude.{⊤};
 
@@ -36,21 +36,21 @@ impl Model for Ringer {
 }
 
 impl Bell {
-    /// A bell that nobody has rung. `Memory` where a growth is refused.
+    /// Returns a bell that nobody has rung. Returns `Memory` if an allocation fails.
     pub fn new(alloc: Global) -> Result<Bell, Memory> {
         Ok(Bell {
             parker: Parker::new(alloc)?,
         })
     }
 
-    /// What another thread rings it by.
+    /// Returns a handle by which another thread rings this bell. Returns `Memory` if an allocation fails.
     pub fn ringer(&self) -> Result<Ringer, Memory> {
         Ok(Ringer {
             unparker: self.parker.unparker().clone()?,
         })
     }
 
-    /// Waits until it is rung, and returns at once where it was since the last wait. It takes no memory.
+    /// Waits until the bell is rung. Returns at once if it was rung since the last wait. It allocates no memory.
     pub fn wait<R: Wait>(&self, rt: &R) {
         self.parker.park(rt);
     }
@@ -64,7 +64,7 @@ impl Drop for Ringer {
 }
 
 impl Ringer {
-    /// Rings. It waits for nobody, and takes no memory.
+    /// Rings the bell. It doesn't block and allocates no memory.
     pub fn ring(&self) {
         self.unparker.unpark();
     }

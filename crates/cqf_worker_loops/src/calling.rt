@@ -1,4 +1,4 @@
-//! What an administrator does on a thread of its own.
+//! An administrator on a thread of its own.
 ghost use Rattle.std.specs.Prelude.{◌≡◌, ◌++◌, [], ◌∷◌, true, Err, IfErr, IfOk, OnOk};
 ghost use Rattle.cqf_model.specs.Calls.{acts_of};
 ghost use Rattle.cqf_admission.specs.Admission.{is_entered};
@@ -14,20 +14,20 @@ use std::sync::Wait;
 /// Why an administrator doesn't make all its commands.
 #[derive(Clone, Copy, Debug, PartialEq, Eq, Drop)]
 pub enum CallFault {
-    /// The history has no room for a call more.
+    /// The history has no room for another call.
     HistoryFull,
-    /// A growth was refused.
+    /// An allocation failed.
     Memory,
 }
 
-/// What comes back of an administrator that gives up: why, and its seat with the calls before.
+/// What an administrator returns when it gives up: the fault, and its seat with the calls made so far.
 #[derive(Drop)]
 pub struct Unmade {
     pub fault: CallFault,
     pub seat: Seat,
 }
 
-/// Whether the call has entered the history, whatever its answer; else why it hasn't.
+/// Returns `Ok` if the call has entered the history, whether it was granted or refused; else why it didn't enter.
 fn settled(answer: Result<Receipt, Refused>) -> Result<(), CallFault>
     ensures ok { OnOk result (is_entered answer ≡ true) }
     ensures err { IfErr result (λ fault. answer ≡ Err (answer_of fault)) }
@@ -40,7 +40,7 @@ fn settled(answer: Result<Receipt, Refused>) -> Result<(), CallFault>
     }
 }
 
-/// Makes a command at the desk. The seat has it behind its other calls, unless it isn't entered.
+/// Makes a command at the desk. The seat then has the call after its other calls, unless the call didn't enter the history.
 fn make_call<R: Wait>(
     rt: &R,
     desk: &Desk,
@@ -58,10 +58,10 @@ fn make_call<R: Wait>(
     }
 }
 
-/// Makes an administrator's commands, in order, with its seat, which has no calls before, and gives the seat back with these calls.
-/// Before each it does what the pace asks, which alone is told `admin`, while it holds no lock. A call that is refused enters the
-/// history, and the next one is made. `HistoryFull` or `Memory` with the first that doesn't enter; then the seat comes back with the
-/// calls before it, which stand in the history. It waits for the desk's lock.
+/// Makes an administrator's commands in order with its seat, which has no calls yet, and returns the seat with these calls. Before each
+/// call it runs the pace's `before_call`, while no lock is held; `admin` serves only as its argument. A refused call enters the history,
+/// and the next one is made. Returns `HistoryFull` or `Memory` at the first call that doesn't enter. The seat then comes back with the
+/// calls before that one, which are in the history. It waits for the desk's lock.
 pub fn make_calls<R: Wait, P: Pace>(
     rt: &R,
     pace: &P,

@@ -1,10 +1,10 @@
 //! What a pipe between two threads of a run carries.
 
-/// What a pipe carries between the threads of a run: an item, or that none comes any more.
+/// What a pipe carries between the threads of a run: an item, or a notice that no more items follow.
 #[derive(Debug, Drop)]
 pub enum Carried<T> {
     /// An item.
     Item(T),
-    /// No item comes any more.
+    /// No more items follow.
     Stop,
 }

@@ -1,17 +1,17 @@
-//! What each thread of a run goes through, by itself, and the channels between two threads, of which no item is lost, doubled or overtaken.
+//! The loop of each thread of a run, and the pipes between two threads. A pipe loses no item, duplicates none and keeps their order.
 //!
-//! - **Loops.** [`work`] goes through all cycles with a [`Worker`], a bridge with all that it needs on a thread of its own. [`make_calls`] makes
-//!   an administrator's commands with its seat. [`seal_all`] closes the cycles with the conductor's seat and hands their tables on; a [`Sealed`]
-//!   is what it has in the end. A [`Pace`] is what administrators' and bridges' threads do before each call and step, and [`Free`] lets them go
-//!   on at once.
-//! - **Giving up.** What comes back is [`GaveUp`], [`Unmade`] or `Unsealed`: why, by a [`WorkerFault`], [`CallFault`] or [`SealingFault`], and
-//!   what others are to see of it. [`stop_each`] and [`stop_tables`] tell them that nothing comes any more.
-//! - **Pipes.** [`pipe`] gives the two ends of one: at [`PipeIn`] items are put, one by one or several at once, and at [`PipeOut`] they are taken
-//!   one by one, in that order. Both ends together tell how many items are still under way. In a run a pipe's item is [`Carried`], something such
-//!   as a [`Stretch`] or that none comes any more; [`LinkEnd`] is an end of one, of a link.
-//! - **Bells.** A thread that takes from several pipes waits at its [`Bell`], which others ring by a `Ringer`: [`pipe_to`] and [`pipe_between`]
-//!   give pipes that ring it. It looks at each of them until none has an item left, and then waits. Whoever puts into several pipes doesn't wait
-//!   for room at one: it tries ([`PipeIn::try_put`]), and is rung for when there is room again.
+//! - **Loops.** [`work`] goes through all cycles with a [`Worker`], which is a bridge with all that it needs on a thread of its own.
+//!   [`make_calls`] makes an administrator's commands with its seat. [`seal_all`] closes the cycles with the conductor's seat and passes their
+//!   tables on; it returns a [`Sealed`]. A [`Pace`] is called by administrators' threads before each call and by bridges' threads before each
+//!   step; [`Free`] lets them go on at once.
+//! - **Giving up.** A loop that gives up returns a [`GaveUp`], an [`Unmade`] or an `Unsealed`: the reason, as a [`WorkerFault`], [`CallFault`] or
+//!   [`SealingFault`], and what other threads need to see of it. [`stop_each`] and [`stop_tables`] notify other threads that no more items follow.
+//! - **Pipes.** [`pipe`] returns the two ends of a pipe. Items are put at [`PipeIn`], one by one or several at once, and are taken at [`PipeOut`]
+//!   one by one, in the same order. Both ends together give the number of items still under way. In a run a pipe's items are of type [`Carried`]:
+//!   an item such as a [`Stretch`], or a notice that no more items follow. [`LinkEnd`] is an end of a link's pipe.
+//! - **Bells.** A thread that takes from several pipes waits at its [`Bell`], which other threads ring by a `Ringer`. [`pipe_to`] and
+//!   [`pipe_between`] return pipes that ring it. The thread looks at each pipe until none has an item left, and then waits. A thread that puts
+//!   into several pipes doesn't wait for room in one of them: it tries ([`PipeIn::try_put`]), and its bell is rung when there is room again.
 //!
 //! ```text
 //! let (mut into, mut out) = pipe(alloc)?;

@@ -1,17 +1,18 @@
 //! What the threads of a run do between their steps.
 use cqf_units::Cycle;
 
-/// What administrators' threads do before each call and bridges' threads before each step, by a caller who wants to look on or to hold
-/// them up. Several threads call it at once, and none holds a lock then. Administrators and bridges are numbered from 0.
+/// Called by administrators' threads before each call and by bridges' threads before each step. A caller implements it to observe the
+/// threads or to delay them. Several threads call it at once, and none of them holds a lock then. Administrators and bridges are numbered
+/// from 0.
 pub trait Pace: Sync {
-    /// An administrator is about to make its command at this place, from 0.
+    /// An administrator is about to make its command at this index, from 0.
     fn before_call(&self, admin: usize, place: usize);
 
-    /// The table of the cycle has come to a bridge, which is about to take it.
+    /// A bridge has received the table of this cycle and is about to take it.
     fn before_step(&self, bridge: usize, cycle: Cycle);
 }
 
-/// Each thread goes on at once.
+/// The pace at which each thread goes on at once.
 #[derive(Clone, Copy, Debug)]
 pub struct Free;
 

@@ -17,11 +17,11 @@ use std::marker::Model;
 use std::sync::Wait;
 use std::thread;
 
-/// How many items wait in a pipe at most, those that were put at once as one.
+/// The most items that wait in a pipe; items that were put at once count as one.
 const CAPACITY: usize = 4;
 
-/// How often the taking end looks for an item before it waits. With more threads than processors the item has mostly come once
-/// others had their turn, and then nobody need be woken.
+/// How often the taking end looks for an item before it waits. With more threads than processors the item has usually arrived once other
+/// threads have had their turn, and then nobody has to be woken.
 const LOOKS: u32 = 32;
 
 /// The end of a pipe at which items are put. Contracts see which pipe it is, and the items that were put, in order.
@@ -31,7 +31,7 @@ pub struct PipeIn<T: Drop> {
     sender: PipeSender<T>,
     pass: Token<T>,
     puts: u64,
-    /// What is rung after each put, and when the end is gone: a field is let go of behind those before it.
+    /// What is rung after each put, and when this end is gone: fields are dropped in order, so this one after the sender.
     bell: Option<Ringer>,
 }
 
@@ -54,12 +54,13 @@ impl<T: Drop> Model for PipeIn<T> {
 pub struct PipeOut<T: Drop> {
     receiver: PipeReceiver<T>,
     pass: Token<T>,
-    /// What was taken from the pipe with an item before it, and waits to be handed out.
+    /// Items that were taken from the channel in one bundle with an earlier item, and wait to be returned.
     waiting: VecDeque<T>,
     takes: u64,
-    /// How many were taken since none was found, those that were put at once as one.
+    /// The number of bundles taken from the channel since it was last found empty.
     streak: usize,
-    /// What is rung when none is found behind so many that the pipe may have been full, since there is room again, and when the end is gone.
+    /// What is rung when the channel is found empty after that many bundles were taken that it may have been full, as there is room again;
+    /// and when this end is gone.
     bell: Option<Ringer>,
 }
 
@@ -81,15 +82,15 @@ impl<T: Drop> Model for PipeOut<T> {
 /// What a look at a pipe finds.
 #[derive(Drop)]
 pub enum FoundItem<T> {
-    /// The item that was put first of those that wait.
+    /// The first item put of those that wait.
     Item(T),
-    /// None waits.
+    /// No item waits.
     Nothing,
-    /// None waits, and the other end is gone.
+    /// No item waits, and the other end is gone.
     Gone,
 }
 
-/// Why an item wasn't put at once; it comes back.
+/// Why an item wasn't put; the item comes back.
 #[derive(Drop)]
 pub enum NotPut<T> {
     /// The pipe was full.
@@ -98,8 +99,8 @@ pub enum NotPut<T> {
     Gone(T),
 }
 
-/// The two ends of a pipe, at which nothing was put or taken yet. Four items can wait in it, and items that were put at once
-/// count as one. `Memory` where a growth is refused.
+/// Returns the two ends of a pipe, at which nothing was put or taken yet. Four items can wait in it; items that were put at once count as
+/// one. Returns `Memory` if an allocation fails.
 pub fn pipe<T: Drop + Send>(alloc: Global) -> Result<(PipeIn<T>, PipeOut<T>), Memory>
     ensures pair { IfOk result (λ ends. ends.0.pipe ≡ ends.1.pipe) }
     ensures nothing_put { IfOk result (λ ends. ends.0.items ≡ []) }
@@ -109,7 +110,8 @@ pub fn pipe<T: Drop + Send>(alloc: Global) -> Result<(PipeIn<T>, PipeOut<T>), Me
     Ok(ends)
 }
 
-/// The two ends of such a pipe to a thread that waits at a bell, which is rung after each put, and when the putting end is gone.
+/// Returns the two ends of such a pipe to a thread that waits at a bell. The bell is rung after each put, and when the putting end is gone.
+/// Returns `Memory` if an allocation fails.
 pub fn pipe_to<T: Drop + Send>(
     alloc: Global,
     taker: &Bell,
@@ -123,8 +125,9 @@ pub fn pipe_to<T: Drop + Send>(
     Ok(ends)
 }
 
-/// The two ends of such a pipe between two threads that wait at bells: that of the taking one is rung likewise, and that of the putting one
-/// when there is room in the pipe again, and when the taking end is gone.
+/// Returns the two ends of such a pipe between two threads that wait at bells. The taker's bell is rung after each put, and when the
+/// putting end is gone. The putter's bell is rung when there is room in the pipe again, and when the taking end is gone. Returns `Memory`
+/// if an allocation fails.
 pub fn pipe_between<T: Drop + Send>(
     alloc: Global,
     putter: &Bell,
@@ -140,7 +143,7 @@ pub fn pipe_between<T: Drop + Send>(
     Ok(ends)
 }
 
-/// The two ends of such a pipe, with what is rung after each put, and when there is room again.
+/// Returns the two ends of such a pipe, with what is rung after each put (`onward`), and when there is room again (`back`).
 fn pipe_with<T: Drop + Send>(
     alloc: Global,
     onward: Option<Ringer>,
@@ -172,15 +175,15 @@ fn pipe_with<T: Drop + Send>(
     Ok((into, out))
 }
 
-/// Rings a bell, where there is one.
+/// Rings a bell, if there is one.
 fn ring(bell: &Option<Ringer>) {
     if let Some(ringer) = bell {
         ringer.ring();
     }
 }
 
-/// Takes the bundle that was put first of those in the channel. It looks for it, and lets other threads run before it looks again;
-/// then it waits while there is none, and answers none where the other end is gone too. It takes no memory.
+/// Takes the first bundle put of those in the channel. It looks for one repeatedly and lets other threads run in between. Then it waits
+/// while there is none, and returns `None` if the other end is gone too. It allocates no memory.
 fn receive<T: Drop, R: Wait>(
     rt: &R,
     receiver: &PipeReceiver<T>,
@@ -205,8 +208,8 @@ fn receive<T: Drop, R: Wait>(
 }
 
 impl<T: Drop> PipeIn<T> {
-    /// Puts an item in the pipe, up to a million in all. It waits while the pipe is full. Where the other end is gone the item
-    /// comes back, and nothing was put. It takes no memory.
+    /// Puts an item in the pipe, up to 1,000,000 in all. It waits while the pipe is full. If the other end is gone, it returns the item,
+    /// and nothing was put. It allocates no memory.
     pub fn put<R: Wait>(&mut self, rt: &R, item: T) -> Result<(), T>
         requires room { length self.old.items < most_items }
         ensures pipe { self.new.pipe ≡ self.old.pipe }
@@ -220,8 +223,8 @@ impl<T: Drop> PipeIn<T> {
         }
     }
 
-    /// Puts an item in the pipe, and others behind it at once, up to a million in all: they wait in the pipe as one. It waits
-    /// while the pipe is full. Where the other end is gone all come back, and nothing was put. It takes no memory.
+    /// Puts an item in the pipe and others after it, all at once, up to 1,000,000 in all. They wait in the pipe as one. It waits while the
+    /// pipe is full. If the other end is gone, it returns all of them, and nothing was put. It allocates no memory.
     pub fn put_with<R: Wait>(
         &mut self,
         rt: &R,
@@ -249,8 +252,8 @@ impl<T: Drop> PipeIn<T> {
         }
     }
 
-    /// Puts an item in the pipe, up to a million in all, where there is room. Else it comes back, and nothing was put: `Full` where the pipe
-    /// was full, `Gone` where the other end is gone. It waits for nobody, and takes no memory.
+    /// Puts an item in the pipe if there is room, up to 1,000,000 in all. Else it returns the item, and nothing was put: `Full` if the pipe
+    /// was full, `Gone` if the other end is gone. It doesn't block and allocates no memory.
     pub fn try_put<R: Wait>(&mut self, rt: &R, item: T) -> Result<(), NotPut<T>>
         requires room { length self.old.items < most_items }
         ensures pipe { self.new.pipe ≡ self.old.pipe }
@@ -288,8 +291,8 @@ impl<T: Drop> PipeIn<T> {
         }
     }
 
-    /// How many items were put and not taken: these are gone then, and both ends. They are of one pipe. It waits for nobody
-    /// and takes no memory.
+    /// Drops both ends, which are of one pipe, and the items that were put and not taken; returns the number of these items. It doesn't
+    /// block and allocates no memory.
     pub fn close(self, out: PipeOut<T>) -> u64
         requires pair { self.pipe ≡ out.pipe }
         ensures { AreLeft self.items out.items result }
@@ -316,9 +319,9 @@ impl<T: Drop> PipeIn<T> {
 }
 
 impl<T: Drop> PipeOut<T> {
-    /// Takes the item that was put first of those that wait, or says that none does, and whether the other end is gone. Where none waits, and
-    /// the pipe may have been full since that was so before, the bell of the other end's thread is rung: so whoever takes until none is left
-    /// leaves nobody waiting for room. It waits for nobody, and takes no memory.
+    /// Takes the first item put of those that wait. Returns `Nothing` if none waits, and `Gone` if also the other end is gone. If `Nothing`
+    /// is found, and the pipe may have been full since the last time, the bell of the other end's thread is rung. So a thread that takes
+    /// items until none is left leaves nobody waiting for room. It doesn't block and allocates no memory.
     pub fn look<R: Wait>(&mut self, rt: &R) -> FoundItem<T>
         ensures pipe { self.new.pipe ≡ self.old.pipe }
         ensures items { self.new.items ≡ self.old.items ++ items_found result }
@@ -343,7 +346,7 @@ impl<T: Drop> PipeOut<T> {
         }
     }
 
-    /// Notes that none was found: where so many were taken before that the pipe may have been full, there is room again.
+    /// Notes that the channel was found empty. Rings the bell if the channel may have been full before, as there is room again.
     fn end_streak(&mut self)
         ensures { self.new ≡ self.old }
     {
@@ -353,8 +356,8 @@ impl<T: Drop> PipeOut<T> {
         self.streak = 0;
     }
 
-    /// Takes the item that was put first of those that wait. It waits while nothing waits in the pipe, and answers none where
-    /// the other end is gone too. It takes no memory.
+    /// Takes the first item put of those that wait. It waits while there is none, and returns `None` if the other end is gone too. It
+    /// allocates no memory.
     pub fn take<R: Wait>(&mut self, rt: &R) -> Option<T>
         ensures pipe { self.new.pipe ≡ self.old.pipe }
         ensures some { IfSome result (λ item. self.new.items ≡ self.old.items ++ item ∷ []) }

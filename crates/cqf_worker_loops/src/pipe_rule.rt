@@ -1,16 +1,16 @@
-//! The rule of a pipe: what was put is what was taken and what the channel holds, in that order.
+//! The rule of a pipe: the items put are the items taken followed by those that the channel holds.
 use crossbeam_channel::protocol::{Join, Lesson, Outcome, Protocol, Split};
 use crossbeam_channel::{Pass, RuledReceiver, RuledSender};
 use std::collections::{LinkedList, VecDeque};
 
-/// What was put at once: an item, and those behind it.
+/// Items that were put at once: the first one, and the others after it.
 #[derive(Drop)]
 pub(crate) struct Bundle<T> {
     pub first: T,
     pub behind: VecDeque<T>,
 }
 
-/// What a thread knows of a pipe by its pass: whether it may put and take, and what it has put and taken. No value of it is
+/// What a thread knows of a pipe by its pass: whether it may put and take, and what it has put and taken. No value of this type is ever
 /// made.
 pub(crate) struct PipeLog<T> {
     pub puts: bool,
@@ -19,7 +19,7 @@ pub(crate) struct PipeLog<T> {
     pub taken: LinkedList<T>,
 }
 
-/// The rule, and the view of the first pass, which may do both.
+/// The rule, and the view of the first pass, which may both put and take.
 pub(crate) struct InOrder;
 
 impl<T> Protocol<Bundle<T>, PipeLog<T>> for InOrder {
@@ -31,7 +31,7 @@ impl<T> Protocol<Bundle<T>, PipeLog<T>> for InOrder {
     ghost first = { log true true [] [] };
 }
 
-/// The pass is cut in two: one that may put, and one that may take; and put together again.
+/// Splits the pass into one that may put and one that may take, and joins them again.
 pub(crate) struct Roles;
 
 impl<T> Split<PipeLog<T>> for Roles {
@@ -52,7 +52,7 @@ impl<T> Join<PipeLog<T>> for Roles {
     ghost spent = { log false false [] [] };
 }
 
-/// Items are put, as one bundle.
+/// Puts items, as one bundle.
 pub(crate) struct Puts;
 
 impl<T> Outcome<Bundle<T>, PipeLog<T>> for Puts {
@@ -65,7 +65,7 @@ impl<T> Lesson<Bundle<T>, PipeLog<T>> for Puts {
     ghost fact = { λ v held. Unit {0} };
 }
 
-/// A bundle is taken.
+/// Takes a bundle.
 pub(crate) struct Takes;
 
 impl<T> Outcome<Bundle<T>, PipeLog<T>> for Takes {
@@ -78,7 +78,7 @@ impl<T> Lesson<Bundle<T>, PipeLog<T>> for Takes {
     ghost fact = { λ v held. Unit {0} };
 }
 
-/// What the pass that may do both learns of what the channel holds.
+/// What the pass that may both put and take learns about the content of the channel.
 pub(crate) struct Total;
 
 impl<T> Lesson<Bundle<T>, PipeLog<T>> for Total {
@@ -87,7 +87,7 @@ impl<T> Lesson<Bundle<T>, PipeLog<T>> for Total {
     ghost fact = { IsRest };
 }
 
-/// The channel's two ends, and what a thread knows of it.
+/// The channel's two ends, and a thread's pass.
 pub(crate) type PipeSender<T> = RuledSender<Bundle<T>, PipeLog<T>, InOrder>;
 
 pub(crate) type PipeReceiver<T> = RuledReceiver<Bundle<T>, PipeLog<T>, InOrder>;

@@ -1,4 +1,4 @@
-//! A bridge's thread: its links go on by themselves.
+//! The rounds of a bridge's thread: each link goes on independently.
 ghost use Rattle.std.specs.Prelude.{◌≡◌, ◌<◌, IfErr, IfOk, OnErr, OnOk, length};
 ghost use Rattle.cqf_worker_loops.specs.GivingUp.{GivesUpFor};
 ghost use Rattle.cqf_worker_loops.specs.Stepping.{EndsSo, EntersTable, GoesFurther, HandsOnAt, HasPutStretches, HasTable, KeepsReel, SomeUnderWay};
@@ -13,7 +13,7 @@ use cqf_units::Cycle;
 use std::alloc::Global;
 use std::sync::Wait;
 
-/// Has the bridge take the table of its next cycle, which has come.
+/// Has the bridge take the table of its next cycle, which has arrived.
 fn enter_table<P: Pace>(pace: &P, worker: &mut Worker, table: &Table) -> Result<(), WorkerFault>
     requires { HasTable table.now worker.old }
     ensures ok { OnOk result (EntersTable table.now worker.old worker.new) }
@@ -27,7 +27,7 @@ fn enter_table<P: Pace>(pace: &P, worker: &mut Worker, table: &Table) -> Result<
     Ok(())
 }
 
-/// Takes the tables that have come, as far as the bridge takes them as yet.
+/// Takes the tables that have arrived, as long as the bridge wants another one.
 fn look_for_tables<R: Wait, P: Pace>(
     rt: &R,
     pace: &P,
@@ -50,7 +50,7 @@ fn look_for_tables<R: Wait, P: Pace>(
     Ok(())
 }
 
-/// Takes the stretches that have come by an inlet, until none is left.
+/// Takes the stretches that have arrived through the inlet at this index, until none is left.
 fn look_for_stretches<R: Wait>(rt: &R, worker: &mut Worker, place: usize) -> Result<(), WorkerFault>
     requires way { SomeUnderWay worker.old }
     requires place { place < length worker.old.ins.items }
@@ -67,7 +67,7 @@ fn look_for_stretches<R: Wait>(rt: &R, worker: &mut Worker, place: usize) -> Res
     Ok(())
 }
 
-/// Takes all that has come.
+/// Takes everything that has arrived.
 fn look<R: Wait, P: Pace>(rt: &R, pace: &P, worker: &mut Worker) -> Result<(), WorkerFault>
     requires { SomeUnderWay worker.old }
     ensures ok { OnOk result (GoesFurther worker.old worker.new) }
@@ -80,8 +80,8 @@ fn look<R: Wait, P: Pace>(rt: &R, pace: &P, worker: &mut Worker) -> Result<(), W
     Ok(())
 }
 
-/// Hands on what a link has sent to the bridge at its end, by the port at a place. Where its pipe is full it is kept for later: the bell rings
-/// when there is room.
+/// Passes on what the link at index `place` has sent, to the bridge at its end, through the port at index `port`. If the pipe is full, the
+/// bridge keeps it for later: the bell rings when there is room.
 fn tell_on<R: Wait>(
     rt: &R,
     alloc: Global,
@@ -106,7 +106,7 @@ fn tell_on<R: Wait>(
     }
 }
 
-/// Hands on what the links have sent to the bridges at their ends, as far as there is room in their pipes.
+/// Passes on what the links have sent to the bridges at their ends, as far as there is room in their pipes.
 fn tell<R: Wait>(rt: &R, alloc: Global, worker: &mut Worker) -> Result<(), WorkerFault>
     requires { SomeUnderWay worker.old }
     ensures ok { OnOk result (GoesFurther worker.old worker.new) }
@@ -126,7 +126,7 @@ fn tell<R: Wait>(rt: &R, alloc: Global, worker: &mut Worker) -> Result<(), Worke
     Ok(())
 }
 
-/// Takes what has come, has each link go on as far as it may, and hands on what was sent. Says whether a link went on.
+/// Takes what has arrived, lets each link go on as far as it can, and passes on what was sent. Returns whether a link went on.
 fn go_on<R: Wait, P: Pace>(
     rt: &R,
     alloc: Global,
@@ -142,12 +142,12 @@ fn go_on<R: Wait, P: Pace>(
     if may_send {
         worker.relay.send()?;
     }
-    // a link to which a row has just come to lead has news though it may not go on
+    // a link that a new row now leads to has something to pass on, even if it can't go on itself
     tell(rt, alloc, worker)?;
     Ok(may_send)
 }
 
-/// Keeps on the worker's reel what its bridge has sent and dropped.
+/// Moves what the bridge has sent and dropped to the worker's reel.
 fn keep(alloc: Global, worker: &mut Worker) -> Result<(), WorkerFault>
     ensures ok { OnOk result (KeepsReel worker.old worker.new) }
     ensures err { IfErr result (λ fault. fault ≡ Memory) }
@@ -157,8 +157,8 @@ fn keep(alloc: Global, worker: &mut Worker) -> Result<(), WorkerFault>
     Ok(())
 }
 
-/// Goes through all cycles: where no link may go on with all that has come it waits at its bell. That is rung for each table and each stretch, and
-/// where there is room for what it couldn't hand on, and it waits nowhere else.
+/// Goes through all cycles. If no link can go on with what has arrived so far, it waits at its bell. The bell is rung for each table and
+/// each stretch, and when there is room for what couldn't be passed on. It waits nowhere else.
 pub(crate) fn work_rounds<R: Wait, P: Pace>(
     rt: &R,
     alloc: Global,

@@ -1,4 +1,4 @@
-//! What the conductor of a run does: it closes the cycles to changes, one by one, and hands their tables on.
+//! What the conductor of a run does: it closes the cycles to changes, one by one, and passes their tables on.
 ghost use Rattle.std.specs.Prelude.{◌≡◌, ◌+◌, ◌/◌, ◌<◌, ◌≤◌, [], ◌∷◌, false, true, All, IfErr, IfOk, length, map, min};
 ghost use Rattle.cqf_worker_loops.specs.Handing.{
   ClosesSome,
@@ -33,24 +33,24 @@ use std::alloc::{AllocFailed, Global};
 use std::collections::VecDeque;
 use std::sync::Wait;
 
-/// How many cycles are closed before one table more is handed on at once.
+/// After this many closed cycles, the number of tables passed on at once grows by one.
 const CLOSED_BY_ONE: u32 = 16;
 
-/// How many tables are handed on at once at most.
+/// The most tables that are passed on at once.
 const MOST_AT_ONCE: u32 = 16;
 
-/// Why the conductor doesn't close all cycles, or doesn't hand on all tables.
+/// Why the conductor doesn't close all cycles, or doesn't pass on all tables.
 #[derive(Clone, Copy, Debug, PartialEq, Eq, Drop)]
 pub enum SealingFault {
-    /// A growth was refused.
+    /// An allocation failed.
     Memory,
     /// No more cycles can be closed.
     CyclesSpent,
-    /// A worker had ended before all tables were handed to it. All cycles are closed then.
+    /// A worker ended before it was given all tables. All cycles are closed in this case.
     Lost,
 }
 
-/// Want of memory, as a fault.
+/// Converts an allocation failure into a fault.
 impl From<Memory> for SealingFault {
     ghost use Rattle.cqf_worker_loops.specs.declared.sealing.SealingFault.TheVariants as variant;
 
@@ -61,7 +61,7 @@ impl From<Memory> for SealingFault {
     }
 }
 
-/// Want of room for a value, likewise.
+/// Likewise converts a failed allocation of a value.
 impl<T: Drop> From<AllocFailed<T>> for SealingFault {
     ghost use Rattle.cqf_worker_loops.specs.declared.sealing.SealingFault.TheVariants as variant;
 
@@ -72,7 +72,7 @@ impl<T: Drop> From<AllocFailed<T>> for SealingFault {
     }
 }
 
-/// Why a Seal is refused, as a fault.
+/// Converts the reason of a refused Seal into a fault.
 impl From<SealFault> for SealingFault {
     ghost from_gives = { λ refused fault. fault ≡ fault_of_seal refused };
 
@@ -91,23 +91,23 @@ pub struct Sealed {
     pub tables: Vec<PipeIn<Carried<Table>>>,
 }
 
-/// What the conductor has where it doesn't close all cycles, or doesn't hand on all tables, and why.
+/// What the conductor has if it doesn't close all cycles or doesn't pass on all tables, and why.
 #[derive(Drop)]
 pub struct Unsealed {
     pub fault: SealingFault,
     pub conductor: Sealed,
 }
 
-/// The tables of cycles one behind the other, at least one, which are handed on together.
+/// The tables of consecutive cycles, at least one, which are passed on together.
 #[derive(Drop)]
 pub(crate) struct Block {
     first: Table,
     behind: Vec<Table>,
 }
 
-/// How many cycles are closed before their tables are handed on together, behind so many that are closed: one at the beginning of a
-/// run, so that what administrators ask for takes effect soon, and up to [`MOST_AT_ONCE`] as it goes on, so that workers are woken
-/// less often.
+/// Returns how many cycles are closed before their tables are passed on together, if `closed` cycles are closed already. It is 1 at the
+/// beginning of a run, so that administrators' requests take effect soon. It grows up to [`MOST_AT_ONCE`], so that workers are woken less
+/// often.
 fn tables_at_once(closed: u32) -> u32
     requires { closed ≤ most_cycles }
     ensures some { 0 < result }
@@ -116,7 +116,7 @@ fn tables_at_once(closed: u32) -> u32
     1 + (closed / CLOSED_BY_ONE).min(MOST_AT_ONCE - 1)
 }
 
-/// Puts messages in a pipe at once, and says whether the other end was there to have them.
+/// Puts messages in a pipe at once. Returns whether the other end still existed.
 fn hand<R: Wait>(
     rt: &R,
     end: &mut PipeIn<Carried<Table>>,
@@ -133,7 +133,7 @@ fn hand<R: Wait>(
     }
 }
 
-/// Copies of tables, as a pipe carries them.
+/// Returns copies of tables, as a pipe carries them.
 fn carried(alloc: Global, tables: &[Table]) -> Result<VecDeque<Carried<Table>>, Memory>
     ensures { IfOk result (λ copies. copies.items ≡ map Item tables.now) }
 {
@@ -144,7 +144,7 @@ fn carried(alloc: Global, tables: &[Table]) -> Result<VecDeque<Carried<Table>>, 
     Ok(copies)
 }
 
-/// Puts copies of the tables in each pipe, passing over those whose worker has ended, and says whether all have them.
+/// Puts copies of the tables in each pipe, skipping those whose worker has ended. Returns whether every worker was given them.
 fn hand_on<R: Wait>(
     rt: &R,
     alloc: Global,
@@ -168,7 +168,7 @@ fn hand_on<R: Wait>(
     Ok(all)
 }
 
-/// Puts a Stop in a pipe, and says whether the other end was there to have it.
+/// Puts a `Stop` in a pipe. Returns whether the other end still existed.
 fn tell<R: Wait>(rt: &R, end: &mut PipeIn<Carried<Table>>) -> bool
     requires room { length end.old.items < most_items }
     ensures given { result ≡ true → end.new ≡ with_items end.old (Stop ∷ []) }
@@ -180,8 +180,8 @@ fn tell<R: Wait>(rt: &R, end: &mut PipeIn<Carried<Table>>) -> bool
     }
 }
 
-/// Tells each worker, once, that no table comes any more, passing over those that have ended. At each end fewer than 1,000,000 items
-/// were put. It waits while a pipe is full, and takes no memory.
+/// Notifies each worker once that no more tables follow, skipping those that have ended. At each end fewer than 1,000,000 items were put
+/// before. It waits while a pipe is full, and allocates no memory.
 pub fn stop_tables<R: Wait>(rt: &R, tables: &mut [PipeIn<Carried<Table>>])
     requires room { All (λ end. length end.items < most_items) tables.old }
     ensures pipes { pipes_of tables.new ≡ pipes_of tables.old }
@@ -192,7 +192,7 @@ pub fn stop_tables<R: Wait>(rt: &R, tables: &mut [PipeIn<Carried<Table>>])
     }
 }
 
-/// Closes the next cycle with the seat: its table.
+/// Closes the next cycle with the seat and returns its table.
 fn seal_one<R: Wait>(
     rt: &R,
     alloc: Global,
@@ -210,7 +210,7 @@ fn seal_one<R: Wait>(
     Ok(copy)
 }
 
-/// Closes the next cycles with the seat, so many: their tables.
+/// Closes the next `count` cycles with the seat and returns their tables.
 fn seal_many<R: Wait>(
     rt: &R,
     alloc: Global,
@@ -229,7 +229,7 @@ fn seal_many<R: Wait>(
     Ok(tables)
 }
 
-/// Closes the next cycles with the seat, so many, at least one: their tables.
+/// Closes the next `count` cycles with the seat, at least one, and returns their tables.
 fn seal_block<R: Wait>(
     rt: &R,
     alloc: Global,
@@ -246,7 +246,7 @@ fn seal_block<R: Wait>(
     Ok(Block { first, behind })
 }
 
-/// Closes the next cycles with the seat, so many, and hands their tables on.
+/// Closes the next `count` cycles with the seat and passes their tables on. Returns whether every worker was given them.
 fn seal_next<R: Wait>(
     rt: &R,
     alloc: Global,
@@ -267,9 +267,9 @@ fn seal_next<R: Wait>(
     Ok(all)
 }
 
-/// Closes so many cycles to changes, one after the other, and hands the tables of all to every worker. Says whether no worker had
-/// ended before; where one has, the others go on. Where a Seal is refused, or memory, it tells the workers that no table comes any
-/// more. What it puts for a worker is tables, and then at most one Stop.
+/// Closes `cycles` cycles to changes, one after the other, and passes the tables of all of them to every worker. Returns whether all
+/// workers were given all tables; if a worker has ended, the others go on. If a Seal is refused or an allocation fails, it notifies the
+/// workers that no more tables follow. What it puts for a worker is tables, and then at most one `Stop`.
 fn seal_cycles<R: Wait>(
     rt: &R,
     alloc: Global,
@@ -306,10 +306,10 @@ fn seal_cycles<R: Wait>(
     Ok(all)
 }
 
-/// Closes so many cycles to changes, at most 100,000, with a seat that has no calls yet, and hands the table of each to every worker,
-/// at ends where nothing was put: `CyclesSpent` or `Memory` where a Seal is refused, or memory, and then each worker that still takes is
-/// told by a Stop; `Lost` where a worker had ended before, and then all cycles are closed, and the others have all tables. With a fault
-/// the seat and the ends come back. It waits for the desk's lock and for room in the pipes.
+/// Closes `cycles` cycles to changes, at most 100,000, with a seat that has no calls and no tables yet, and passes the table of each to
+/// every worker, at ends where nothing was put. Returns `CyclesSpent` or `Memory` if a Seal is refused or an allocation fails; each worker
+/// that still takes is then notified by a `Stop`. Returns `Lost` if a worker had ended before; all cycles are closed then, and the other
+/// workers have all tables. With a fault the seat and the ends come back. It waits for the desk's lock and for room in the pipes.
 pub fn seal_all<R: Wait>(
     rt: &R,
     alloc: Global,

@@ -25,15 +25,15 @@ use std::sync::Wait;
 #[derive(Drop)]
 pub struct Worker {
     pub relay: Relay,
-    /// Where it waits: it is rung for each table and each stretch that comes, and for room in a pipe that was full.
+    /// Where it waits. The bell is rung for each table and each stretch that arrives, and for room in a pipe that was full.
     pub bell: Bell,
-    /// What the bridge is offered.
+    /// The offers at the bridge, by cycle.
     pub agenda: Agenda,
-    /// Where the table of each cycle comes.
+    /// Where the table of each cycle arrives.
     pub tables: PipeOut<Carried<Table>>,
-    /// The ends of the pipes on the links that end in the bridge, by number.
+    /// The ends of the pipes on the links that end in the bridge, by link number.
     pub ins: Vec<LinkEnd<PipeOut<Carried<Stretch>>>>,
-    /// The ends of the pipes on the links that leave the bridge and end in another, by number.
+    /// The ends of the pipes on the links that leave the bridge and end in another bridge, by link number.
     pub outs: Vec<LinkEnd<PipeIn<Carried<Stretch>>>>,
     /// What the bridge has sent and dropped.
     pub reel: Reel,
@@ -42,13 +42,13 @@ pub struct Worker {
 /// Why a worker ends before its last cycle is over.
 #[derive(Clone, Copy, Debug, PartialEq, Eq, Drop)]
 pub enum WorkerFault {
-    /// A growth was refused to it.
+    /// An allocation failed.
     Memory,
-    /// A pipe carried that nothing comes any more, or its other end was gone. It is no fault of the worker's own.
+    /// A pipe carried a `Stop`, or its other end was gone. The cause isn't the worker itself.
     Stopped,
 }
 
-/// Want of memory, as a fault.
+/// Converts an allocation failure into a fault.
 impl From<Memory> for WorkerFault {
     ghost use Rattle.cqf_worker_loops.specs.declared.worker.WorkerFault.TheVariants as variant;
 
@@ -59,8 +59,8 @@ impl From<Memory> for WorkerFault {
     }
 }
 
-/// What comes back of a worker that gives up: the number of its bridge, from 0, why, and the ends at which it put. What it put there is
-/// stretches, and then at most one Stop.
+/// What a worker returns when it gives up: the number of its bridge, from 0, the fault, and the ends at which it put items. At each of
+/// these it put stretches, and then at most one `Stop`.
 #[derive(Drop)]
 pub struct GaveUp {
     pub bridge: u16,
@@ -68,8 +68,9 @@ pub struct GaveUp {
     pub outs: Vec<LinkEnd<PipeIn<Carried<Stretch>>>>,
 }
 
-/// Lets go of a worker: first of the ends at which it takes, so that who puts there, or waits for room, waits no more; then those who take
-/// from it are told that nothing comes any more. Gives the ends at which that was put, behind stretches alone.
+/// Drops a worker. It first drops the ends at which the worker takes, so that no thread that puts there waits for room any more. Then it
+/// notifies the threads that take from the worker that no more items follow. Returns the ends at which a `Stop` was put after nothing but
+/// stretches.
 fn let_go<R: Wait>(rt: &R, worker: Worker) -> Vec<LinkEnd<PipeIn<Carried<Stretch>>>>
     requires room { All (λ port. length port.pipe.items < most_items) worker.outs.items }
     requires batches { All (λ port. AreItems port.pipe.items) worker.outs.items }
@@ -93,12 +94,12 @@ fn let_go<R: Wait>(rt: &R, worker: Worker) -> Vec<LinkEnd<PipeIn<Carried<Stretch
     outs
 }
 
-/// Goes through all cycles of a run with a bridge on its thread: the worker comes back with what went through its pipes, and with what its
-/// bridge sent and dropped on its reel; it had done nothing before. The pace is asked in each cycle, once its table has come, and no lock
-/// is held. It waits at its bell, and nowhere else but where it gives up. Where it ends sooner it tells so first to those who put for it, and
-/// then to those who take from it; the ends at which they are told come back, and the rest is gone with its reel, without which there is no
-/// book. It may give up for want of memory, and, where there are cycles, where it is stopped. That the cycles are at most 100,000 is for the
-/// caller to see to.
+/// Goes through all cycles of a run with a bridge on its thread. The worker has done nothing before. It comes back with what went through
+/// its pipes, and with what its bridge sent and dropped on its reel. The pace is called in each cycle once the cycle's table has arrived,
+/// while no lock is held. The worker waits only at its bell, unless it gives up. If it gives up, it first notifies the threads that put
+/// items for it, and then those that take from it. The ends at which it notifies the latter come back. The rest is gone with its reel, and
+/// without the reel there is no book. It returns `Memory` if an allocation fails, and `Stopped`, only if there are cycles, if it is
+/// stopped. The caller ensures that there are at most 100,000 cycles.
 pub fn work<R: Wait, P: Pace>(
     rt: &R,
     alloc: Global,

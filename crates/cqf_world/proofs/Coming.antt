@@ -1,4 +1,4 @@
--- Batches come onto their links, one by one.
+-- Batches are put on their links, one by one.
 use Rattle.std.proofs.Common.{◌≡◌, ℕ, ◌<◌, ◌++◌, List, get_or, length, set, sym, ap, ◌∙◌, refl, inl, inr, true, false, append-nil, append_assoc, eq-eqb, ne_eqb}
 use Rattle.std.specs.Prelude.{◌∷◌, [], ◌==◌, filter}
 use Rattle.std.proofs.lemmas.Bool.{cases_eq, cond-false, cond-true}
@@ -10,7 +10,7 @@ use Rattle.cqf_world.specs.declared.parts.Line.{Line}
 use Rattle.cqf_world.specs.Parts.{AreComing, taken_of}
 use Rattle.cqf_world.proofs.Standing.{count_kept}
 
--- before the first
+-- before the first batch
 pub none_coming : (d : Domain) (lines : List Line) → AreComing d [] lines lines
 none_coming d lines = record {
   as_many = refl;
@@ -33,11 +33,11 @@ passed_by d batches before after batch none so = record {
       ∙ append-nil (filter (λ (b : LinkBatch). b.link == link) batches))));
 }
   where
-    -- two answers differ
+    -- two answers that differ
     false_true : false ≡ true → ⊥
     false_true e = absurd cc
 
--- a batch of a link that ends in one
+-- a batch of a link that ends in a bridge
 pub one_coming : (d : Domain) (batches : List LinkBatch) (before after : List Line) (batch : LinkBatch) (x y : Line) (place : ℕ) → place ≡ batch.link →
     place < length after → x ≡ get_or after place x → y.taken ≡ x.taken → y.waiting.items ≡ x.waiting.items ++ batch ∷ [] →
     AreComing d batches before after → AreComing d (batches ++ batch ∷ []) before (set after place y)

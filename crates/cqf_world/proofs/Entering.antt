@@ -34,7 +34,7 @@ module _ (v : WorldState) (tables : List CycleTable) (driven : List WorldBridge)
     (world : IsWorld v tables driven lines)
     (legal : IsLegalHistory v.domain entries) (counted : seals entries ≡ seals v.entries)
     (stay : (cycle : ℕ) → cycle < seals v.entries → table_at v.domain entries cycle ≡ table_at v.domain v.entries cycle) where
-  -- with more entries, none of which is a Seal, the run is the same
+  -- with more entries and no Seal among them, the run is the same
   run_same : sealed_run (record v { entries = entries }) ≡ sealed_run v
   run_same =
       let same : tables_of v.domain entries (seals entries) ≡ tables_of v.domain v.entries (seals v.entries) =
@@ -43,7 +43,7 @@ module _ (v : WorldState) (tables : List CycleTable) (driven : List WorldBridge)
       (λ cycle within. ap (λ (rows : List Row). rows ∷ []) (stay cycle within)) in
       λ i. record { domain = v.domain; tables = same i; offers = v.offers; background = v.background }
 
-  -- so the world stays
+  -- so it is still a world
   pub entries_grow : IsWorld (record v { entries = entries }) tables driven lines
   entries_grow = record {
     given = given_entries v entries world.given legal;
@@ -72,7 +72,7 @@ module _ (v : WorldState) (tables : List CycleTable) (driven : List WorldBridge)
     });
   }
 
--- what an answered call leaves
+-- the effect of an answered call
 pub called_world : (v : WorldState) (tables : List CycleTable) (driven : List WorldBridge) (lines : List Line) (old new : Administration) (seat : ℕ) (act : Act)
     (result : Result Receipt Refused) → SealsAreCounted → ClosedTablesStay → IsWorld v tables driven lines → v.domain ≡ old.domain → v.entries ≡ old.entries →
     is_seal act ≡ false → Answers old new seat act result → IsLegalHistory new.domain new.entries →

@@ -13,7 +13,7 @@ use Rattle.cqf_world.specs.World.{WorldState, cycle_of_bridge, sealed_run}
 use Rattle.cqf_world.proofs.Keeping.{given_counts}
 use Rattle.cqf_world.proofs.Standing.{count_kept, each_with, given_at, driven_at}
 
--- a driven bridge with one more table
+-- a bridge with one more table
 abbrev pub with_table : WorldBridge → WorldBridge
 with_table s = record {
   bridge = s.bridge;
@@ -26,7 +26,7 @@ with_table s = record {
   taken = s.taken;
 }
 
--- a world with such a driven bridge
+-- a world with such a bridge
 abbrev pub world_given : WorldState → List WorldBridge → ℕ → WorldBridge → WorldState
 world_given w driven bridge s = record {
   domain = w.domain;
@@ -42,7 +42,7 @@ world_given w driven bridge s = record {
 }
 
 module _ (w : WorldState) (tables : List CycleTable) (driven : List WorldBridge) (lines : List Line) (is : IsRunningWorld w tables driven lines) where
-  -- a bridge may be given a table where its counts say so
+  -- a bridge may be given a table if its counts say so
   pub may_be_given : (bridge : ℕ) (s : WorldBridge) → bridge < length driven → s ≡ get_or driven bridge s → s.given ≡ s.posted → s.posted < w.cycles →
       s.posted < length tables → MayBeGiven w bridge
   may_be_given bridge s inside there lacks of_run closed =
@@ -54,7 +54,7 @@ module _ (w : WorldState) (tables : List CycleTable) (driven : List WorldBridge)
         sealed = omega (arith, closed, st.in_cycle, is.all_tables);
       }
 
-  -- and its counts say so where it may be
+  -- and its counts say so if it may be
   pub counts_given : (bridge : ℕ) (s : WorldBridge) → bridge < length driven → s ≡ get_or driven bridge s → MayBeGiven w bridge →
       (s.given ≡ s.posted) × (s.posted < w.cycles) × (s.posted < length tables)
   counts_given bridge s inside there may =
@@ -69,7 +69,7 @@ module _ (w : WorldState) (tables : List CycleTable) (driven : List WorldBridge)
   sent_stays bridge s there =
       count_kept sent_of_driven driven bridge s (with_table s) there refl ∙ sym is.sent_are
 
-  -- the world goes on so
+  -- so the world goes on
   pub goes_on_given : (bridge : ℕ) (s : WorldBridge) → bridge < length driven → s ≡ get_or driven bridge s → MayBeGiven w bridge →
       IsRunningWorld (world_given w driven bridge s) tables (set driven bridge (with_table s)) lines
   goes_on_given bridge s inside there may =
@@ -128,7 +128,7 @@ module _ (w : WorldState) (tables : List CycleTable) (driven : List WorldBridge)
   here : s ≡ get_or driven bridge s
   here = there ∙ ap (λ (k : ℕ). get_or driven k s) at
 
-  -- so the world stays one with a table given
+  -- so it is still a world, with a table given
   pub given_world : IsWorld (world_given w driven bridge s) tables (set driven bridge (with_table s)) lines
   given_world = record {
     given = given_counts w _ _ w.taken w.stopped world.given;
@@ -137,7 +137,7 @@ module _ (w : WorldState) (tables : List CycleTable) (driven : List WorldBridge)
     running = λ still. goes_on_given w tables driven lines is bridge s inside here may;
   }
 
-  -- and it is the same world but for what was given
+  -- and it is the same world except for what was given
   pub given_alone : world_given w driven bridge s ≡ record old { given = set old.given bridge (cycle_of_bridge old bridge + 1) }
   given_alone =
       let st = driven_at w tables driven lines is bridge s inside here in

@@ -1,4 +1,4 @@
--- One link more among those of which a batch was taken: its batch stands behind those of the links before it.
+-- The bridge takes the batch of one more link: this batch comes after those of links with lower numbers.
 use Rattle.std.proofs.Common.{◌≡◌, ℕ, ◌<◌, ◌++◌, Bool, List, drop, length, map, sym, ap, ◌∙◌, arith, refl, inl, inr}
 use Rattle.std.proofs.Common.{subst, true, false, take, AllPairs, Contains, eq-eqb, eqb-true}
 use Rattle.std.specs.Prelude.{◌∷◌, [], filter, nat_lt, Option, Some, slice_get}
@@ -16,11 +16,11 @@ use Rattle.cqf_model.specs.declared.topology.Node.{Node}
 use Rattle.cqf_model.specs.declared.topology.Node.TheVariants.{Bridge, Station as StationNode}
 use Rattle.cqf_model.specs.Domain.{Domain, IsAccepted, IsNode, enters, node_is}
 
--- how many of the first stand before a number
+-- how many of the numbers are less than a number
 abbrev pub before : ℕ → List ℕ → ℕ
 before l ns = length (filter (λ m. nat_lt m l) ns)
 
--- numbers in order, of which one more is kept
+-- one more of these ascending numbers is kept
 pub kept_more : (q r : ℕ → Bool) (l : ℕ) (ns : List ℕ) → AllPairs (λ (a b : ℕ). a < b) ns → Contains ns l → q l ≡ false → r l ≡ true →
     ((m : ℕ) → (m ≡ l → ⊥) → r m ≡ q m) → filter r ns ≡ insert (filter q ns) (before l (filter q ns)) l
 kept_more q r l [] up held lacks has same = absurd (contains_none l held)
@@ -58,11 +58,11 @@ pub insert_map : {X Y : Type 0} (f : X → Y) (xs : List X) (n : ℕ) (x : X) �
 insert_map f xs n x =
     map-append f (take n xs) (x ∷ drop n xs) ∙ (λ i. sym (take-map f n xs) i ++ f x ∷ sym (drop-map f n xs) i)
 
--- the parts of two lists that are the same
+-- lists with equal heads and tails
 pub same_parts : {X : Type 0} (x y : X) (xs ys : List X) → x ∷ xs ≡ y ∷ ys → (x ≡ y) × (xs ≡ ys)
 same_parts x y xs ys e = (cc, cc)
 
--- a link whose end is a bridge ends in it
+-- a link whose end is a bridge ends in that bridge
 pub ends_in : (d : Domain) (l b : ℕ) (link : Link) → IsAccepted d → slice_get d.links l ≡ Some link → link.to ≡ Bridge b → (enters d l b ≡ true)
     × (b < length d.bridges)
 ends_in d l b link accepted there to = (
@@ -75,7 +75,7 @@ pub ends_in_none : (d : Domain) (l k b : ℕ) (link : Link) → slice_get d.link
 ends_in_none d l k b link there to =
     ap (λ (o : Option Link). option_map_or (λ (x : Link). node_is x.to b) o false) there ∙ ap (λ (n : Node). node_is n b) to
 
--- the bridge in which a link ends is one of the domain's
+-- the bridge in which a link ends is one of the domain
 pub end_inside : (d : Domain) (l b : ℕ) → IsAccepted d → enters d l b ≡ true → b < length d.bridges
 end_inside d l b accepted ends = elim (slice_get_cases d.links l).1 [
   | inl w ↦ of_node w.0.to (accepted.links_good l w.0 w.2).to_node

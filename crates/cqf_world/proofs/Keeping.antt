@@ -1,11 +1,11 @@
--- What a world keeps of what it was given, and what is so whatever is answered.
+-- What a world keeps of its inputs, and what holds for every answer.
 use Rattle.std.proofs.Common.{◌≡◌, ℕ, Bool, Err, List, Ok, OnErr, Result, ◌∙◌, refl}
 use Rattle.cqf_model.specs.History.{IsLegalHistory, Recorded}
 use Rattle.cqf_book.specs.Pages.{ArePosted, Posted}
 use Rattle.cqf_world.specs.Parts.{IsGivenWorld}
 use Rattle.cqf_world.specs.World.{WorldState}
 
--- what a world was given, with another legal history, and with other pages of its bridges; it hangs on no count
+-- a world's inputs, with another legal history and other pages of its bridges; they don't depend on the counts
 pub given_as : (w : WorldState) (entries : List Recorded) (pages : Posted) (given sent taken : List ℕ) (stopped : Bool) → IsGivenWorld w →
     IsLegalHistory w.domain entries → pages.bridges ≡ w.pages.bridges → pages.cycles ≡ w.pages.cycles → ArePosted pages →
     IsGivenWorld (record w { entries = entries; pages = pages; given = given; sent = sent; taken = taken; stopped = stopped })
@@ -20,17 +20,17 @@ given_as w entries pages given sent taken stopped is legal bridges cycles in_ord
   in_order = in_order;
 }
 
--- with other counts alone
+-- with only other counts
 pub given_counts : (w : WorldState) (given sent taken : List ℕ) (stopped : Bool) → IsGivenWorld w →
     IsGivenWorld (record w { given = given; sent = sent; taken = taken; stopped = stopped })
 given_counts w given sent taken stopped is = given_as w w.entries w.pages given sent taken stopped is is.legal refl refl is.in_order
 
--- with another history alone
+-- with only another history
 pub given_entries : (w : WorldState) (entries : List Recorded) → IsGivenWorld w → IsLegalHistory w.domain entries →
     IsGivenWorld (record w { entries = entries })
 given_entries w entries is legal = given_as w entries w.pages w.given w.sent w.taken w.stopped is legal refl refl is.in_order
 
--- what is so in any case is so where a growth was refused
+-- what holds in any case holds if an allocation failed
 pub on_err : {T E P : Type 0} (r : Result T E) → P → OnErr r P
 on_err (Ok x) p = tt
 on_err (Err e) p = p

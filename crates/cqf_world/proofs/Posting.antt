@@ -43,7 +43,7 @@ use Rattle.cqf_world.specs.World.{ArePagesOfTheBook, WorldState, contents_posted
 use Rattle.cqf_world.proofs.Keeping.{given_as}
 use Rattle.cqf_world.proofs.Standing.{count_at, count_kept, each_with, sent_at, driven_at}
 
--- a test keeps no more than there is
+-- a filter keeps no more than there is
 kept_le : (p : ℕ → Bool) (ns : List ℕ) → length (filter p ns) ≤ length ns
 kept_le p [] = omega arith
 kept_le p (m ∷ ns) = elim (cases_Bool (p m)) [
@@ -51,7 +51,7 @@ kept_le p (m ∷ ns) = elim (cases_Bool (p m)) [
   | inr f ↦ omega (arith, ap length (cond-false (p m) (m ∷ filter p ns) (filter p ns) f), kept_le p ns)
 ]
 
--- where a test keeps as many as there are, each passes
+-- if a filter keeps everything, each element passes
 all_pass : (p : ℕ → Bool) (ns : List ℕ) → length (filter p ns) ≡ length ns → (m : ℕ) → Contains ns m → p m ≡ true
 all_pass p [] e m held = absurd (contains_none m held)
 all_pass p (k ∷ ns) e m held = elim (cases_Bool (p k)) [
@@ -62,17 +62,17 @@ all_pass p (k ∷ ns) e m held = elim (cases_Bool (p k)) [
   | inr f ↦ absurd (omega (arith, e, ap length (cond-false (p k) (k ∷ filter p ns) (filter p ns) f), kept_le p ns))
 ]
 
--- and where each passes, all are kept
+-- and if each passes, all are kept
 all_kept : (p : ℕ → Bool) (ns : List ℕ) → ((m : ℕ) → Contains ns m → p m ≡ true) → filter p ns ≡ ns
 all_kept p [] each = refl
 all_kept p (k ∷ ns) each =
     cond-true (p k) (k ∷ filter p ns) (filter p ns) (each k (contains_here k ns))
     ∙ ap (λ (ms : List ℕ). k ∷ ms) (all_kept p ns (λ m h. each m (contains_later k ns m h)))
 
--- a bridge that may receive its cycle, and is handed what it has taken and is offered
+-- a bridge that may receive its cycle, with the batches it has taken and its offers
 module _ (s : WorldBridge) (t : CycleTable) (batches : List LinkBatch) (offers : List Offered) (after : BridgeState) (may : MayReceiveItsCycle s t)
     (are_batches : batches ≡ s.taken.items) (are_offers : offers ≡ offers_listed_at s.agenda s.posted) where
-  -- what is so of each run that has these offers is so of each that the cycle is a part of
+  -- what holds of each run with these offers holds of each run that has the cycle
   handed_so : (run : Run) → IsRunAt s t run → IsRunOfBridge s.bridge.domain s.bridge.number s.posted t.rows offers run
   handed_so run at = subst (λ (xs : List Offered). IsRunOfBridge s.bridge.domain s.bridge.number s.posted t.rows xs run) (sym are_offers) at
 
@@ -80,7 +80,7 @@ module _ (s : WorldBridge) (t : CycleTable) (batches : List LinkBatch) (offers :
   pub run_so : (run : Run) × IsRunOfBridge s.bridge.domain s.bridge.number s.posted t.rows offers run
   run_so = (may.run, handed_so may.run may.of_run)
 
-  -- it refuses for want of memory alone
+  -- it fails only for lack of memory
   pub memory_so : (fault : BridgeFault) → ((run : Run) → IsRunOfBridge s.bridge.domain s.bridge.number s.posted t.rows offers run →
       IsReceiveFault run s.bridge after s.posted (record { table_cycle = t.cycle; rows = t.rows; batches = batches }) fault) → fault ≡ Memory
   memory_so fault h = may.memory_alone after fault (λ run at.
@@ -88,7 +88,7 @@ module _ (s : WorldBridge) (t : CycleTable) (batches : List LinkBatch) (offers :
       are_batches
       (h run (handed_so run at)))
 
-  -- or receives it
+  -- or receives the cycle
   pub received_so : (drops : List Dropped) → ((run : Run) → IsRunOfBridge s.bridge.domain s.bridge.number s.posted t.rows offers run →
       ReceivesCycle run s.bridge after s.posted batches drops) → ReceivesItsCycle s (record s { bridge = after }) t drops
   received_so drops h =
@@ -96,7 +96,7 @@ module _ (s : WorldBridge) (t : CycleTable) (batches : List LinkBatch) (offers :
       λ run at. subst (λ (xs : List LinkBatch). ReceivesCycle run s.bridge after s.posted xs drops) are_batches (h run (handed_so run at)) in
       record { receives = receives; number = ap (λ (b : BridgeState). b.number) (receives may.run may.of_run).bridge; same = refl }
 
--- the page of a bridge that has received its cycle is the next
+-- the page of a bridge that has received its cycle is the next one
 pub next_page : (s between : WorldBridge) (t : CycleTable) (dropped drops : List Dropped) (page : Page) (pages : Posted) → IsNextToPost pages s →
     ReceivesItsCycle s between t dropped → IsPageOf between page drops → IsNextPage pages page
 next_page s between t dropped drops page pages next receives is_page =
@@ -115,7 +115,7 @@ module _ (v : WorldState) (tables : List CycleTable) (driven : List WorldBridge)
   taken_length : length s.taken.items ≡ length (links_taken v bridge)
   taken_length = ap length st.taken ∙ length-map (links_taken v bridge) (batch_of v.domain is.net.carried s.posted)
 
-  -- what was taken from a link into the bridge is at most what the bridge has sent
+  -- at most as many batches were taken from a link into the bridge as the bridge has sent cycles
   at_most : (link : ℕ) → enters v.domain link bridge ≡ true → taken_from v link ≤ s.sent
   at_most link ends =
       let in_lines : link < length lines = omega (arith, link_ending v.domain bridge link ends, is.all_lines) in
@@ -124,12 +124,12 @@ module _ (v : WorldState) (tables : List CycleTable) (driven : List WorldBridge)
         | inr x ↦ absurd (omega (arith, x.0, in_lines))
       ]
 
-  -- it has taken a batch of each link, where it may post
+  -- it has taken a batch of each link, if it may post
   all_taken : MayPost v bridge → links_taken v bridge ≡ links_into v.domain bridge
   all_taken may = all_kept (λ l. nat_lt (cycle_of_bridge v bridge) (taken_from v l)) (links_into v.domain bridge)
       (λ m held. lt-ltb (cycle_of_bridge v bridge) (taken_from v m) (omega (arith, may.has_taken m (link_into v.domain bridge m held).1)))
 
-  -- a bridge may post where its counts say so
+  -- a bridge may post if its counts say so
   pub may_post : (s.sent ≡ s.posted → ⊥) → length s.taken.items ≡ s.incoming → MayPost v bridge
   may_post sent all = record {
     inside = omega (arith, inside, is.all_driven);
@@ -141,7 +141,7 @@ module _ (v : WorldState) (tables : List CycleTable) (driven : List WorldBridge)
         omega (arith, ltb-true (cycle_of_bridge v bridge) (taken_from v link) passes, at_most link ends, st.with_table, st.not_ahead, st.in_cycle));
   }
 
-  -- and its counts say so where it may
+  -- and its counts say so if it may
   pub counts_post : MayPost v bridge → (s.sent ≡ s.posted + 1) × (length s.taken.items ≡ s.incoming)
   counts_post may =
       (omega (arith, sent_is, may.has_sent, st.in_cycle), taken_length ∙ ap length (all_taken may) ∙ sym st.incoming)
@@ -179,7 +179,7 @@ module _ (v : WorldState) (tables : List CycleTable) (driven : List WorldBridge)
         ∙ ap (map (batch_of v.domain is.net.carried s.posted)) (all_taken may)
         ∙ ap (λ (b : ℕ). batches_into v.domain is.net.carried b s.posted) (sym st.number)
 
-    -- the cycle is received, but for want of memory
+    -- the cycle is received, unless memory is lacking
     pub may_receive : OffersAreOfTheBridge → ReceivesButForMemory → RunOfHistoryLosesNothing → (t : CycleTable) → t ≡ get_or tables s.posted t →
         MayReceiveItsCycle s t
     may_receive offers but_for_memory loses t at_cycle =
@@ -246,7 +246,7 @@ module _ (v : WorldState) (tables : List CycleTable) (driven : List WorldBridge)
       in_pages : page.bridge < length v.pages.pages
       in_pages = omega (arith, of_bridge, inside, is.all_driven, accepted.given.of_bridges, accepted.given.in_order.each_bridge)
 
-      -- the pages of the bridge, with one more, and those of another
+      -- the pages of the bridge, with one more, and those of another bridge
       pages_here : pages_of pages_now bridge ≡ pages_of v.pages bridge ++ page ∷ []
       pages_here =
           ap (pages_of pages_now) (sym of_bridge)
@@ -290,7 +290,7 @@ module _ (v : WorldState) (tables : List CycleTable) (driven : List WorldBridge)
             accepted.pages b cycle other book (ap (λ (row : List Page). slice_get row cycle) (sym (pages_there b differ)) ∙ there) of_history
       ]
 
-      -- the bridge in its next cycle has taken nothing
+      -- the bridge has taken no batch of its next cycle
       none_yet : links_taken after bridge ≡ []
       none_yet = filter_none (λ l. nat_lt (cycle_of_bridge after bridge) (taken_from v l)) (links_into v.domain bridge)
           (λ l held. le-ltb (cycle_of_bridge after bridge) (taken_from v l)
@@ -382,13 +382,13 @@ module _ (v : WorldState) (tables : List CycleTable) (driven : List WorldBridge)
     inside_v : bridge < length driven
     inside_v = omega (arith, there, at)
 
-    -- a bridge may post where the test says so
+    -- a bridge may post if the test says so
     pub may_post_so : (s.sent ≡ s.posted → ⊥) → (length s.taken.items == s.incoming) ≡ true → MayPost old bridge
     may_post_so sent all =
         subst (λ (w : WorldState). MayPost w bridge) old_same
         (may_post v tables driven lines run bridge s inside_v here_v sent (eqb-true (length s.taken.items) s.incoming all))
 
-    -- and not where it says no
+    -- and may not if it says no
     pub may_not_post : (length s.taken.items == s.incoming) ≡ false → MayPost old bridge → ⊥
     may_not_post none may =
         let c = counts_post v tables driven lines run bridge s inside_v here_v (subst (λ (w : WorldState). MayPost w bridge) (sym old_same) may) in
@@ -411,11 +411,11 @@ module _ (v : WorldState) (tables : List CycleTable) (driven : List WorldBridge)
     pub closed_so : s.posted < length tables
     closed_so = omega (arith, within_v, run.all_tables)
 
-    -- the bridge may be called
+    -- the bridge's receiving may be called
     pub early_so : s.posted < 100000
     early_so = omega (arith, within_v, run.within_run, world.given.few_cycles)
 
-    -- its page is the next
+    -- its page is the next one
     pub next_so : IsNextToPost v.pages s
     next_so = record {
       inside = omega (arith, of_driven.number, in_driven, run.all_driven, world.given.of_bridges);
@@ -463,7 +463,7 @@ module _ (v : WorldState) (tables : List CycleTable) (driven : List WorldBridge)
           of_cycle_so ∙ ap (page_count v.pages) (sym of_bridge_so),
         )
 
-        -- so the world stays one
+        -- so it is still a world
         pub posted_world : PageFollows → ThereAreSoManyTables → IsWorld (world_posted pages_after) tables (set driven bridge z) lines
         posted_world page_follows count =
             subst (λ (p : Posted). IsWorld (world_posted p) tables (set driven bridge z) lines) (sym out.posted) (record {
@@ -491,7 +491,7 @@ module _ (v : WorldState) (tables : List CycleTable) (driven : List WorldBridge)
               running = λ still. subst (λ (w : WorldState). IsRunningWorld w tables (set driven bridge z) lines) is_after runs_on;
             })
 
-        -- and it is the same but for the page
+        -- and it is the same except for the page
         pub posted_alone : Posts old (world_posted pages_after) bridge
         posted_alone =
             subst (λ (w : WorldState). Posts w (world_posted pages_after) bridge) old_same (record {
@@ -501,7 +501,7 @@ module _ (v : WorldState) (tables : List CycleTable) (driven : List WorldBridge)
               posted = ap world_posted out.posted ∙ sym is_after;
             })
 
-  -- where none is posted, no count changes
+  -- if no page is posted, no count changes
   pub unposted_alone : (z : WorldBridge) (pages_after : Posted) → z.given ≡ s.given → z.sent ≡ s.sent → pages_after ≡ v.pages →
       record v { pages = pages_after; given = map given_of (set driven bridge z); sent = map sent_of_driven (set driven bridge z); stopped = true }
       ≡ record old { stopped = true }

@@ -42,7 +42,7 @@ use Rattle.cqf_world.specs.World.{ArePagesOfTheBook, WorldState, cycle_of_bridge
 use Rattle.cqf_world.proofs.Keeping.{given_entries}
 use Rattle.cqf_world.proofs.Standing.{count_at}
 
--- a page of a cycle before the end of a shorter run is the same in the shorter run's book
+-- a page of a cycle within a shorter run is the same in the shorter run's book
 page_before : (d : Domain) (bridge cycle cycles : ℕ) (book : Contents) → cycle < cycles →
     page_of d bridge cycle (book_before_cycle cycles book) ≡ page_of d bridge cycle book
 page_before d bridge cycle cycles book within =
@@ -58,7 +58,7 @@ page_before d bridge cycle cycles book within =
 
 module _ (v : WorldState) (tables : List CycleTable) (driven : List WorldBridge) (lines : List Line) (accepted : IsWorld v tables driven lines)
     (is : IsRunningWorld v tables driven lines) where
-  -- no bridge has sent a cycle that isn't sealed
+  -- no bridge has sent a cycle that isn't closed
   pub sent_sealed : (bridge : ℕ) → bridge < length driven → sent_by_driven v bridge ≤ seals v.entries
   sent_sealed bridge inside =
       elim (slice_get_cases driven bridge).1 [
@@ -67,7 +67,7 @@ module _ (v : WorldState) (tables : List CycleTable) (driven : List WorldBridge)
         | inr s ↦ absurd (omega (arith, s.0, inside))
       ]
 
-  -- a link of which a bridge has taken the batch of its cycle: the bridge has sent the cycle
+  -- if a bridge has taken a link's batch of its cycle, it has sent the cycle
   pub taken_sent : (bridge l : ℕ) → Contains (links_taken v bridge) l → cycle_of_bridge v bridge < sent_by_driven v bridge
   taken_sent bridge l held =
       let k = contains_from_filter (λ m. nat_lt (cycle_of_bridge v bridge) (taken_from v m)) (links_into v.domain bridge) l held in
@@ -93,7 +93,7 @@ module _ (v : WorldState) (tables : List CycleTable) (driven : List WorldBridge)
   abbrev more : WorldState
   more = record v { entries = entries }
 
-  -- the run so far is the beginning of the run with one cycle more
+  -- the run so far is a prefix of the run with one more cycle
   is_shorter : IsShorter (seals v.entries) (seals entries) (sealed_run more).tables (sealed_run v).tables
   is_shorter = record {
     fewer = omega (arith, counted);
@@ -129,7 +129,7 @@ module _ (v : WorldState) (tables : List CycleTable) (driven : List WorldBridge)
   is_longer : IsLonger (sealed_run more) (sealed_run v).tables (seals v.entries) (seals entries) is.net some.0
   is_longer = record { shorter = is_shorter; beginning = is.compiled; whole = some.1 }
 
-  -- it sends what was sent
+  -- it sends what the shorter run's network sent
   batch_same : (l cycle : ℕ) → cycle < seals v.entries → batch_of v.domain is.net.carried cycle l ≡ batch_of v.domain some.0.carried cycle l
   batch_same l cycle within =
       let kept = keeps (sealed_run more) (sealed_run v).tables (compiled_lists v.domain) (seals v.entries) (seals entries) is.net some.0
@@ -137,7 +137,7 @@ module _ (v : WorldState) (tables : List CycleTable) (driven : List WorldBridge)
       some.1.legal in
       λ i. record { link = l; cycle = cycle; frames = sym (kept.sends l cycle within) i }
 
-  -- a driven bridge follows it
+  -- a bridge follows it
   driven_still : (bridge : ℕ) (s : WorldBridge) → bridge < length driven →
       IsDriven (sealed_run more) (seals entries) some.0 bridge (cycle_of_bridge v bridge) (links_taken v bridge) (get_or driven bridge s)
   driven_still bridge s inside =
@@ -218,7 +218,7 @@ module _ (v : WorldState) (tables : List CycleTable) (driven : List WorldBridge)
     running = λ still. sealed_goes_on;
   }
 
--- what a closed cycle leaves
+-- the effect of a closed cycle
 pub closed_world : (v : WorldState) (tables after : List CycleTable) (driven : List WorldBridge) (lines : List Line) (old new : Administration)
     (seat : ℕ) (was : WorldState) →
     IsWorld v tables driven lines → v ≡ was → was.stopped ≡ false → seals was.entries < was.cycles → v.domain ≡ old.domain → v.entries ≡ old.entries →

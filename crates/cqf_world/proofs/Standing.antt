@@ -1,4 +1,4 @@
--- A part that stands at its place among others.
+-- A part at its index among others.
 use Rattle.std.proofs.Common.{◌≡◌, ℕ, ◌<◌, List, get_or, length, map, set, sym, ap, ◌∙◌, arith, inl, inr, subst}
 use Rattle.std.proofs.lemmas.Bool.{cases_eq}
 use Rattle.std.proofs.lemmas.List.{get_or-map, get_or-set_other, get_or-set_same, length-set, map-set, set-get_or}
@@ -15,7 +15,7 @@ module _ {X : Type 0} (count : X → ℕ) where
   count_at counts xs k x are inside =
       ap (λ (ns : List ℕ). get_or ns k 0) are ∙ get_or-map count xs k x 0 inside
 
-  -- a part with the same count leaves the counts
+  -- a part with the same count doesn't change the counts
   pub count_kept : (xs : List X) (k : ℕ) (x y : X) → x ≡ get_or xs k x → count y ≡ count x → map count (set xs k y) ≡ map count xs
   count_kept xs k x y there same =
       map-set count xs k y
@@ -23,7 +23,7 @@ module _ {X : Type 0} (count : X → ℕ) where
       ∙ sym (map-set count xs k (get_or xs k x))
       ∙ ap (map count) (set-get_or xs k x)
 
--- where one part is another, what is so of the new part, and of the others as they were, is so of each
+-- if one part is replaced, what holds of the new part, and held of the others, holds of each
 pub each_with : {X : Type 0} (P : ℕ → X → Type 0) (xs : List X) (k : ℕ) (y : X) → k < length xs → P k y →
     ((other : ℕ) (d : X) → other < length xs → (other ≡ k → ⊥) → P other (get_or xs other d)) →
     (other : ℕ) (d : X) → other < length (set xs k y) → P other (get_or (set xs k y) other d)
@@ -35,7 +35,7 @@ each_with {X} P xs k y inside new others other d within = elim (cases_eq other k
       subst (λ (x : X). P other x) (sym (get_or-set_other xs k other y d differ)) (others other d (omega (arith, within, length-set xs k y)) differ)
 ]
 
--- a driven bridge at its place, and its counts
+-- a bridge at its index, and its counts
 module _ (v : WorldState) (tables : List CycleTable) (driven : List WorldBridge) (lines : List Line) (is : IsRunningWorld v tables driven lines) (bridge : ℕ)
     (s : WorldBridge) (inside : bridge < length driven) (here : s ≡ get_or driven bridge s) where
   pub driven_at : IsDriven (sealed_run v) (seals v.entries) is.net bridge (cycle_of_bridge v bridge) (links_taken v bridge) s

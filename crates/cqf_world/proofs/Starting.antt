@@ -29,13 +29,13 @@ use Rattle.cqf_world.specs.Beginning.{AreNewLines, AreNewDriven, IsNewDriven, ne
 use Rattle.cqf_world.specs.Parts.{IsLine, IsRunningWorld, IsDriven, IsWorld, given_of, links_taken, sent_of_driven, taken_of, under_way}
 use Rattle.cqf_world.specs.World.{WorldState, cycle_of_bridge, sealed_run, sent_by_driven, taken_from}
 
--- a count that is nothing of each is nothing at each place
+-- a count that is 0 for each is 0 at each index
 none_of_each : {X : Type 0} (count : X → ℕ) (xs : List X) (n : ℕ) → length xs ≡ n → ((k : ℕ) (x : X) → k < n → count (get_or xs k x) ≡ 0) →
     map count xs ≡ replicate n 0
 none_of_each {X} count xs n many none = same_lists (map count xs) (replicate n 0) (length-map xs count ∙ many ∙ sym (length-replicate n 0))
     (λ k d inside. of_place k d (omega (arith, inside, length-map xs count)))
   where
-    -- at a place
+    -- at an index
     of_place : (k d : ℕ) → k < length xs → get_or (map count xs) k d ≡ get_or (replicate n 0) k d
     of_place k d inside =
         let within : k < n = omega (arith, inside, many) in
@@ -44,7 +44,7 @@ none_of_each {X} count xs n many none = same_lists (map count xs) (replicate n 0
           | inr x ↦ absurd (omega (arith, x.0, inside))
         ]
 
--- the place of a list of the same, past its end too
+-- an element of a list of equal elements, even past its end
 same_at : {X : Type 0} (n k : ℕ) (x : X) → get_or (replicate n x) k x ≡ x
 same_at n k x = elim (cases_lt k n) [
   | inl l ↦ get_or-replicate n k x x l
@@ -55,7 +55,7 @@ same_at n k x = elim (cases_lt k n) [
 no_page : (bridges cycles bridge : ℕ) → pages_of (no_pages bridges cycles) bridge ≡ []
 no_page bridges cycles bridge = same_at bridges bridge []
 
--- so they are posted in order
+-- so pages are posted in order
 none_posted : (bridges cycles : ℕ) → bridges ≤ 1024 → cycles ≤ 100000 → ArePosted (no_pages bridges cycles)
 none_posted bridges cycles few_bridges few_cycles = record {
   few_bridges = few_bridges;
@@ -118,7 +118,7 @@ module _ (w : WorldState) (driven : List WorldBridge) (lines : List Line) (accep
     agenda = is.own;
   }
 
-  -- and nothing is under way
+  -- and no batch is under way
   line_begins : (net : Network) (link bridge : ℕ) (x : Line) → link < length w.domain.links → (get_or lines link x).taken ≡ 0 →
       (get_or lines link x).waiting.items ≡ [] →
       IsLine w.domain net link (cycle_of_bridge w bridge) (sent_by_driven w bridge) (sent_by_driven w (bridge_of w.domain link)) (get_or lines link x)
@@ -134,7 +134,7 @@ module _ (w : WorldState) (driven : List WorldBridge) (lines : List Line) (accep
 
   module _ (legal : IsLegalHistory w.domain w.entries) (offers : AreOffers w.domain w.offers) (background : AreBackground w.domain w.background)
       (few_cycles : w.cycles ≤ 100000) (goes_on : w.stopped ≡ false) (exists : LegalNetworkExists) (follows : NewBridgeFollows) where
-    -- the network of no cycle
+    -- the network of a run of no cycles
     some : (net : Network) × IsCompiledNetwork (sealed_run w) (seals w.entries) net
     some =
         let n = exists (sealed_run w) (compiled_lists w.domain) (seals w.entries) in
@@ -209,7 +209,7 @@ module _ (a : Administration) (plan at : Domain) (offers : List Offer) (backgrou
   lines_are : AreNewLines (length a.domain.links) lines
   lines_are = subst (λ (d : Domain). AreNewLines (length d.links) lines) (value ∙ sym same) new_lines
 
-  -- it is the one that it is to be
+  -- it is the required world
   pub is_new : made ≡ new_world a offers background cycles
   is_new =
       let given = none_given made driven lines own_accepted no_seal pages_are refl refl refl driven_are lines_are in
@@ -228,7 +228,7 @@ module _ (a : Administration) (plan at : Domain) (offers : List Offer) (backgrou
         stopped = false;
       }
 
-  -- and it is a world
+  -- and it satisfies the invariant
   pub is_world : IsLegalHistory a.domain a.entries → AreOffers plan offers → AreBackground plan background → cycles ≤ 100000 →
       LegalNetworkExists → NewBridgeFollows →
       (tables : List CycleTable) → tables ≡ [] → IsWorld made tables driven lines

@@ -1,4 +1,4 @@
--- A bridge sends its cycle, and its batches come onto the links.
+-- A bridge sends its cycle, and its batches are put on the links.
 use Rattle.std.proofs.Common.{◌≡◌, ℕ, suc, ◌+◌, ◌-◌, ◌<◌, ◌≤◌, ◌++◌, Bool, List, flat_map, get_or, length, map, set}
 use Rattle.std.proofs.Common.{sym, ap, ◌∙◌, arith, refl, inl, inr, subst, true, false, eq-eqb, ne_eqb, append-nil}
 use Rattle.std.specs.Prelude.{◌∷◌, [], ◌==◌, filter, if◌then◌else◌, Option}
@@ -49,7 +49,7 @@ sent_on d carried bridge cycle l inside =
     last true = ap (map (batch_of d carried cycle)) (cond-true (l == l) (l ∷ []) [] (eq-eqb l l refl))
     last false = refl
 
--- a link leaves the bridge that it leaves, and no other
+-- a link leaves one bridge only
 leaves_one : (d : Domain) (l bridge : ℕ) → l < length d.links → leaves d l bridge ≡ (bridge_of d l == bridge)
 leaves_one d l bridge inside = elim (slice_get_cases d.links l).1 [
   | inl w ↦
@@ -77,7 +77,7 @@ module _ (v : WorldState) (tables : List CycleTable) (driven : List WorldBridge)
   given_is : get_or v.given bridge 0 ≡ s.given
   given_is = given_at v tables driven lines is bridge s inside here
 
-  -- a bridge may send its cycle where its counts say so
+  -- a bridge may send its cycle if its counts say so
   pub may_step : (s.given ≡ s.posted → ⊥) → s.sent ≡ s.posted → MayStep v bridge
   may_step given sent = record {
     inside = omega (arith, inside, is.all_driven);
@@ -85,12 +85,12 @@ module _ (v : WorldState) (tables : List CycleTable) (driven : List WorldBridge)
     not_sent = omega (arith, sent_is, sent, st.in_cycle);
   }
 
-  -- and its counts say so where it may
+  -- and its counts say so if it may
   pub counts_step : MayStep v bridge → (s.given ≡ s.posted + 1) × (s.sent ≡ s.posted)
   counts_step may = (omega (arith, given_is, may.has_table, st.in_cycle), omega (arith, sent_is, may.not_sent, st.in_cycle))
 
   module _ (may : MayStep v bridge) where
-    -- it is the next to be sent, and may be handed its background frames
+    -- the cycle is the next to be sent, with the cycle's background frames
     pub next : IsNextToSend s.bridge s.posted
     next = (sym st.received, (st.follows (counts_step may).1).turn)
 
@@ -257,7 +257,7 @@ module _ (v : WorldState) (tables : List CycleTable) (driven : List WorldBridge)
   here_v : s ≡ get_or driven bridge s
   here_v = at_place ∙ ap (λ (k : ℕ). get_or driven k s) at
 
-  -- the bridge may be called
+  -- the bridge's sending may be called
   pub next_so : IsNextToSend s.bridge s.posted
   next_so = next v tables driven lines run bridge s inside_v here_v may_v
 
@@ -289,7 +289,7 @@ module _ (v : WorldState) (tables : List CycleTable) (driven : List WorldBridge)
     is_after : record v { sent = map sent_of_driven (set driven bridge z) } ≡ world_sent
     is_after = λ i. record v { given = runs_on.given_are i; sent = map sent_of_driven (set driven bridge z); taken = runs_on.taken_are i; stopped = on i }
 
-    -- so the world stays one
+    -- so it is still a world
     pub sent_world : IsWorld world_sent tables (set driven bridge z) w
     sent_world = record {
       given = given_counts v _ _ _ false world.given;
@@ -298,7 +298,7 @@ module _ (v : WorldState) (tables : List CycleTable) (driven : List WorldBridge)
       running = λ still. subst (λ (k : WorldState). IsRunningWorld k tables (set driven bridge z) w) is_after runs_on;
     }
 
-    -- and it is the same but for what was sent
+    -- and it is the same except for what was sent
     pub sent_alone : world_sent ≡ record old { sent = set old.sent bridge (cycle_of_bridge old bridge + 1) }
     sent_alone =
         let x = driven_at v tables driven lines run bridge s inside_v here_v in
@@ -309,7 +309,7 @@ module _ (v : WorldState) (tables : List CycleTable) (driven : List WorldBridge)
         subst (λ (k : WorldState). world_sent ≡ record k { sent = set k.sent bridge (cycle_of_bridge k bridge + 1) }) old_same
         (sym is_after ∙ (λ i. record v { sent = now_sent i }))
 
-  -- where it isn't, no count changes
+  -- if the sending fails, no count changes
   pub unsent_alone : (z : WorldBridge) (w : List Line) → z.given ≡ s.given → z.sent ≡ s.sent → map taken_of w ≡ map taken_of lines →
       record v { given = map given_of (set driven bridge z); sent = map sent_of_driven (set driven bridge z); taken = map taken_of w; stopped = true }
       ≡ record old { stopped = true }

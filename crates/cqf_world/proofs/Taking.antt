@@ -28,12 +28,12 @@ use Rattle.cqf_world.proofs.Keeping.{given_counts}
 use Rattle.cqf_world.proofs.Inboxes.{before, end_inside, insert_map, kept_more, same_parts}
 use Rattle.cqf_world.proofs.Standing.{count_at, count_kept, each_with, sent_at, driven_at}
 
--- a node is one bridge
+-- a node is only one bridge
 one_node : (n : Node) (a b : ℕ) → node_is n a ≡ true → node_is n b ≡ true → a ≡ b
 one_node (Bridge k) a b p q = sym (eqb-true k a p) ∙ eqb-true k b q
 one_node (StationNode k) a b p q = absurd cc
 
--- a link ends in one bridge
+-- a link ends in only one bridge
 pub one_end : (d : Domain) (l a b : ℕ) → enters d l a ≡ true → enters d l b ≡ true → a ≡ b
 one_end d l a b p q = elim (slice_get_cases d.links l).1 [
   | inl w ↦ one_node w.0.to a b
@@ -63,12 +63,12 @@ module _ (v : WorldState) (tables : List CycleTable) (driven : List WorldBridge)
   taken_is : taken_from v link ≡ x.taken
   taken_is = count_at taken_of v.taken lines link x is.taken_are in_lines ∙ ap taken_of (sym there)
 
-  -- so many batches are under way
+  -- the number of batches under way
   waiting_is : length x.waiting.items ≡ sent_by_driven v (bridge_of v.domain link) - x.taken
   waiting_is = ap length li.waiting
       ∙ length-singles (λ (k : ℕ). batch_of v.domain is.net.carried (x.taken + k) link) (sent_by_driven v (bridge_of v.domain link) - x.taken)
 
-  -- a batch may be taken where the counts say so
+  -- a batch may be taken if the counts say so
   pub may_take : (s.sent ≡ s.posted → ⊥) → x.taken ≡ s.posted → 0 < length x.waiting.items → MayTake v link
   may_take sent not_taken some = record {
     bridge = bridge;
@@ -78,7 +78,7 @@ module _ (v : WorldState) (tables : List CycleTable) (driven : List WorldBridge)
     under_way = omega (arith, taken_is, some, waiting_is);
   }
 
-  -- and the counts say so where it may be
+  -- and the counts say so if it may be
   pub counts_taken : MayTake v link → (s.sent ≡ s.posted + 1) × (x.taken ≡ s.posted) × (0 < length x.waiting.items)
   counts_taken may =
       let e = one_end v.domain link may.bridge bridge may.ends ends in
@@ -90,7 +90,7 @@ module _ (v : WorldState) (tables : List CycleTable) (driven : List WorldBridge)
       (counted : y.taken ≡ x.taken + 1)
       (same : z ≡ record s { taken = z.taken }) (put : z.taken.items
       ≡ insert s.taken.items (length (filter (λ (b : LinkBatch). nat_lt b.link batch.link) s.taken.items)) batch) where
-    -- the batch is the network's of the bridge's cycle
+    -- the batch is the network's, of the bridge's cycle
     one_fewer : (n : ℕ) → under_way v.domain is.net link x.taken (suc n) ≡ batch_of v.domain is.net.carried x.taken link
         ∷ under_way v.domain is.net link (x.taken + 1) n
     one_fewer n =
@@ -105,7 +105,7 @@ module _ (v : WorldState) (tables : List CycleTable) (driven : List WorldBridge)
     c : (s.sent ≡ s.posted + 1) × (x.taken ≡ s.posted) × (0 < length x.waiting.items)
     c = counts_taken may
 
-    -- so many stay under way
+    -- the number of batches that stay under way
     left : ℕ
     left = sent_by_driven v (bridge_of v.domain link) - x.taken - 1
 
@@ -121,7 +121,7 @@ module _ (v : WorldState) (tables : List CycleTable) (driven : List WorldBridge)
     abbrev after : WorldState
     after = record v { taken = map taken_of (set lines link y) }
 
-    -- one more is taken from the link, and no other from others
+    -- one more batch is taken from the link, and none from other links
     taken_here : taken_from after link ≡ x.taken + 1
     taken_here =
         ap (λ (ns : List ℕ). get_or ns link 0) (map-set taken_of lines link y)
@@ -134,7 +134,7 @@ module _ (v : WorldState) (tables : List CycleTable) (driven : List WorldBridge)
         ∙ get_or-set_other (map taken_of lines) link m (taken_of y) 0 differ
         ∙ ap (λ (ns : List ℕ). get_or ns m 0) (sym is.taken_are)
 
-    -- the bridge has taken one link's more
+    -- the bridge has taken the batch of one more link
     one_more : links_taken after bridge ≡ insert (links_taken v bridge) (before link (links_taken v bridge)) link
     one_more =
         kept_more (λ l. nat_lt (cycle_of_bridge v bridge) (taken_from v l)) (λ l. nat_lt (cycle_of_bridge v bridge) (taken_from after l)) link
@@ -143,7 +143,7 @@ module _ (v : WorldState) (tables : List CycleTable) (driven : List WorldBridge)
         (lt-ltb (cycle_of_bridge v bridge) (taken_from after link) (omega (arith, taken_here, c.1, st.in_cycle)))
         (λ m differ. ap (nat_lt (cycle_of_bridge v bridge)) (taken_there m differ))
 
-    -- the others as many as before
+    -- the other bridges have taken as many as before
     others_same : (other : ℕ) → (other ≡ bridge → ⊥) → links_taken after other ≡ links_taken v other
     others_same other differ =
         filter_alike (λ l. nat_lt (cycle_of_bridge v other) (taken_from after l)) (λ l. nat_lt (cycle_of_bridge v other) (taken_from v l))
@@ -170,7 +170,7 @@ module _ (v : WorldState) (tables : List CycleTable) (driven : List WorldBridge)
     abbrev driven_after : List WorldBridge
     driven_after = set driven bridge z
 
-    -- the bridge that took it
+    -- the bridge that took the batch
     driven_taken : IsDriven (sealed_run v) (seals v.entries) is.net bridge (cycle_of_bridge v bridge) (links_taken after bridge) z
     driven_taken =
         subst (IsDriven (sealed_run v) (seals v.entries) is.net bridge (cycle_of_bridge v bridge) (links_taken after bridge)) (sym same)
@@ -260,13 +260,13 @@ module _ (v : WorldState) (tables : List CycleTable) (driven : List WorldBridge)
   there_v : x ≡ get_or lines link x
   there_v = at_lplace ∙ ap (λ (k : ℕ). get_or lines k x) lat
 
-  -- a batch may be taken where the counts say so
+  -- a batch may be taken if the counts say so
   pub may_so : (s.sent ≡ s.posted → ⊥) → x.taken ≡ s.posted → 0 < length x.waiting.items → MayTake old link
   may_so sent not_taken some =
       subst (λ (w : WorldState). MayTake w link) old_same (may_take v tables driven lines run link bridge s x ends_v in_driven here_v there_v
       sent not_taken some)
 
-  -- and the counts say so where it may be
+  -- and the counts say so if it may be
   pub counts_so : MayTake old link → (s.sent ≡ s.posted + 1) × (x.taken ≡ s.posted) × (0 < length x.waiting.items)
   counts_so may =
       counts_taken v tables driven lines run link bridge s x ends_v in_driven here_v there_v (subst (λ (w : WorldState). MayTake w link) (sym old_same) may)
@@ -297,7 +297,7 @@ module _ (v : WorldState) (tables : List CycleTable) (driven : List WorldBridge)
     is_after : record v { taken = map taken_of (set lines link y) } ≡ world_taken
     is_after = λ i. record v { given = runs_on.given_are i; sent = runs_on.sent_are i; taken = map taken_of (set lines link y); stopped = on i }
 
-    -- so the world stays one
+    -- so it is still a world
     pub taken_world : IsWorld world_taken tables (set driven bridge z) (set lines link y)
     taken_world = record {
       given = given_counts v _ _ _ false world.given;
@@ -306,7 +306,7 @@ module _ (v : WorldState) (tables : List CycleTable) (driven : List WorldBridge)
       running = λ still. subst (λ (w : WorldState). IsRunningWorld w tables (set driven bridge z) (set lines link y)) is_after runs_on;
     }
 
-    -- and it is the same but for what was taken
+    -- and it is the same except for what was taken
     pub taken_alone : world_taken ≡ record old { taken = set old.taken link (taken_from old link + 1) }
     taken_alone =
         let in_lines : link < length lines = omega (arith, link_ending v.domain bridge link ends_v, run.all_lines) in
@@ -317,7 +317,7 @@ module _ (v : WorldState) (tables : List CycleTable) (driven : List WorldBridge)
         subst (λ (w : WorldState). world_taken ≡ record w { taken = set w.taken link (taken_from w link + 1) }) old_same
         (sym is_after ∙ (λ i. record v { taken = now_taken i }))
 
-  -- where it can't be moved, no count changes
+  -- if the batch can't be moved, no count changes
   pub refused_alone : (y : Line) (z : WorldBridge) → y.taken ≡ x.taken → z ≡ record s { taken = z.taken } →
       record v {
         given = map given_of (set driven bridge z);

@@ -1,4 +1,4 @@
--- What a world begins with.
+-- The initial state of a world.
 use Rattle.std.specs.Prelude.{ℕ, ◌≡◌, ◌<◌, List, [], false, length, replicate, slice_index_or}
 use Rattle.cqf_model.specs.declared.frames.Background.{Background}
 use Rattle.cqf_model.specs.declared.frames.Offer.{Offer}
@@ -12,12 +12,11 @@ use Rattle.cqf_world.specs.declared.parts.Line.{Line}
 use Rattle.cqf_world.specs.declared.parts.WorldBridge.{WorldBridge}
 use Rattle.cqf_world.specs.World.{WorldState}
 
--- no page of so many bridges and cycles
+-- no pages, for this number of bridges and cycles
 abbrev pub no_pages : ℕ → ℕ → Posted
 no_pages bridges cycles = record { bridges = bridges; cycles = cycles; pages = replicate bridges [] }
 
--- the world of an admission at its beginning: the admission's history, and no page; no table was given, no cycle sent and no batch
--- taken
+-- the world of an admission at its beginning: the admission's history and no page; no table was given, no cycle sent and no batch taken
 abbrev pub new_world : Administration → List Offer → List Background → ℕ → WorldState
 new_world admission offers background cycles = let d = admission.domain in record {
   domain = d;
@@ -42,12 +41,12 @@ pub record IsNewDriven (d : Domain) (offers : List Offer) (background : List Bac
   pub none_posted : s.posted ≡ 0
   pub none_taken : s.taken.items ≡ []
 
--- the first bridges of a domain
+-- the first count bridges of a domain
 pub record AreNewDriven (d : Domain) (offers : List Offer) (background : List Background) (count : ℕ) (driven : List WorldBridge) : Type 0 where
   pub one_each : length driven ≡ count
   pub each : (bridge : ℕ) (s : WorldBridge) → bridge < count → IsNewDriven d offers background bridge (slice_index_or driven bridge s)
 
--- so many links on which no batch is under way, and from which none was taken
+-- count links on which no batch is under way, and from which none was taken
 pub record AreNewLines (count : ℕ) (lines : List Line) : Type 0 where
   pub one_each : length lines ≡ count
   pub none_taken : (link : ℕ) (x : Line) → link < count → (slice_index_or lines link x).taken ≡ 0

@@ -15,21 +15,21 @@ use Rattle.cqf_world.specs.declared.events.Event.TheVariants.{Call, Seal, Give, 
 use Rattle.cqf_world.specs.World.{WorldState, cycle_of_bridge, given_to, sent_by_driven, taken_from}
 use Rattle.cqf_model.specs.Limits.{most_calls}
 
--- a bridge lacks the table of its cycle, which is one of the run's and sealed
+-- a bridge lacks the table of its cycle, and the cycle is one of the run's and is closed
 pub record MayBeGiven (w : WorldState) (bridge : ℕ) : Type 0 where
   pub inside : bridge < length w.domain.bridges
   pub of_run : cycle_of_bridge w bridge < w.cycles
   pub lacks : given_to w bridge ≡ cycle_of_bridge w bridge
   pub sealed : cycle_of_bridge w bridge < seals w.entries
 
--- it has the table of its cycle, and hasn't sent the cycle
+-- the bridge has the table of its cycle, and hasn't sent the cycle
 pub record MayStep (w : WorldState) (bridge : ℕ) : Type 0 where
   pub inside : bridge < length w.domain.bridges
   pub has_table : given_to w bridge ≡ cycle_of_bridge w bridge + 1
   pub not_sent : sent_by_driven w bridge ≡ cycle_of_bridge w bridge
 
--- the link ends in a bridge that has sent its cycle and hasn't taken the link's batch of it, and a batch is under way: the bridge that
--- the link leaves has sent more cycles than were taken from the link
+-- the link ends in a bridge that has sent its cycle and hasn't taken the link's batch of it, and a batch is under way: the bridge that the
+-- link leaves has sent more cycles than batches were taken from the link
 pub record MayTake (w : WorldState) (link : ℕ) : Type 0 where
   pub bridge : ℕ
   pub ends : enters w.domain link bridge ≡ true
@@ -43,7 +43,7 @@ pub record MayPost (w : WorldState) (bridge : ℕ) : Type 0 where
   pub has_sent : sent_by_driven w bridge ≡ cycle_of_bridge w bridge + 1
   pub has_taken : (link : ℕ) → enters w.domain link bridge ≡ true → taken_from w link ≡ cycle_of_bridge w bridge + 1
 
--- when an event may happen. None is enabled after a growth was refused, or where the domain lacks the bridge or the link
+-- when an event can happen. None is enabled after an allocation failed, or if the domain lacks the bridge or the link
 abbrev pub MayHappen : WorldState → Event → Type 0
 MayHappen w (Call seat command) = calls w.entries < most_calls
 MayHappen w (Seal seat) = seals w.entries < w.cycles
@@ -63,8 +63,8 @@ pub record Posts (old new : WorldState) (bridge : ℕ) : Type 0 where
   pub of_cycle : page.cycle.0 ≡ cycle_of_bridge old bridge
   pub posted : new ≡ record old { pages = with_page old.pages page }
 
--- what an event does: a call enters the history with the answer that is due, and so does a Seal; a bridge is given a table, sends its
--- cycle, takes a batch, or posts its next page. Nothing else changes
+-- the effect of an event: a call or a Seal enters the history with its due answer; a bridge is given a table, sends its cycle, takes a
+-- batch, or posts its next page. Nothing else changes
 abbrev pub Happens : WorldState → WorldState → Event → Type 0
 Happens old new (Call seat command) =
     new ≡ record old { entries = with_entry old.entries seat (act_of_command command) (reply_to old.domain old.entries (act_of_command command)) }
@@ -74,8 +74,8 @@ Happens old new (Step bridge) = new ≡ record old { sent = slice_set old.sent b
 Happens old new (Take link) = new ≡ record old { taken = slice_set old.taken link (taken_from old link + 1) }
 Happens old new (Post bridge) = Posts old new bridge
 
--- the answer to an event: it isn't enabled, and nothing is changed; or it is, and is done, or a growth was refused, after which nothing
--- is enabled
+-- the answer to an event. If the event isn't enabled, nothing is changed. If it is enabled, it happens, or an allocation fails, after which
+-- no event is enabled
 abbrev pub AnswersEvent : WorldState → WorldState → Event → Result Applied AllocError → Type 0
 AnswersEvent old new event (Ok NotEnabled) = (¬ IsEnabled old event) × (new ≡ old)
 AnswersEvent old new event (Ok Done) = IsEnabled old event × Happens old new event

@@ -1,4 +1,4 @@
--- What a world holds, and how it follows the network of the history so far.
+-- The content of a world, and how it follows the network of the history so far.
 use Rattle.std.specs.Prelude.{ℕ, ◌≡◌, ◌+◌, ◌-◌, ◌≤◌, ◌<◌, ◌++◌, ◌==◌, ◌∷◌, [], List}
 use Rattle.std.specs.Prelude.{false, filter, length, map, nat_lt, slice_index_or, true}
 use Rattle.std.specs.List.{flat_map, insert}
@@ -28,7 +28,7 @@ use Rattle.cqf_bridge.specs.Agenda.{IsAgendaOf, background_at, offers_listed_at}
 use Rattle.cqf_world.specs.World.{ArePagesOfTheBook, WorldState, cycle_of_bridge, sealed_run, sent_by_driven, taken_from}
 use Rattle.cqf_model.specs.Limits.{most_cycles}
 
--- what a world was given: an accepted domain, a legal history, offers and background frames of the domain, and pages of its bridges
+-- the inputs of a world: an accepted domain, a legal history, offers and background frames of the domain, and pages of its bridges
 pub record IsGivenWorld (w : WorldState) : Type 0 where
   pub accepted : IsAccepted w.domain
   pub legal : IsLegalHistory w.domain w.entries
@@ -39,12 +39,13 @@ pub record IsGivenWorld (w : WorldState) : Type 0 where
   pub of_cycles : w.pages.cycles ≡ w.cycles
   pub in_order : ArePosted w.pages
 
--- the links that end in a bridge of which it has taken the batch of its cycle, by number
+-- the links that end in a bridge and from which it has taken the batch of its cycle, by number
 abbrev pub links_taken : WorldState → ℕ → List ℕ
 links_taken w bridge = filter (λ l. nat_lt (cycle_of_bridge w bridge) (taken_from w l)) (links_into w.domain bridge)
 
--- a bridge with what it was given, in one of its cycles: it may have the cycle's table, and may have sent the cycle with the table. It
--- follows the network, and halfway has sent as it does, and keeps what it sent for its page; and it has taken the network's batches
+-- a bridge with what it was given, in one of its cycles. It may have the cycle's table, and then may have sent the cycle. Before sending it
+-- follows the network. After sending it has sent what the network sends, and keeps it for its page. The batches that it has taken are the
+-- network's
 pub record IsDriven (run : Run) (sealed : ℕ) (net : Network) (bridge cycle : ℕ) (links : List ℕ) (s : WorldBridge) : Type 0 where
   pub in_cycle : s.posted ≡ cycle
   pub not_behind : s.posted ≤ s.sent
@@ -60,19 +61,19 @@ pub record IsDriven (run : Run) (sealed : ℕ) (net : Network) (bridge cycle : �
   pub incoming : s.incoming ≡ length (links_into run.domain bridge)
   pub agenda : IsAgendaOf run.domain run.offers run.background bridge s.agenda
 
--- the batches of a link under way: the network's of so many cycles from one on
+-- the batches under way on a link: the network's batches of count cycles, beginning with cycle from
 abbrev pub under_way : Domain → Network → ℕ → ℕ → ℕ → List LinkBatch
 under_way d net link from count = each_below (λ k. batch_of d net.carried (from + k) link ∷ []) count
 
--- a link that ends in a bridge which is in a cycle and has sent so many: the bridge has taken the batches of the cycles before its own,
--- and of its own maybe; those that the bridge which the link leaves has sent, and that weren't taken, are under way
+-- a link that ends in a bridge which is in cycle cycle and has sent sent cycles. The bridge has taken the batches of the cycles before its
+-- own, and perhaps that of its own cycle. Those batches are under way that the bridge at the link's start has sent and that weren't taken
 pub record IsLine (d : Domain) (net : Network) (link cycle sent sent_from : ℕ) (x : Line) : Type 0 where
   pub at_least : cycle ≤ x.taken
   pub at_most : x.taken ≤ sent
   pub not_more : x.taken ≤ sent_from
   pub waiting : x.waiting.items ≡ under_way d net link x.taken (sent_from - x.taken)
 
--- the counts of a driven bridge and of a line
+-- the counts of a bridge and of a link
 abbrev pub given_of : WorldBridge → ℕ
 given_of s = s.given
 
@@ -82,7 +83,7 @@ sent_of_driven s = s.sent
 abbrev pub taken_of : Line → ℕ
 taken_of x = x.taken
 
--- a world that goes on
+-- a world that isn't stopped
 pub record IsRunningWorld (w : WorldState) (tables : List CycleTable) (driven : List WorldBridge) (lines : List Line) : Type 0 where
   pub net : Network
   pub compiled : IsCompiledNetwork (sealed_run w) (seals w.entries) net
@@ -100,14 +101,14 @@ pub record IsRunningWorld (w : WorldState) (tables : List CycleTable) (driven : 
   pub line : (link bridge : ℕ) (x : Line) → enters w.domain link bridge ≡ true →
       IsLine w.domain net link (cycle_of_bridge w bridge) (sent_by_driven w bridge) (sent_by_driven w (bridge_of w.domain link)) (slice_index_or lines link x)
 
--- what a world keeps: its pages are those of the book, and, as long as no growth was refused, what it holds follows the network
+-- what a world maintains: its pages are those of the book, and, while no allocation has failed, its content follows the network
 pub record IsWorld (w : WorldState) (tables : List CycleTable) (driven : List WorldBridge) (lines : List Line) : Type 0 where
   pub given : IsGivenWorld w
   pub pages : ArePagesOfTheBook w
   pub sealed : (bridge : ℕ) → cycle_of_bridge w bridge ≤ seals w.entries
   pub running : w.stopped ≡ false → IsRunningWorld w tables driven lines
 
--- a cycle is closed: the Seal is entered, and the cycle's table goes behind the others
+-- a cycle is closed: the Seal is entered, and the cycle's table is appended to the others
 pub record ClosesInWorld (old new : Administration) (seat : ℕ) (before after : List CycleTable) : Type 0 where
   pub domain : new.domain ≡ old.domain
   pub entries : new.entries ≡ with_entry old.entries seat Seals Sealed
@@ -116,7 +117,7 @@ pub record ClosesInWorld (old new : Administration) (seat : ℕ) (before after :
   pub rows : table.rows ≡ table_at old.domain new.entries (seals old.entries)
   pub behind : after ≡ before ++ table ∷ []
 
--- the oldest batch under way on a link goes to the bridge, where it stands by number of link
+-- the oldest batch under way on a link goes to the bridge, where it is inserted by link number
 pub record Moves (line line_after : Line) (bridge_driven driven_after : WorldBridge) : Type 0 where
   pub batch : LinkBatch
   pub popped : line.waiting.items ≡ batch ∷ line_after.waiting.items
@@ -131,7 +132,7 @@ pub record SendsItsCycle (before after : WorldBridge) (batches : List LinkBatch)
   pub starts : after.starts.items ≡ flat_map starts_of_batch batches
   pub same : after ≡ record before { bridge = after.bridge; starts = after.starts }
 
--- batches come onto the links that end in bridges, each behind those that are under way
+-- batches are put on the links that end in bridges, each after those that are under way
 pub record AreComing (d : Domain) (batches : List LinkBatch) (before after : List Line) : Type 0 where
   pub as_many : length after ≡ length before
   pub counts : map taken_of after ≡ map taken_of before
@@ -139,7 +140,7 @@ pub record AreComing (d : Domain) (batches : List LinkBatch) (before after : Lis
       (slice_index_or after link x).waiting.items
       ≡ (slice_index_or before link x).waiting.items ++ filter (λ (b : LinkBatch). b.link == link) batches
 
--- a bridge sends its cycle, and its batches come onto the links
+-- a bridge sends its cycle, and its batches are put on the links
 pub record SendsOut (d : Domain) (before after : WorldBridge) (lines lines_after : List Line) : Type 0 where
   pub between : WorldBridge
   pub batches : List LinkBatch
@@ -147,28 +148,28 @@ pub record SendsOut (d : Domain) (before after : WorldBridge) (lines lines_after
   pub coming : AreComing d batches lines lines_after
   pub counted : after ≡ record between { sent = before.posted + 1 }
 
--- what a bridge is handed to receive its cycle: a table, and the batches that it has taken
+-- what a bridge is given to receive its cycle: a table, and the batches that it has taken
 abbrev pub handed_to : WorldBridge → CycleTable → Handed
 handed_to s table = record { table_cycle = table.cycle; rows = table.rows; batches = s.taken.items }
 
--- a run of which a bridge's cycle is a part, with the table, and with what the bridge is offered in the cycle
+-- a run that has the bridge's cycle, with this table, and with the bridge's offers in the cycle
 abbrev pub IsRunAt : WorldBridge → CycleTable → Run → Type 0
 IsRunAt s table run = IsRunOfBridge s.bridge.domain s.bridge.number s.posted table.rows (offers_listed_at s.agenda s.posted) run
 
--- a bridge may receive its cycle with the table: there is such a run, and for no cause but want of memory does it refuse to
+-- a bridge may receive its cycle with the table: there is such a run, and the bridge can fail only for lack of memory
 pub record MayReceiveItsCycle (s : WorldBridge) (table : CycleTable) : Type 0 where
   pub run : Run
   pub of_run : IsRunAt s table run
   pub memory_alone : (after : BridgeState) (fault : BridgeFault) →
       ((r : Run) → IsRunAt s table r → IsReceiveFault r s.bridge after s.posted (handed_to s table) fault) → fault ≡ Memory
 
--- a bridge receives its cycle, with the table, with what it is offered in the cycle, and with the batches that it has taken
+-- a bridge receives its cycle, with the table, its offers in the cycle, and the batches that it has taken
 pub record ReceivesItsCycle (before after : WorldBridge) (table : CycleTable) (drops : List Dropped) : Type 0 where
   pub receives : (run : Run) → IsRunAt before table run → ReceivesCycle run before.bridge after.bridge before.posted before.taken.items drops
   pub number : after.bridge.number ≡ before.bridge.number
   pub same : after ≡ record before { bridge = after.bridge }
 
--- the page of a bridge that has received its cycle, with what was dropped
+-- the page of a bridge that has received its cycle, with these drops
 pub record IsPageOf (s : WorldBridge) (page : Page) (drops : List Dropped) : Type 0 where
   pub of_bridge : page.bridge ≡ s.bridge.number
   pub of_cycle : page.cycle.0 ≡ s.posted
@@ -176,13 +177,13 @@ pub record IsPageOf (s : WorldBridge) (page : Page) (drops : List Dropped) : Typ
   pub background : page.background.items ≡ s.bridge.background
   pub dropped : page.drops.items ≡ drops
 
--- the page of a bridge's cycle is the next of the bridge
+-- the page of a bridge's cycle is the bridge's next page
 pub record IsNextToPost (pages : Posted) (s : WorldBridge) : Type 0 where
   pub inside : s.bridge.number < pages.bridges
   pub of_cycles : s.posted < pages.cycles
   pub next : s.posted ≡ page_count pages s.bridge.number
 
--- a bridge receives its cycle, and posts its page; of the next cycle it has taken nothing
+-- a bridge receives its cycle, and posts its page; it has taken no batch of the next cycle
 pub record PostsOut (before after : WorldBridge) (table : CycleTable) (pages pages_after : Posted) : Type 0 where
   pub between : WorldBridge
   pub drops : List Dropped

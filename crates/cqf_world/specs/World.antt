@@ -1,4 +1,4 @@
--- A core in which all that happens in a network under administration happens as single events, in any order.
+-- A core in which everything that happens in a network under administration is a single event, in any order.
 use Rattle.std.specs.Prelude.{ℕ, ◌≡◌, List, Bool, Some, slice_index_or}
 use Rattle.cqf_model.specs.declared.frames.Background.{Background}
 use Rattle.cqf_model.specs.declared.frames.Offer.{Offer}
@@ -10,9 +10,9 @@ use Rattle.cqf_model.specs.HistoryBook.{IsBookOfHistory, run_of_history}
 use Rattle.cqf_model.specs.Run.{Run}
 use Rattle.cqf_book.specs.Pages.{Posted, page_at, page_count}
 
--- what a world is to its callers: the domain, what is offered, and for how many cycles it runs; the history so far and the pages
--- posted so far; how many tables each bridge was given and how many cycles it has sent, how many batches were taken from each link; and
--- whether a growth was refused
+-- the state of a world as its callers see it: the domain, the offers and background frames, and the number of cycles for which it runs; the
+-- history so far and the pages posted so far; for each bridge the number of tables it was given and of cycles it has sent; for each link
+-- the number of batches taken from it; and whether an allocation failed
 pub record WorldState : Type 0 where
   pub domain : Domain
   pub offers : List Offer
@@ -42,11 +42,11 @@ taken_from w link = slice_index_or w.taken link 0
 abbrev pub sealed_run : WorldState → Run
 sealed_run w = run_of_history w.domain w.entries w.offers w.background (seals w.entries)
 
--- a page as a book has it
+-- a page's part of a book
 abbrev pub contents_posted : Page → Contents
 contents_posted page = record { starts = page.starts.items; background = page.background.items; drops = page.drops.items }
 
--- each page that was posted is that page of the one-thread book of the history over the Seals made
+-- each page that was posted is the same page of the single-threaded book of the history, over the cycles that are closed
 abbrev pub ArePagesOfTheBook : WorldState → Type 0
 ArePagesOfTheBook w = (bridge cycle : ℕ) (page : Page) (book : Contents) → page_at w.pages bridge cycle ≡ Some page →
     IsBookOfHistory w.domain w.entries w.offers w.background (seals w.entries) book → contents_posted page ≡ page_of w.domain bridge cycle book

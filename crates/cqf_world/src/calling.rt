@@ -1,4 +1,4 @@
-//! Calls that administrators make of the admission.
+//! Calls of administrators to the admission.
 ghost use Rattle.std.specs.Prelude.{◌≡◌, ◌<◌, OnErr, OnOk};
 ghost use Rattle.cqf_model.specs.History.{seals};
 ghost use Rattle.cqf_admission.specs.Admission.{Answers};
@@ -26,7 +26,7 @@ pub(crate) fn ask(
     }
 }
 
-/// Closes the next cycle, and keeps its table behind the others.
+/// Closes the next cycle, and appends its table to the others.
 pub(crate) fn close_cycle(
     admission: &mut Admission,
     tables: &mut Vec<Table>,

@@ -1,13 +1,13 @@
-//! What may happen in a world.
+//! The events of a world.
 
 use cqf_admission::Command;
 
-/// One thing that happens, to a bridge or a link by its number, or by a seat.
+/// One event, with the number of its bridge, link or seat.
 #[derive(Debug, Drop)]
 pub enum Event {
-    /// An administrator calls, by a seat.
+    /// An administrator makes a call with a seat.
     Call(u16, Command),
-    /// The next cycle is closed to changes, by a seat.
+    /// The next cycle is closed to changes with a seat.
     Seal(u16),
     /// A bridge is given the table of its cycle.
     Give(u16),
@@ -19,10 +19,10 @@ pub enum Event {
     Post(u16),
 }
 
-/// What became of an event.
+/// The outcome of an event.
 #[derive(Clone, Copy, Debug, PartialEq, Eq)]
 pub enum Applied {
     Done,
-    /// It may not happen now. Nothing is changed.
+    /// The event can't happen now. Nothing is changed.
     NotEnabled,
 }

@@ -1,4 +1,4 @@
-//! The batches that a bridge has taken, and where a link ends.
+//! The batches that a bridge has taken, and the bridge in which a link ends.
 ghost use Rattle.std.specs.Prelude.{◌≡◌, ◌<◌, ◌≤◌, IfNone, IfSome, OnErr, OnOk, ℕ, false, filter, length, nat_lt, true};
 ghost use Rattle.std.specs.List.{insert};
 ghost use Rattle.cqf_model.specs.Domain.{enters};
@@ -12,7 +12,7 @@ use cqf_model::Node;
 use cqf_topology::Domain;
 use cqf_units::Memory;
 
-/// The bridge in which a link ends, where the domain has the link and it does end in one.
+/// Returns the bridge in which a link ends, if the domain has the link and it ends in a bridge.
 pub(crate) fn bridge_at_end(domain: &Domain, link: u16) -> Option<u16>
     ensures some { IfSome result (λ bridge. (enters domain.now link bridge ≡ true) × (bridge < length domain.now.bridges)) }
     ensures none { IfNone result ((bridge : ℕ) → enters domain.now link bridge ≡ false) }
@@ -27,7 +27,7 @@ pub(crate) fn bridge_at_end(domain: &Domain, link: u16) -> Option<u16>
     }
 }
 
-/// How many of the batches are of links before one.
+/// Returns how many of the batches are of links with a lower number.
 fn place_of(taken: &[Batch], link: u16) -> usize
     ensures value { result ≡ length (filter (λ (x : LinkBatch). nat_lt x.link link) taken.now) }
     ensures within { result ≤ length taken.now }
@@ -41,7 +41,7 @@ fn place_of(taken: &[Batch], link: u16) -> usize
     place
 }
 
-/// Puts a batch among those that were taken, by number of link.
+/// Inserts a batch among those that were taken, by link number.
 pub(crate) fn put_in(taken: &mut Vec<Batch>, batch: Batch) -> Result<(), Memory>
     ensures { OnOk result (taken.new.items
         ≡ insert taken.old.items (length (filter (λ (x : LinkBatch). nat_lt x.link batch.link) taken.old.items)) batch) }
@@ -51,7 +51,7 @@ pub(crate) fn put_in(taken: &mut Vec<Batch>, batch: Batch) -> Result<(), Memory>
     Ok(())
 }
 
-/// Whether no batch is under way on a link.
+/// Returns whether no batch is under way on a link.
 pub(crate) fn is_quiet(line: &Line) -> bool
     ensures yes { result ≡ true → length line.now.waiting.items ≡ 0 }
     ensures no { result ≡ false → 0 < length line.now.waiting.items }
@@ -59,7 +59,7 @@ pub(crate) fn is_quiet(line: &Line) -> bool
     line.waiting.is_empty()
 }
 
-/// Moves the oldest batch under way on a link to the bridge in which it ends. There is one.
+/// Moves the oldest batch under way on a link to the bridge in which the link ends. There is one.
 pub(crate) fn move_batch(line: &mut Line, bridge_driven: &mut WorldBridge) -> Result<(), Memory>
     requires some { 0 < length line.old.waiting.items }
     requires few { line.old.taken < most_cycles }

@@ -1,4 +1,4 @@
-//! What a world holds at its beginning.
+//! The initial content of a world.
 ghost use Rattle.std.specs.Prelude.{◌^◌, ◌<◌, IfOk, length};
 ghost use Rattle.cqf_world.specs.Beginning.{AreNewLines, AreNewDriven, IsNewDriven};
 
@@ -11,7 +11,7 @@ use cqf_units::Memory;
 use std::alloc::Global;
 use std::collections::VecDeque;
 
-/// A bridge of the plan that has done nothing.
+/// Returns a bridge of the plan that has done nothing.
 fn new_driven(
     alloc: Global,
     plan: &Plan,
@@ -37,7 +37,7 @@ fn new_driven(
     })
 }
 
-/// The bridges of the plan, which have done nothing, by number.
+/// Returns the bridges of the plan, by number, which have done nothing.
 pub(crate) fn new_driven_bridges(
     alloc: Global,
     plan: &Plan,
@@ -56,7 +56,7 @@ pub(crate) fn new_driven_bridges(
     Ok(driven)
 }
 
-/// The links of a domain, by number, with no batch under way.
+/// Returns the links of a domain, by number, with no batch under way.
 pub(crate) fn new_lines(alloc: Global, domain: &Domain) -> Result<Vec<Line>, Memory>
     ensures { IfOk result (λ lines. AreNewLines (length domain.now.links) lines.items) }
 {

@@ -13,8 +13,8 @@ use cqf_units::{Cycle, Memory};
 use std::alloc::{AllocError, Global};
 use std::mem::replace;
 
-/// Receives the cycle of a bridge, with its offers of the cycle, a table and the batches that it has taken. The frames are those
-/// that are dropped at it.
+/// Receives the cycle of a bridge, with its offers of the cycle, a table and the batches that it has taken. Returns the frames dropped at
+/// the bridge.
 fn receive_cycle(
     alloc: Global,
     bridge_driven: &mut WorldBridge,
@@ -42,7 +42,7 @@ fn receive_cycle(
     }
 }
 
-/// The page of the cycle that a bridge has received: the starts that it has kept, its background frames, and what was dropped.
+/// Returns the page of the cycle that a bridge has received: the starts that it has kept, its background frames, and the drops.
 fn make_page(
     alloc: Global,
     bridge_driven: &mut WorldBridge,
@@ -61,7 +61,7 @@ fn make_page(
     )
 }
 
-/// Posts a page that is the next of its bridge.
+/// Posts the next page of its bridge.
 fn put_page(pages: &mut Pages, page: Page) -> Result<(), Memory>
     requires { IsNextPage pages.old page }
     ensures ok { OnOk result (pages.new ≡ with_page pages.old page) }
@@ -76,7 +76,7 @@ fn put_page(pages: &mut Pages, page: Page) -> Result<(), Memory>
     }
 }
 
-/// Receives the cycle of a bridge, and posts its page. The bridge is then in its next cycle, of which it has taken no batch yet.
+/// Receives the cycle of a bridge, and posts its page. The bridge is then in its next cycle, and has taken no batch of it yet.
 pub(crate) fn post_page(
     alloc: Global,
     bridge_driven: &mut WorldBridge,

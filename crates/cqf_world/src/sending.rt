@@ -1,4 +1,4 @@
-//! A bridge sends its cycle, and its batches come onto the links.
+//! A bridge sends its cycle, and its batches are put on the links.
 ghost use Rattle.std.specs.Prelude.{◌≡◌, ◌<◌, IfOk, OnErr, OnOk, false, length, map};
 ghost use Rattle.cqf_bridge.specs.BridgeState.{AreBackedOf, IsNextToSend};
 ghost use Rattle.cqf_bridge.specs.Agenda.{background_at};
@@ -12,7 +12,7 @@ use cqf_topology::Domain;
 use cqf_units::{Cycle, Memory};
 use std::alloc::{AllocError, Global};
 
-/// Sends the cycle of a bridge, which keeps what its links send of streams' frames for its page. The batches are what it sends.
+/// Sends the cycle of a bridge and returns the batches. The bridge keeps the starts of streams' frames on its links for its page.
 pub(crate) fn send_cycle(
     alloc: Global,
     bridge_driven: &mut WorldBridge,
@@ -42,7 +42,7 @@ pub(crate) fn send_cycle(
     Ok(batches)
 }
 
-/// Puts batches on their links, each behind those that are under way, where the link ends in a bridge.
+/// Puts each batch on its link after those under way, if the link ends in a bridge.
 pub(crate) fn put_all(
     domain: &Domain,
     lines: &mut Vec<Line>,

@@ -30,8 +30,8 @@ use cqf_units::Memory;
 use std::alloc::{AllocError, Global};
 use std::marker::Model;
 
-/// All that a running network holds: an admission and the tables of its Seals, the bridges with what they were given, the batches
-/// under way on the links between them, and the pages that were posted.
+/// The state of a running network: an admission and the tables of its Seals, the bridges with what they were given, the batches under way
+/// on the links between them, and the pages that were posted.
 #[derive(Debug, Drop)]
 pub struct World<'a> {
     alloc: Global,
@@ -41,12 +41,13 @@ pub struct World<'a> {
     admission: Admission,
     /// By cycle.
     tables: Vec<Table>,
-    /// By number of bridge.
+    /// By bridge number.
     driven: Vec<WorldBridge>,
-    /// By number of link.
+    /// By link number.
     lines: Vec<Line>,
     pages: Pages,
-    /// A growth was refused, or may yet be, while an event is carried out: whatever refuses one leaves the world stopped.
+    /// Whether an allocation failed. It is also set while an event that allocates is carried out, so a failed allocation leaves the world
+    /// stopped.
     stopped: bool,
 }
 
@@ -85,9 +86,9 @@ impl<'a> Model for World<'a> {
 }
 
 impl<'a> World<'a> {
-    /// A world of the plan's domain that goes on for so many cycles, up to 100,000, with these offers and background frames. It
-    /// begins with the history of an admission for that domain that has no Seal, and with no page. `Memory` where a growth is
-    /// refused; then the admission is gone.
+    /// Returns a world of the plan's domain for `cycles` cycles, at most 100,000, with these offers and background frames. It begins with
+    /// the history of an admission for that domain that has no Seal, and with no page. There are at most 16,777,215 offers and as many
+    /// background frames. Returns `Memory` if an allocation fails; the admission is then dropped.
     pub fn new(
         alloc: Global,
         plan: &Plan,
@@ -125,7 +126,7 @@ impl<'a> World<'a> {
 }
 
 impl World<'_> {
-    /// The admission, with the history so far. It takes no memory.
+    /// Returns the admission, with the history so far. It allocates no memory.
     pub fn admission(&self) -> &Admission
         ensures domain { result.now.domain ≡ self.now.domain }
         ensures entries { result.now.entries ≡ self.now.entries }
@@ -133,7 +134,8 @@ impl World<'_> {
         &self.admission
     }
 
-    /// The pages posted so far. Each is that page of the one-thread book of the history over the Seals made. It takes no memory.
+    /// Returns the pages posted so far. Each of them is the same page of the single-threaded book of the history, over the cycles that are
+    /// closed. It allocates no memory.
     pub fn pages(&self) -> &Pages
         ensures value { result.now ≡ self.now.pages }
         ensures of_the_book { ArePagesOfTheBook self.now }
@@ -141,7 +143,7 @@ impl World<'_> {
         &self.pages
     }
 
-    /// Whether a bridge may be given the table of its cycle.
+    /// Returns whether a bridge may be given the table of its cycle.
     fn may_give(&self, bridge: u16) -> bool
         requires { self.now.stopped ≡ false }
         ensures yes { result ≡ true → MayBeGiven self.now bridge }
@@ -157,7 +159,7 @@ impl World<'_> {
         (cycle as usize) < self.tables.len()
     }
 
-    /// Gives it.
+    /// Gives the table to the bridge.
     fn give(&mut self, bridge: u16)
         requires goes_on { self.old.stopped ≡ false }
         requires may { MayBeGiven self.old bridge }
@@ -210,7 +212,7 @@ impl World<'_> {
         closed
     }
 
-    /// Whether the bridge in which a link ends may take a batch from it.
+    /// Returns whether the bridge in which a link ends may take a batch from it.
     fn may_take(&self, link: u16) -> bool
         requires { self.now.stopped ≡ false }
         ensures yes { result ≡ true → MayTake self.now link }
@@ -227,7 +229,7 @@ impl World<'_> {
         !is_quiet(line)
     }
 
-    /// Takes it: the oldest one under way.
+    /// Takes the oldest batch under way on the link.
     fn take(&mut self, link: u16) -> Result<(), Memory>
         requires goes_on { self.old.stopped ≡ false }
         requires may { MayTake self.old link }
@@ -245,7 +247,7 @@ impl World<'_> {
         Ok(())
     }
 
-    /// Whether a bridge may send its cycle.
+    /// Returns whether a bridge may send its cycle.
     fn may_step(&self, bridge: u16) -> bool
         requires { self.now.stopped ≡ false }
         ensures yes { result ≡ true → MayStep self.now bridge }
@@ -260,7 +262,7 @@ impl World<'_> {
         bridge_driven.sent == bridge_driven.posted
     }
 
-    /// Sends it.
+    /// Sends the bridge's cycle.
     fn step(&mut self, bridge: u16) -> Result<(), Memory>
         requires goes_on { self.old.stopped ≡ false }
         requires may { MayStep self.old bridge }
@@ -281,7 +283,7 @@ impl World<'_> {
         Ok(())
     }
 
-    /// Whether a bridge may receive its cycle, and post its page.
+    /// Returns whether a bridge may receive its cycle and post its page.
     fn may_post(&self, bridge: u16) -> bool
         requires { self.now.stopped ≡ false }
         ensures yes { result ≡ true → MayPost self.now bridge }
@@ -296,7 +298,7 @@ impl World<'_> {
         bridge_driven.taken.as_slice().len() == bridge_driven.incoming
     }
 
-    /// Receives it, and posts the page.
+    /// Receives the bridge's cycle and posts the page.
     fn post(&mut self, bridge: u16) -> Result<(), Memory>
         requires goes_on { self.old.stopped ≡ false }
         requires may { MayPost self.old bridge }
@@ -317,7 +319,7 @@ impl World<'_> {
         Ok(())
     }
 
-    /// Whether there may be a call more.
+    /// Returns whether another call may enter the history.
     fn may_call(&self) -> bool
         ensures yes { result ≡ true → calls self.now.entries < most_calls }
         ensures no { result ≡ false → most_calls ≤ calls self.now.entries }
@@ -326,7 +328,7 @@ impl World<'_> {
         self.admission.history().len() < MOST_CALLS + sealed
     }
 
-    /// Whether the next cycle may be closed to changes.
+    /// Returns whether the next cycle may be closed to changes.
     fn may_seal(&self) -> bool
         ensures yes { result ≡ true → seals self.now.entries < self.now.cycles }
         ensures no { result ≡ false → self.now.cycles ≤ seals self.now.entries }
@@ -334,7 +336,7 @@ impl World<'_> {
         self.admission.next_cycle().0 < self.cycles
     }
 
-    /// Whether an event may happen: none after a growth was refused, nor to a bridge or on a link that the domain lacks.
+    /// Returns whether an event can happen: none after an allocation failed, and none at a bridge or link that the domain lacks.
     fn is_enabled(&self, event: &Event) -> bool
         ensures yes { result ≡ true → IsEnabled self.now event.now }
         ensures no { result ≡ false → ¬ IsEnabled self.now event.now }
@@ -352,7 +354,7 @@ impl World<'_> {
         }
     }
 
-    /// Does what an event does that may happen.
+    /// Carries out an event that can happen.
     fn carry_out(&mut self, event: Event) -> Result<(), Memory>
         requires { IsEnabled self.old event }
         ensures ok { OnOk result (Happens self.old self.new event) }
@@ -371,16 +373,15 @@ impl World<'_> {
         }
     }
 
-    /// Applies an event, where it may happen now; the crate's page has the table of events, and `specs/Events.antt` says it in full
-    /// 
+    /// Applies an event if it can happen now. The crate's page has the table of events; `specs/Events.antt` defines them completely.
     ///
-    /// [`Applied::NotEnabled`] where it may not, as for a bridge or a link that the domain lacks; then nothing is changed, and no
-    /// memory was taken. `Memory` where a growth is refused: the history and the pages are as they were, and no event may happen
-    /// any more.
+    /// Returns [`Applied::NotEnabled`] if the event can't happen now, as for a bridge or link that the domain lacks. Nothing is changed
+    /// then, and nothing was allocated. Returns `Memory` if an allocation fails: the history and the pages are then unchanged, and no event
+    /// can happen any more.
     ///
-    /// What a page that one bridge posts means for another is a law: each bridge stands where its own lists say, whatever turns the
-    /// others take, and once it has its table and its batches it receives its cycle, but for want of memory
-    /// (`halfway` and `receives` of [`cqf_bridge::bridges_go_on`]).
+    /// A law says what the page of one bridge means for the others: the state of each bridge follows from its own lists, no matter in which order
+    /// the others act. Once it has its table and its batches, it receives its cycle unless an allocation fails (`halfway` and `receives` of
+    /// [`cqf_bridge::bridges_go_on`]).
     pub fn apply(&mut self, event: Event) -> Result<Applied, Memory>
         ensures { AnswersEvent self.old self.new event result }
     {

@@ -1,5 +1,4 @@
--- What the command `compile` gives for its input: the configuration of a domain and its streams, or the line of
--- the input's first fault.
+-- The result of the command `compile` for its input: the configuration of a domain and its streams, or the line of the input's first fault.
 use Rattle.cqf_model.specs.declared.limits.Limits.{Limits}
 use Rattle.std.specs.Prelude.{ℕ, ◌≡◌, ◌≤◌, ◌+◌, ◌++◌, codes, decimal, length, List, [], ◌∷◌, map, Result, Ok}
 use Rattle.cqf_model.specs.declared.topology.Row.{Row}
@@ -20,22 +19,22 @@ use Rattle.cqf_press.specs.Stops.{line_of, or_line}
 use Rattle.cqf_model.specs.Limits.{most_streams}
 use Rattle.cqf_program_plans.specs.Reserving.{requests_in}
 
--- why a stream isn't admitted, by its place among the streams, from 1
+-- the line for a stream that isn't admitted, by its position among the streams, from 1
 abbrev pub stream_line : ℕ → Refused → List ℕ
 stream_line place refused = line_of (codes "cqf: stream " ++ (decimal place ++ (codes ": " ++ text_of_refusal refused)))
 
--- the history with a stream asked for by seat 0, and the answer that is due
+-- the history with a request for a stream by seat 0, and its due answer
 abbrev pub with_asked : Domain → List Recorded → Asked → List Recorded
 with_asked d entries asked = with_entry entries 0 (Admits asked) (reply_to d entries (Admits asked))
 
--- the history with streams admitted in turn, the first of which has this place; or the line of the first that is refused
+-- the history with streams admitted in turn, the first of them at this position; or the line of the first stream that is refused
 abbrev pub admitted_from : Domain → List Recorded → ℕ → List Asked → Result (List Recorded) (List ℕ)
 admitted_from d entries place [] = Ok entries
 admitted_from d entries place (asked ∷ more) =
     refuse (refusal_of d (held_in d entries (seals entries)) asked) (stream_line place) (admitted_from d (with_asked d entries asked) (place + 1) more)
 
--- the domain and the streams of an input, or the line of the first fault: of the parts, then of the domain, then of the
--- streams, and of the first of them that reserves less than its traffic needs
+-- the domain and the streams of an input, or the line of the first fault: of the parts, then of the domain, then of the streams, and of the
+-- first stream that reserves less than its traffic needs
 abbrev pub compile_input : Limits → List ℕ → Result (Domain × List Asked) (List ℕ)
 compile_input limits input = and_then (two_parts (parts_of input)) (λ parts.
     and_then (or_line domain_line (domain_within limits parts.0)) (λ domain.
@@ -49,7 +48,7 @@ configuration_of d streams = and_then (admitted_from d [] 1 streams) (λ entries
 abbrev pub compiled_input : Limits → List ℕ → Result (List ℕ) (List ℕ)
 compiled_input limits input = and_then (compile_input limits input) (λ found. configuration_of found.0 found.1)
 
--- a history of admissions alone, each of them granted: no Seal, one held stream for each entry, and at most 16,384
+-- a history that only grants admissions: no Seal, one held stream for each entry, and at most 16,384 entries
 pub record AreAllHeld (d : Domain) (entries : List Recorded) : Type 0 where
   pub legal : IsLegalHistory d entries
   pub no_seal : seals entries ≡ 0

@@ -1,4 +1,4 @@
--- What the output of the command `compile` tells.
+-- The text of the output of the command `compile`.
 use Rattle.std.specs.Prelude.{ℕ, List}
 use Rattle.cqf_compile.specs.ConfigText.{config_text}
 use Rattle.cqf_model.specs.declared.topology.Row.{Row}

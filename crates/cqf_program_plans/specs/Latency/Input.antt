@@ -1,4 +1,4 @@
--- What the command `latency` reads, and gives for it.
+-- The input of the command `latency`, and the result for it.
 use Rattle.cqf_model.specs.declared.limits.Limits.{Limits}
 use Rattle.std.specs.Prelude.{ℕ, Bool, List, Option, Result, Ok, map}
 use Rattle.cqf_lists.specs.Results.{and_then}
@@ -14,21 +14,21 @@ use Rattle.cqf_press.specs.Stops.{or_line}
 use Rattle.cqf_program_plans.specs.Latency.Output.{latency_of_plan}
 use Rattle.cqf_program_plans.specs.Reserving.{planned_in}
 
--- the domain and the streams of an input with their deadlines, or the line of the first fault: of the parts, then of the
--- domain, then of the streams, and of the first of them that reserves less than its traffic needs
+-- the domain and the streams of an input with their deadlines, or the line of the first fault: of the parts, then of the domain, then of
+-- the streams, and of the first stream that reserves less than its traffic needs
 abbrev pub latency_input : Limits → List ℕ → Result (Domain × List PlannedText) (List ℕ)
 latency_input limits input = and_then (two_parts (parts_of input)) (λ parts.
     and_then (or_line domain_line (domain_within limits parts.0)) (λ domain.
     and_then (planned_in domain parts.1) (λ streams. Ok (domain, streams))))
 
--- what streams ask for, and their deadlines, by number
+-- the streams as they are requested, and their deadlines, by number
 abbrev pub asked_in : List PlannedText → List Asked
 asked_in streams = map (λ (planned : PlannedText). asked_by planned.0) streams
 
 abbrev pub deadlines_in : List PlannedText → List (Option ℕ)
 deadlines_in streams = map (λ (planned : PlannedText). planned.1) streams
 
--- the latencies for an input, or the line of its first fault; and else, where that is asked for strictly, the line of the first
--- latency that isn't surely within its deadline
+-- the latencies for an input, or the line of its first fault; or else, if strict, the line of the first latency that isn't certain to be
+-- within its deadline
 abbrev pub latency_of_input : Limits → Bool → List ℕ → Result (List ℕ) (List ℕ)
 latency_of_input limits strict input = and_then (latency_input limits input) (λ found. latency_of_plan strict found.0 (asked_in found.1) (deadlines_in found.1))

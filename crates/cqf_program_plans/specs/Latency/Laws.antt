@@ -1,4 +1,4 @@
--- What is told of a plan holds of every run over it.
+-- What is written of a plan holds in every run over it.
 use Rattle.std.specs.Prelude.{ℕ, ◌≡◌, List, [], Ok, length, Contains}
 use Rattle.cqf_model.specs.declared.frames.Background.{Background}
 use Rattle.cqf_model.specs.declared.frames.Offer.{Offer}
@@ -19,14 +19,14 @@ use Rattle.cqf_laws_timing.specs.LooseStreams.{IsHeardOf, IsLooseHistory}
 use Rattle.cqf_laws_timing.specs.Streams.{AdmitsOnly}
 use Rattle.cqf_laws_timing.specs.Verdicts.{IsAsSaid, sure_of}
 
--- a frame that is offered at an instant and whole at another at the end of a link of this depth is within the bounds that are
--- told where the streams cost so much of the link, and as the verdict on any deadline says
+-- a frame is offered at instant at and is whole at instant whole, at the end of a link of this hop number. Its latency is within the bounds
+-- that are written if the streams cost this much of the link, and every deadline's verdict is true of it
 pub record IsAsTold (d : Domain) (link depth cost at whole : ℕ) : Type 0 where
   pub timely : IsTimely d link depth cost at whole
   pub verdict : (deadline : ℕ) → IsAsSaid at whole deadline (sure_of (least_of d link depth) (most_of d link depth cost) deadline)
 
--- where a plan's streams are all admitted, each start of a stream's frame in the book of each history that admits streams of the
--- plan alone is as it's told of the plan, whatever else is called for, whatever is offered, and beside any background
+-- if a plan's streams are all admitted, each start of a stream's frame is as written of the plan. This holds in the book of each history
+-- that admits only streams of the plan, for all other calls, all offers and any background frames
 abbrev pub ToldLatenciesHold : Type 0
 ToldLatenciesHold =
     (d : Domain) (streams : List Asked) (plan entries : List Recorded) (offers : List Offer) (background : List Background) (cycles : ℕ)
@@ -35,8 +35,8 @@ ToldLatenciesHold =
     (shift : InShift (run_of_history d entries offers background cycles) (length (tables_of d entries cycles)) s.frame s.link s.cycle.0) →
     IsAsTold d s.link shift.depth (most_beside (held_in d plan 0) shift.row.tree.items shift.row.pace s.link) shift.x.offer.at.0 (whole_of d s)
 
--- so is each frame in every loose network of such a history, with the slack that the domain states: from its offer by its edge bridge's
--- clock to its being whole by the clock at the link's end
+-- the same holds of each frame in every loose network of such a history, with the slack that the domain states: from the frame's offer by
+-- its edge bridge's clock to its being whole by the clock at the link's end
 abbrev pub ToldLatenciesHoldLoosely : Type 0
 ToldLatenciesHoldLoosely =
     (d : Domain) (streams : List Asked) (plan entries : List Recorded) (offers : List Offer) (background : List Background) (cycles : ℕ) (net : Network)

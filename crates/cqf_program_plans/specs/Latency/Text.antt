@@ -28,7 +28,7 @@ is_station (Some (Station station)) = true
 abbrev pub listeners_of : Domain → Row → List Hop
 listeners_of d row = filter (λ (hop : Hop). is_station (end_of d hop.link)) row.tree.items
 
--- what is told of a listener of a row with this deadline, where the streams cost so much of the link that ends there
+-- the latency to a listener of a row with this deadline, if the streams cost this much of the link that ends there
 abbrev pub latency_to : Domain → ℕ → Row → Option ℕ → Hop → Latency
 latency_to d cost row deadline hop = record {
   stream = row.name;
@@ -40,19 +40,20 @@ latency_to d cost row deadline hop = record {
   deadline = deadline;
 }
 
--- that of each of its listeners, beside the rows of its table: by the most that these cost in a cycle of its own
+-- the latency to each listener of a row, beside all rows of its table: with the most that these cost in a cycle in which the row's frames
+-- use the link
 abbrev pub latencies_of_row : Domain → List Row → Row → Option ℕ → List Latency
 latencies_of_row d rows row deadline = map (λ (hop : Hop). latency_to d (most_beside rows row.tree.items row.pace hop.link) row deadline hop) (listeners_of d row)
 
--- the deadline of the stream of a number
+-- the deadline of the stream with this number, if it has one
 abbrev pub deadline_of : List (Option ℕ) → ℕ → Option ℕ
 deadline_of deadlines number = slice_index_or deadlines number None
 
--- that of each listener of each row
+-- the latencies to each listener of each row
 abbrev pub latencies_of : Domain → List Row → List (Option ℕ) → List Latency
 latencies_of d rows deadlines = flat_map (λ (row : Row). latencies_of_row d rows row (deadline_of deadlines row.no)) rows
 
--- whether the frames keep their deadline for sure, as it is said
+-- whether the frames are certain to keep their deadline, as a verdict and as its name
 abbrev pub said_of_latency : Sure → Verdict
 said_of_latency InTime = told.InTime
 said_of_latency Late = told.Late
@@ -71,29 +72,29 @@ abbrev pub latency_header : Fields
 latency_header =
     codes "stream" ∷ codes "listener" ∷ codes "bridges" ∷ codes "least" ∷ codes "most" ∷ codes "window" ∷ codes "deadline" ∷ codes "verdict" ∷ []
 
--- a deadline and a verdict, or nothing
+-- a deadline or a verdict as text, empty if there is none
 abbrev pub text_of_deadline : Option ℕ → List ℕ
 text_of_deadline deadline = option_map_or decimal deadline []
 
 abbrev pub text_of_verdict : Option Verdict → List ℕ
 text_of_verdict verdict = option_map_or name_of_verdict verdict []
 
--- a latency: its stream, its listener's station, how many bridges are on the way, the least, the most and the window, the
+-- the fields of a latency: its stream, its listener's station, the number of bridges on the path, the least, the most and the window, the
 -- deadline and the verdict
 abbrev pub latency_fields : Latency → Fields
 latency_fields latency =
     latency.stream ∷ latency.listener ∷ decimal latency.bridges ∷ decimal latency.least ∷ decimal latency.most ∷ decimal latency.window ∷ text_of_deadline
     latency.deadline ∷ text_of_verdict (verdict_on_deadline latency) ∷ []
 
--- one line a latency, in their order
+-- one line per latency, in order
 abbrev pub lines_of_latencies : List Latency → List ℕ
 lines_of_latencies latencies = flat_map (λ (latency : Latency). line_of_fields (latency_fields latency)) latencies
 
--- the text of latencies: the header, and their lines
+-- the text of latencies: the header and one line per latency
 abbrev pub text_of_latency : List Latency → List ℕ
 text_of_latency latencies = line_of_fields latency_header ++ lines_of_latencies latencies
 
--- that of the rows of a table
+-- the text for the rows of a table
 abbrev pub latency_text : Domain → List Row → List (Option ℕ) → List ℕ
 latency_text d rows deadlines = text_of_latency (latencies_of d rows deadlines)
 
@@ -107,7 +108,7 @@ may_miss (Some told.MayBeLate) = true
 abbrev pub is_not_sure : Latency → Bool
 is_not_sure latency = may_miss (verdict_on_deadline latency)
 
--- the line that tells so of a latency
+-- the line for a latency whose frames may miss their deadline
 abbrev pub not_sure_line : Latency → List ℕ
 not_sure_line latency = fault_line (codes "latency")
     (latency.stream
@@ -117,10 +118,10 @@ not_sure_line latency = fault_line (codes "latency")
     ++ (text_of_verdict (verdict_on_deadline latency)
     ++ (codes ", most " ++ (decimal latency.most ++ (codes ", deadline " ++ text_of_deadline latency.deadline))))))))
 
--- the line of the first of some latencies whose frames may miss their deadline
+-- the line of the first of these latencies whose frames may miss their deadline
 abbrev pub first_line_of : List Latency → Option (List ℕ)
 first_line_of latencies = option_map not_sure_line (find is_not_sure latencies)
 
--- that of the rows of a table
+-- the same for the rows of a table
 abbrev pub first_not_sure : Domain → List Row → List (Option ℕ) → Option (List ℕ)
 first_not_sure d rows deadlines = first_line_of (latencies_of d rows deadlines)

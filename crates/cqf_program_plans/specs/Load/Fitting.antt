@@ -1,4 +1,4 @@
--- What links have, and the greatest reservation that still fits one.
+-- The rates and streams of links, and the greatest reservation that still fits a link.
 use Rattle.std.specs.Prelude.{ℕ, ◌+◌, ◌-◌, ◌*◌, ◌/◌, List, count_by, min, slice_get, suc, zero}
 use Rattle.std.specs.Option.{option_map_or}
 use Rattle.cqf_units.specs.declared.timing.Rate.{Rate}
@@ -26,11 +26,12 @@ megabits_of Mb100000 = 100000
 abbrev pub rate_on : Domain → ℕ → ℕ
 rate_on d l = option_map_or (λ (link : Link). megabits_of link.rate) (slice_get d.links l) 0
 
--- how many of some streams go by a link
+-- how many of these streams use a link
 abbrev pub streams_on : List Row → ℕ → ℕ
 streams_on rows l = count_by (λ (row : Row). crosses row l) rows
 
--- the greatest reservation that costs no more than what is left, 0 where there is none: by the frames of 64 octets that this holds
+-- the greatest reservation that costs no more than what is left, 0 if there is none; computed from the number of frames of 64 octets that
+-- fit
 abbrev pub fits_by : ℕ → ℕ → ℕ
 fits_by zero left = 0
 fits_by (suc frames) left = min (min (left - 20 * suc frames) (64 * suc frames + 63)) most_reserved

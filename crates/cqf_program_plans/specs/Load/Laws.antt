@@ -13,17 +13,18 @@ use Rattle.cqf_program_plans.specs.Load.Listing.{listing_refusal}
 use Rattle.cqf_program_plans.specs.Load.Output.{listed_from}
 use Rattle.cqf_model.specs.Limits.{least_reserved, most_reserved}
 
--- a reservation costs no more than what is left just where it is no greater than what fits
+-- a reservation costs no more than what is left if and only if it is no greater than what fits
 abbrev pub FitsIsGreatest : Type 0
 FitsIsGreatest = (left reserved : ℕ) → least_reserved ≤ reserved → reserved ≤ most_reserved → cost_of reserved ≤ left ↔ reserved ≤ fits_in left
 
--- a stream more of each cycle, that nothing but a budget speaks against, is accepted just where it is no greater than what fits each of its links
+-- one more stream of each cycle, to which only a budget can object, is accepted if and only if it is no greater than what fits each of its
+-- links
 abbrev pub OneMoreFits : Type 0
 OneMoreFits = (d : Domain) (rows : List Row) (asked : Asked) → pace_of asked ≡ each_cycle → listing_refusal d rows asked ≡ None →
     (refusal_of d rows asked ≡ None) ↔ All (λ l. asked.octets ≤ fits_on d rows l) (links_in (tree_of d asked.paths))
 
--- streams that are listed are all admitted, before cycle 0, just where no link holds more of them than its budget in any cycle: then each of
--- them is held in it, with these rows
+-- listed streams are all admitted before cycle 0 if and only if no link holds more of them than its budget in any cycle; each of them is
+-- then held in cycle 0, with these rows
 abbrev pub AreAdmitted : Domain → List Asked → List Row → Type 0
 AreAdmitted d streams rows = (entries : List Recorded) × (admitted_from d [] 1 streams ≡ Ok entries) × (held_in d entries 0 ≡ rows)
 
@@ -31,13 +32,13 @@ abbrev pub PlanFits : Type 0
 PlanFits = (d : Domain) (streams : List Asked) (rows : List Row) → listed_from d [] streams ≡ Ok rows →
     AreAdmitted d streams rows ↔ ((l turn : ℕ) → l < length d.links → link_cost rows l turn ≤ budget d l)
 
--- and streams that are all admitted are listed
+-- streams that are all admitted are listed
 abbrev pub AdmittedAreListed : Type 0
 AdmittedAreListed = (d : Domain) (streams : List Asked) (entries : List Recorded) → admitted_from d [] 1 streams ≡ Ok entries →
     listed_from d [] streams ≡ Ok (held_in d entries 0)
 
--- what is told of a link is the most that all streams that are listed cost of it: in no cycle a table of a history that admits streams
--- of this list alone costs more of it than they do, also where the plan is over
+-- what is written of a link is the most that all listed streams cost of it: no table of a history that admits only streams of this list
+-- costs more of the link in any cycle, even if the plan exceeds the budget
 abbrev pub NoneHoldsMore : Type 0
 NoneHoldsMore = (d : Domain) (streams : List Asked) (rows : List Row) (entries : List Recorded) (cycles cycle link turn : ℕ) →
     listed_from d [] streams ≡ Ok rows → IsLegalHistory d entries → cycles ≤ seals entries → AdmitsOnly streams entries →

@@ -1,4 +1,4 @@
--- Streams that are listed beside one another, and what is kept of them.
+-- Streams that are listed together, and what is kept of them.
 use Rattle.std.specs.Prelude.{ℕ, ◌≡◌, ◌*◌, ◌≤◌, ◌<◌, List, false, Option, Some, None, Result, Ok, Err, length, map, nat_le, slice_index_or}
 use Rattle.std.specs.List.{list_any}
 use Rattle.cqf_lists.specs.Lists.{or_else}
@@ -16,18 +16,18 @@ use Rattle.cqf_model.specs.Table.{link_cost}
 use Rattle.cqf_admission.specs.Turns.{IsOfGoodPace, Turned, sum_on}
 use Rattle.cqf_admission.specs.Rows.{IsCountable}
 
--- why a stream isn't listed beside others: as it would be refused beside them if each link had room
+-- why a stream isn't listed beside others: the reason for which it would be refused beside them if each link had room
 abbrev pub listing_refusal : Domain → List Row → Asked → Option Refused
 listing_refusal d rows asked =
     or_else (form_refusal d asked)
     (or_else (refused_if (list_any (λ (row : Row). is_text row.name asked.name) rows) NameHeld)
     (refused_if (nat_le (streams_within d.limits) (length rows)) TooManyStreams))
 
--- the row of a stream that is listed behind others
+-- the row of a stream that is listed after others
 abbrev pub listed_row : Domain → List Row → Asked → Row
 listed_row d rows asked = granted_row d (length rows) 0 asked
 
--- beside the rows stand their names; by link stand what they cost of it in each cycle, and how many go by it
+-- what is kept of the rows: their names, and for each link what they cost of it in each cycle, and how many of them use it
 pub record IsListing (names : List (List ℕ)) (rows : List Row) (held : Turned) (crossing : List ℕ) : Type 0 where
   pub are_names : names ≡ map (λ (row : Row). row.name) rows
   pub few : length rows ≤ most_streams
@@ -38,7 +38,7 @@ pub record IsListing (names : List (List ℕ)) (rows : List Row) (held : Turned)
   pub count : (l : ℕ) → l < most_links → slice_index_or crossing l 0 ≡ streams_on rows l
   pub counted : (l : ℕ) → l < most_links → slice_index_or crossing l 0 ≤ length rows
 
--- a look at a request gives its row behind others, or the first reason why it isn't listed
+-- a request that is listed after these rows, and its row
 pub record IsListed (d : Domain) (rows : List Row) (asked : Asked) (row : Row) : Type 0 where
   pub none : listing_refusal d rows asked ≡ None
   pub is : row ≡ listed_row d rows asked
@@ -48,7 +48,8 @@ pub record IsListed (d : Domain) (rows : List Row) (asked : Asked) (row : Row) :
   pub few : length rows < most_streams
   pub free : list_any (λ (other : Row). is_text other.name row.name) rows ≡ false
 
--- and one at what it is by itself, what its row is by
+-- the result of judging a request is the judged request from which its row is made, or the first reason why it isn't listed; the result of
+-- looking at it is that row, or the same reason
 abbrev pub Weighs : Domain → List Row → Asked → Result JudgedRequest Refused → Type 0
 Weighs d rows asked (Ok judged) = IsListed d rows asked (row_by judged asked.octets (length rows) (record { 0 = 0 }))
 Weighs d rows asked (Err refused) = listing_refusal d rows asked ≡ Some refused

@@ -1,5 +1,4 @@
--- What the command `load` gives for its input: what each link holds of the streams and has left, or the line of the
--- input's first fault.
+-- The result of the command `load` for its input: what each link holds of the streams and has left, or the line of the input's first fault.
 use Rattle.cqf_model.specs.declared.limits.Limits.{Limits}
 use Rattle.std.specs.Prelude.{ℕ, ◌+◌, ◌++◌, List, [], ◌∷◌, Result, Ok, length}
 use Rattle.cqf_lists.specs.Results.{and_then, refuse}
@@ -10,8 +9,8 @@ use Rattle.cqf_program_plans.specs.Compile.Output.{compile_input, stream_line}
 use Rattle.cqf_program_plans.specs.Load.Listing.{listed_row, listing_refusal}
 use Rattle.cqf_program_plans.specs.Load.Text.{load_text}
 
--- the rows with streams listed behind them in turn, each judged as if those before it had been accepted; or the line of the
--- first that is refused. Whether links have room isn't asked
+-- the rows with streams listed after them in turn, each judged as if those before it had been accepted; or the line of the first stream
+-- that is refused. Whether links have room doesn't matter
 abbrev pub listed_from : Domain → List Row → List Asked → Result (List Row) (List ℕ)
 listed_from d rows [] = Ok rows
 listed_from d rows (asked ∷ more) =
@@ -21,7 +20,7 @@ listed_from d rows (asked ∷ more) =
 abbrev pub load_of : Domain → List Asked → Result (List ℕ) (List ℕ)
 load_of d streams = and_then (listed_from d [] streams) (λ rows. Ok (load_text d rows))
 
--- the text for an input, or the line of its first fault: of the parts, of the domain, of the streams, or of the first stream
--- that isn't listed
+-- the text for an input, or the line of its first fault: of the parts, of the domain, of the streams, or of the first stream that isn't
+-- listed
 abbrev pub loaded_input : Limits → List ℕ → Result (List ℕ) (List ℕ)
 loaded_input limits input = and_then (compile_input limits input) (λ found. load_of found.0 found.1)

@@ -1,4 +1,4 @@
--- What the command `port` gives for its input: the starts before an instant, or the line of its first fault.
+-- The result of the command `port` for its input: the starts before an instant, or the line of the input's first fault.
 use Rattle.std.specs.Prelude.{ℕ, ◌≡◌, ◌<◌, ◌≤◌, ◌^◌, List, map, Result, Ok, All, AllPairs, codes}
 use Rattle.cqf_units.specs.Timing.{ticks_of_octet}
 use Rattle.cqf_units.specs.declared.timing.Rate.{Rate}
@@ -18,29 +18,27 @@ use Rattle.cqf_report.specs.Faults.{table_fault_text}
 use Rattle.cqf_report.specs.declared.tables.TableFault.{TableFault}
 use Rattle.cqf_press.specs.Stops.{fault_line, or_line}
 
--- why a gate list is refused
+-- the line for a gate list that is refused
 abbrev pub list_line : TextFault → List ℕ
 list_line fault = fault_line (codes "list") (text_fault_text fault)
 
--- why arrivals are refused
+-- the line for arrivals that are refused
 abbrev pub arrivals_line : TableFault → List ℕ
 arrivals_line fault = fault_line (codes "arrivals") (table_fault_text fault)
 
--- the gate list and the arrivals of an input, or the line of the first fault: of the parts, then of the list, then of
--- the arrivals
+-- the gate list and the arrivals of an input, or the line of the first fault: of the parts, then of the list, then of the arrivals
 abbrev pub port_input : List ℕ → Result (List Entry × List Arrival) (List ℕ)
 port_input input = and_then (two_parts (parts_of input)) (λ parts.
     and_then (or_line list_line (list_of_text parts.0)) (λ entries.
     and_then (or_line arrivals_line (arrivals_of_table parts.1)) (λ arrivals. Ok (entries, arrivals))))
 
--- the arrivals can be offered to a port that hasn't run: each is of a class, early enough, and none is before one that
--- stands before it
+-- the arrivals can be offered to a port that hasn't run: each has a traffic class and is early enough, and they are in order of instant
 pub record AreOfferable (arrivals : List Arrival) : Type 0 where
   pub classes : All (λ (arrival : Arrival). arrival.class < 8) arrivals
   pub early : All (λ (arrival : Arrival). arrival.at.0 < 2 ^ 62) arrivals
   pub in_order : AllPairs (λ (a b : Arrival). a.at.0 ≤ b.at.0) arrivals
 
--- the text is that of the legal starts before the instant, and of no others
+-- the text is that of the legal starts before the instant, and there are no other legal starts
 pub record IsStartsText (rules : PortRules) (arrivals : List Arrival) (until : ℕ) (rate : Rate) (text : List ℕ) : Type 0 where
   pub starts : List Transmission
   pub legal : AreLegal rules arrivals until starts

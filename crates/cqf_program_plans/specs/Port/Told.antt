@@ -1,4 +1,4 @@
--- What the output of the command `port` tells.
+-- The text of the output of the command `port`.
 use Rattle.std.specs.Prelude.{ℕ, List}
 use Rattle.cqf_model.specs.declared.ports.Start.{Start}
 use Rattle.cqf_report.specs.Starts.{text_of_starts}

@@ -25,15 +25,15 @@ use cqf_topology::{Domain, PacedRequest};
 use cqf_units::{Cycle, Memory};
 use std::alloc::Global;
 
-/// The administrator that the streams of `compile` are admitted by.
+/// The administrator who admits the streams of `compile`.
 const SEAT: u16 = 0;
 
-/// The domain and the streams of the input, which is read within some limits. Each stream that has traffic reserves what it needs of a
+/// Reads the domain and the streams of the input within some limits. Each stream that has traffic reserves what its traffic needs in a
 /// cycle.
 ///
 /// # Errors
-/// With status 1 and the line of the first fault of the input: of its parts, of the domain, of the streams, their traffic too, or of the
-/// first stream that reserves less than its traffic needs; and with status 3 for want of memory.
+/// With status 1 and the line of the first fault of the input: of its parts, of the domain, of the streams and their traffic, or of the first
+/// stream that reserves less than its traffic needs. With status 3 if an allocation fails.
 pub fn read_plan(
     alloc: Global,
     limits: Limits,
@@ -48,7 +48,7 @@ pub fn read_plan(
     Ok((domain, requests))
 }
 
-/// The line of a stream at a place that isn't admitted.
+/// Returns the line for the stream at position `place` that isn't admitted.
 fn line_of_stream(alloc: Global, place: usize, refused: Refused) -> Result<String, Memory>
     ensures { IfOk result (λ line. string_bytes line ≡ stream_line place refused) }
 {
@@ -56,8 +56,8 @@ fn line_of_stream(alloc: Global, place: usize, refused: Refused) -> Result<Strin
     Ok(line)
 }
 
-/// The end where the stream at a place, from 1, isn't admitted: with status 1 and a line that names the place and the reason, or
-/// with status 3 for want of memory.
+/// Returns the end of a command in which the stream at position `place`, from 1, isn't admitted: status 1 with a line that gives the
+/// position and the reason, or status 3 if an allocation fails.
 pub fn stream_stop(alloc: Global, place: usize, refused: Refused) -> Stop
     ensures refused { refused ≢ Refused.Memory → EndsWith 1 (stream_line place refused) result }
     ensures memory { refused ≡ Refused.Memory → EndsWith 3 [] result }
@@ -68,7 +68,7 @@ pub fn stream_stop(alloc: Global, place: usize, refused: Refused) -> Stop
     }
 }
 
-/// The row of the stream at a place, from 0, as that of number 0 and of cycle 0: its form is good.
+/// Returns the row of the stream at index `place`, from 0, with number 0 and admitted in cycle 0. The stream is of good form.
 fn row_at(alloc: Global, domain: &Domain, request: &PacedRequest, place: usize) -> Result<Row, Stop>
     requires { place + 1 < 2 ^ 64 }
     ensures ok { IfOk result (IsRowOfGoodForm domain.now (asked_paced request.now)) }
@@ -87,7 +87,7 @@ fn row_at(alloc: Global, domain: &Domain, request: &PacedRequest, place: usize) 
     }
 }
 
-/// Admits the stream at a place, from 0, where each call so far admitted one.
+/// Admits the stream at index `place`, from 0, if each call so far admitted one.
 fn admit_one(alloc: Global, ledger: &mut Ledger<'_>, place: usize) -> Result<Receipt, Stop>
     requires there { place < length ledger.old.requests }
     requires few { place + 1 < 2 ^ 64 }
@@ -111,7 +111,7 @@ fn admit_one(alloc: Global, ledger: &mut Ledger<'_>, place: usize) -> Result<Rec
     }
 }
 
-/// Lets a ledger know the row of the request at a place.
+/// Gives a ledger the row of the request at index `place`.
 fn learn(alloc: Global, ledger: &mut Ledger<'_>, place: usize, row: &Row) -> Result<(), Stop>
     requires there { place < length ledger.old.requests }
     requires row { IsRowOfGoodForm ledger.old.administration.domain (request_at ledger.old.requests place) row.now }
@@ -124,7 +124,7 @@ fn learn(alloc: Global, ledger: &mut Ledger<'_>, place: usize, row: &Row) -> Res
     }
 }
 
-/// Puts a row behind others, with the number and the cycle of its receipt.
+/// Appends a row to the others, with the number and the cycle of its receipt.
 fn push_row(alloc: Global, rows: &mut Vec<Row>, row: Row, receipt: Receipt) -> Result<(), Stop>
     ensures ok { OnOk result (rows.new.items ≡ rows.old.items ++ record row { no = receipt.no; admitted = receipt.effect } ∷ []) }
     ensures memory { IfErr result (EndsWith 3 []) }
@@ -138,7 +138,7 @@ fn push_row(alloc: Global, rows: &mut Vec<Row>, row: Row, receipt: Receipt) -> R
     }
 }
 
-/// Admits the streams in turn by a ledger over them, in which no call was made before, and puts their rows.
+/// Admits the streams in turn by a ledger over them, in which no call was made before, and appends their rows.
 fn admit_all(
     alloc: Global,
     domain: &Domain,
@@ -170,7 +170,7 @@ fn admit_all(
     Ok(())
 }
 
-/// Admits the streams in turn by a ledger over them, in which no call was made before: their rows.
+/// Admits the streams in turn by a ledger over them, in which no call was made before, and returns their rows.
 fn rows_with(
     alloc: Global,
     domain: &Domain,
@@ -192,11 +192,11 @@ fn rows_with(
     Ok(rows)
 }
 
-/// The rows of the table of cycle 0, with all streams, by number: each is admitted before it, in their order. They are what held
-/// streams are: their trees are trees of the domain, and what they cost of a link is within its budget.
+/// Returns the rows of the table of cycle 0, with all streams, by number. The streams are admitted before that cycle, in order. The rows
+/// are those of held streams: their trees are trees of the domain, and what they cost of a link is within its budget.
 ///
 /// # Errors
-/// With status 1 and the line of the first stream that isn't admitted; and with status 3 for want of memory.
+/// With status 1 and the line of the first stream that isn't admitted. With status 3 if an allocation fails.
 pub fn rows_of_cycle_0(
     alloc: Global,
     domain: &Domain,
@@ -214,7 +214,7 @@ pub fn rows_of_cycle_0(
     rows_with(alloc, domain, requests, &mut ledger)
 }
 
-/// The domain's configuration with the streams of these rows, ready to be told.
+/// Returns the domain's configuration with the streams of these rows, ready to be written.
 fn config_ready(alloc: Global, domain: &Domain, rows: Vec<Row>) -> Result<ConfigOutput, Memory>
     requires along { AreAlongLinks domain.now rows.items }
     requires paced { AreOfGoodPaces rows.items }
@@ -225,7 +225,7 @@ fn config_ready(alloc: Global, domain: &Domain, rows: Vec<Row>) -> Result<Config
     Ok(ConfigOutput { plan, rows, sheet })
 }
 
-/// The configuration of a domain with these streams, ready to be told.
+/// Returns the configuration of a domain with these streams, ready to be written.
 fn config_of(
     alloc: Global,
     domain: &Domain,
@@ -241,11 +241,12 @@ fn config_of(
     }
 }
 
-/// The output of `compile` for an input that is read within some limits, ready to be told: the configuration of the domain and its streams.
+/// Returns the output of `compile` for an input that is read within some limits, ready to be written: the configuration of the domain and
+/// its streams.
 ///
 /// # Errors
-/// With status 1 and the line of the first fault of the input: of its parts, of the domain, of the streams, or of the first
-/// stream that isn't admitted; and with status 3 for want of memory.
+/// With status 1 and the line of the first fault of the input: of its parts, of the domain, of the streams, or of the first stream that isn't
+/// admitted. With status 3 if an allocation fails.
 pub fn compile_output(alloc: Global, limits: Limits, input: &[u8]) -> Result<ConfigOutput, Stop>
     ensures ok { IfOk result (λ output. compiled_input limits input.now ≡ Ok (text_of_config output)) }
     ensures err { IfErr result (IsRefused (compiled_input limits input.now)) }

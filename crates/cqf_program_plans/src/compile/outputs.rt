@@ -7,7 +7,7 @@ use cqf_model::Row;
 use cqf_press::{Press, Sheet, Sink, Told};
 use std::marker::Model;
 
-/// What the output of `compile` is told from: the plan of a domain, the rows of its streams by number, and a sheet.
+/// The output of `compile` before it is written: the plan of a domain, the rows of its streams by number, and a sheet.
 #[derive(Drop)]
 pub struct ConfigOutput {
     pub(crate) plan: Plan,
@@ -27,7 +27,7 @@ impl Model for ConfigOutput {
 }
 
 impl ConfigOutput {
-    /// Tells the output: the configuration, as `cqf_compile::write_config` gives it. It asks for no memory.
+    /// Writes the output: the configuration, as `cqf_compile::write_config` gives it. It allocates no memory.
     pub fn tell<W: Sink>(self, told: &mut Told<W>)
         ensures { HasTold (writing W.contents told.old told.new) (text_of_config self) }
     {

@@ -20,7 +20,7 @@ use cqf_topology::{Domain, PacedRequest, Planned};
 use cqf_units::Memory;
 use std::alloc::Global;
 
-/// The line of a latency whose frames may miss their deadline.
+/// Returns the line for a latency whose frames may miss their deadline.
 fn line_of_latency(alloc: Global, latency: &Latency) -> Result<String, Memory>
     requires { is_not_sure latency.now ≡ true }
     ensures { IfOk result (λ line. string_bytes line ≡ not_sure_line latency.now) }
@@ -36,7 +36,7 @@ fn line_of_latency(alloc: Global, latency: &Latency) -> Result<String, Memory>
     Ok(line)
 }
 
-/// The end where the frames of a latency may miss their deadline.
+/// Returns the end of a command in which the frames of a latency may miss their deadline.
 fn latency_stop(alloc: Global, latency: &Latency) -> Stop
     requires { is_not_sure latency.now ≡ true }
     ensures { EndsWith 1 (not_sure_line latency.now) result }
@@ -44,14 +44,14 @@ fn latency_stop(alloc: Global, latency: &Latency) -> Stop
     Stop::with_text(alloc, REFUSED, line_of_latency(alloc, latency))
 }
 
-/// The first latency whose frames may miss their deadline.
+/// Returns the first latency whose frames may miss their deadline.
 fn first_not_sure(latencies: &[Latency]) -> Option<&Latency>
     ensures { option_copied result ≡ find is_not_sure latencies.now }
 {
     latencies.iter().find(|latency| latency.is_not_sure())
 }
 
-/// Refuses, where that is asked for strictly, the first latency whose frames may miss their deadline.
+/// If `strict`, refuses the first latency whose frames may miss their deadline.
 fn refuse_not_sure(alloc: Global, strict: bool, latencies: &[Latency]) -> Result<(), Stop>
     ensures ok { let told = unless_strict strict (first_line_of latencies.now) (text_of_latency latencies.now) in
         OnOk result (told ≡ Ok (text_of_latency latencies.now)) }
@@ -66,7 +66,7 @@ fn refuse_not_sure(alloc: Global, strict: bool, latencies: &[Latency]) -> Result
     }
 }
 
-/// The latencies of the streams of a table's rows, ready to be told.
+/// Returns the latencies of the streams of a table's rows, ready to be written.
 fn latencies_ready(
     alloc: Global,
     domain: Domain,
@@ -82,7 +82,7 @@ fn latencies_ready(
     Ok(LatencyOutput { latencies, sheet })
 }
 
-/// The output for a table's rows.
+/// Returns the output for a table's rows.
 fn output_of_rows(
     alloc: Global,
     strict: bool,
@@ -106,13 +106,13 @@ fn output_of_rows(
     }
 }
 
-/// The output for a domain and its streams: how long the frames of each stream take to each of its listeners, and whether they
-/// keep the stream's deadline, where all streams are admitted before cycle 0. The deadlines, in nanoseconds, are by
-/// stream number: the first is that of the first request. A stream has none where there are fewer.
+/// Returns the output for a domain and its streams: how long the frames of each stream take to each of its listeners, and whether they keep
+/// the stream's deadline, if all streams are admitted before cycle 0. The deadlines, in nanoseconds, are by stream number: the first is
+/// that of the first request. A stream for which there is no entry has no deadline.
 ///
 /// # Errors
-/// With status 1 and the line of the first stream that isn't admitted, or else, where `strict` is, of the first latency whose
-/// frames aren't within its deadline for sure; and with status 3 for want of memory.
+/// With status 1 and the line of the first stream that isn't admitted; or else, if `strict`, of the first latency whose frames aren't certain to
+/// be within its deadline. With status 3 if an allocation fails.
 fn latency_of(
     alloc: Global,
     strict: bool,
@@ -127,7 +127,7 @@ fn latency_of(
     output_of_rows(alloc, strict, domain, rows, deadlines)
 }
 
-/// The output for streams with their deadlines.
+/// Returns the output for streams with their deadlines.
 fn output_of_streams(
     alloc: Global,
     strict: bool,
@@ -152,13 +152,13 @@ fn output_of_streams(
     }
 }
 
-/// The output of `latency` for an input that is read within some limits, ready to be told: how long the frames of each stream of the
-/// input take to each of its listeners, and whether they keep the stream's deadline.
+/// Returns the output of `latency` for an input that is read within some limits, ready to be written: how long the frames of each stream of
+/// the input take to each of its listeners, and whether they keep the stream's deadline.
 ///
 /// # Errors
-/// With status 1 and the line of the first fault of the input: of its parts, of the domain, of the streams, or of the first
-/// stream that isn't admitted; or else, where `strict` is, of the first latency whose frames aren't within its deadline for
-/// sure; and with status 3 for want of memory.
+/// With status 1 and the line of the first fault of the input: of its parts, of the domain, of the streams, or of the first stream that isn't
+/// admitted; or else, if `strict`, of the first latency whose frames aren't certain to be within its deadline. With status 3 if an allocation
+/// fails.
 pub fn latency_output(
     alloc: Global,
     limits: Limits,

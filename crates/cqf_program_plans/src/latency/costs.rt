@@ -1,4 +1,4 @@
-//! What the streams of some rows cost of each link.
+//! What the streams of a table's rows cost of each link.
 ghost use Rattle.std.specs.Prelude.{ℕ, ◌≡◌, ◌<◌, ◌∷◌, [], Contains, IfOk, length};
 ghost use Rattle.cqf_admission.specs.Costs.{most_cost};
 ghost use Rattle.cqf_admission.specs.Rows.{IsCountable};
@@ -34,7 +34,7 @@ impl<'r> Model for Costs<'r> {
     ghost invariant = { λ c. AreCosts c.domain.now c.rows.now c.costs };
 }
 
-/// What the rows' streams cost of each link in each cycle, unless memory runs out.
+/// Returns what the rows' streams cost of each link in each cycle.
 fn costs_of(alloc: Global, domain: &Domain, rows: &[Row]) -> Result<CycleSums, Memory>
     requires held { (next : ℕ) × AreHeld domain.now rows.now next 0 }
     requires good { AreOfGoodPaces rows.now }
@@ -48,10 +48,10 @@ fn costs_of(alloc: Global, domain: &Domain, rows: &[Row]) -> Result<CycleSums, M
     Ok(costs)
 }
 
-/// What the streams of these rows of a table of the domain cost of each link at most in a cycle, by number, in octets.
+/// Returns what the streams of these rows of a table of the domain cost of each link at most in a cycle, in octets, by link number.
 ///
 /// # Errors
-/// `Memory` where a growth is refused.
+/// `Memory` if an allocation fails.
 pub fn link_costs(alloc: Global, domain: &Domain, rows: &[Row]) -> Result<Vec<u32>, Memory>
     requires held { (next : ℕ) × AreHeld domain.now rows.now next 0 }
     requires good { AreOfGoodPaces rows.now }
@@ -70,7 +70,7 @@ pub fn link_costs(alloc: Global, domain: &Domain, rows: &[Row]) -> Result<Vec<u3
 }
 
 impl<'r> Costs<'r> {
-    /// The costs of the streams of these rows of a table of the domain.
+    /// Returns the costs of the streams of these rows of a table of the domain.
     pub(crate) fn new(
         alloc: Global,
         domain: &'r Domain,
@@ -90,14 +90,14 @@ impl<'r> Costs<'r> {
         })
     }
 
-    /// The domain.
+    /// Returns the domain.
     pub(crate) fn domain(&self) -> &Domain
         ensures { result.now ≡ self.now.domain }
     {
         self.domain
     }
 
-    /// The rows of the streams, by number.
+    /// Returns the rows of the streams, by number.
     pub(crate) fn rows(&self) -> &[Row]
         ensures rows { result.now ≡ self.now.rows }
         ensures countable { AreCountable (length self.now.domain.links) self.now.rows }
@@ -106,7 +106,7 @@ impl<'r> Costs<'r> {
         self.rows
     }
 
-    /// What the streams cost at most, in octets, of the link of a hop in the cycles in which a row's frames go by it.
+    /// Returns what the streams cost of a hop's link at most, in octets, in the cycles in which the row's frames use the link.
     pub(crate) fn at_hop(&self, row: &Row, hop: &Hop) -> u32
         requires of_tree { Contains row.now.tree.items hop.now }
         requires countable { IsCountable (length self.now.domain.links) row.now }

@@ -5,19 +5,19 @@ ghost use Rattle.cqf_program_plans.specs.Latency.Text.{is_not_sure, name_of_verd
 
 use cqf_units::Name;
 
-/// Whether the frames of a stream keep its deadline, for sure.
+/// Whether the frames of a stream are certain to keep its deadline.
 #[derive(Clone, Copy, Debug, PartialEq, Eq)]
 pub enum Verdict {
-    /// Each frame does.
+    /// Each frame keeps it.
     InTime,
-    /// No frame does.
+    /// No frame keeps it.
     Late,
     /// A frame may miss it.
     MayBeLate,
 }
 
 impl Verdict {
-    /// The verdict as it is told: `in-time`, `late` or `may-be-late`.
+    /// Returns the verdict as it is written: `in-time`, `late` or `may-be-late`.
     pub fn name(self) -> &'static str
         ensures { result.now ≡ name_of_verdict self }
     {
@@ -29,27 +29,27 @@ impl Verdict {
     }
 }
 
-/// How long the frames of a stream take to one of its listeners, in nanoseconds: from the instant of a frame's offer to its
-/// being whole in the listener's station.
+/// How long the frames of a stream take to one of its listeners, in nanoseconds: from the instant at which a frame is offered until all of
+/// it is in the listener's station.
 #[derive(Debug, Drop)]
 pub struct Latency {
     /// The stream's name.
     pub stream: Name,
     /// The name of the listener's station.
     pub listener: Name,
-    /// How many bridges are on the way.
+    /// The number of bridges on the path.
     pub bridges: u8,
-    /// No frame takes less.
+    /// The least time that a frame takes.
     pub least: u64,
-    /// No frame takes more.
+    /// The most time that a frame takes.
     pub most: u64,
-    /// How far apart the frames of one cycle can be whole there.
+    /// How far apart the arrivals of one cycle's frames can be.
     pub window: u64,
-    /// What the frames are to take at most, where the stream has a deadline.
+    /// The most time that a frame is allowed to take, if the stream has a deadline.
     pub deadline: Option<u32>,
 }
 
-/// The verdict on a deadline, by the least and the most that a frame takes.
+/// Returns the verdict on a deadline, from the least and the most time that a frame takes.
 fn verdict_on(least: u64, most: u64, deadline: u64) -> Verdict
     ensures { result ≡ said_of_latency (sure_of least most deadline) }
 {
@@ -63,7 +63,7 @@ fn verdict_on(least: u64, most: u64, deadline: u64) -> Verdict
 }
 
 impl Latency {
-    /// Whether the frames keep their deadline; none where the stream has no deadline.
+    /// Returns whether the frames keep their deadline, or `None` if the stream has no deadline.
     pub fn verdict(&self) -> Option<Verdict>
         ensures { result ≡ verdict_on_deadline self.now }
     {
@@ -73,7 +73,7 @@ impl Latency {
         }
     }
 
-    /// Whether a frame may miss its deadline.
+    /// Returns whether a frame may miss its deadline.
     pub fn is_not_sure(&self) -> bool
         ensures { result ≡ is_not_sure self.now }
     {

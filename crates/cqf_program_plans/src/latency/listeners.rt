@@ -16,7 +16,8 @@ use cqf_topology::Domain;
 use cqf_units::{Memory, Name, octet_ticks, span, time_of};
 use std::alloc::Global;
 
-/// The least that a frame takes to the end of a link of this depth, however the clocks differ and the link delays.
+/// Returns the least time that a frame takes to the end of a link at this hop number, for all clocks and link delays within what the domain
+/// states.
 fn least_to(domain: &Domain, link: u16, depth: u8) -> u64
     requires { link < length domain.now.links }
     ensures { result ≡ least_of domain.now link depth }
@@ -27,8 +28,8 @@ fn least_to(domain: &Domain, link: u16, depth: u8) -> u64
     whole.saturating_sub(domain.sync().0)
 }
 
-/// The most that a frame takes to the end of a link of this depth, in nanoseconds, of which the streams cost so many octets, however the
-/// clocks differ and the link delays.
+/// Returns the most time, in nanoseconds, that a frame takes to the end of a link at this hop number, if the streams cost `cost` octets of
+/// the link, for all clocks and link delays within what the domain states.
 pub fn most_to(domain: &Domain, link: u16, depth: u8, cost: u64) -> u64
     requires link { link < length domain.now.links }
     requires cost { cost ≤ 2 ^ 29 * 2000000 }
@@ -41,7 +42,7 @@ pub fn most_to(domain: &Domain, link: u16, depth: u8, cost: u64) -> u64
     waits + busy + u64::from(ends.delay) + domain.sync().0
 }
 
-/// How far apart the frames of one cycle can be whole at the end of a link of which the streams cost so much.
+/// Returns how far apart the arrivals of one cycle's frames at the end of a link can be, if the streams cost `cost` octets of the link.
 fn window_at(domain: &Domain, link: u16, cost: u32) -> u64
     requires { link < length domain.now.links }
     ensures { result ≡ window_of domain.now link cost }
@@ -53,7 +54,7 @@ fn window_at(domain: &Domain, link: u16, cost: u32) -> u64
     busy + u64::from(ends.delay).saturating_sub(u64::from(ends.least)) + 2 * sync
 }
 
-/// The name of the station that a link of the domain ends in, where a listener is; none where it ends in a bridge.
+/// Returns the name of the station in which a link of the domain ends, which has a listener, or `None` if the link ends in a bridge.
 pub fn listener_at(domain: &Domain, link: u16) -> Option<Name>
     requires { link < length domain.now.links }
     ensures { result ≡ (if is_station (end_of domain.now link) then Some (name_of_end domain.now link) else None) }
@@ -65,7 +66,7 @@ pub fn listener_at(domain: &Domain, link: u16) -> Option<Name>
     }
 }
 
-/// The latency to a listener at the end of a hop of a row's tree, where the streams cost so much of its link.
+/// Returns the latency to a listener at the end of a hop of a row's tree, if the streams cost `cost` octets of the hop's link.
 fn latency_to(
     domain: &Domain,
     cost: u32,
@@ -90,7 +91,7 @@ fn latency_to(
     }
 }
 
-/// The latency to the end of a hop of a row's tree, where a listener is there.
+/// Returns the latency to the end of a hop of a row's tree, if there is a listener.
 fn latency_at(costs: &Costs<'_>, row: &Row, deadline: Option<u32>, hop: &Hop) -> Option<Latency>
     requires link { hop.now.link < length costs.now.domain.links }
     requires of_tree { Contains row.now.tree.items hop.now }
@@ -109,7 +110,7 @@ fn latency_at(costs: &Costs<'_>, row: &Row, deadline: Option<u32>, hop: &Hop) ->
     }
 }
 
-/// Puts the latencies to the listeners of a row behind those before it.
+/// Appends the latencies to the listeners of a row to those before.
 fn push_listeners(
     latencies: &mut Vec<Latency>,
     costs: &Costs<'_>,
@@ -128,7 +129,7 @@ fn push_listeners(
     Ok(())
 }
 
-/// The deadline of the stream of a number, where it has one.
+/// Returns the deadline of the stream with this number, if it has one.
 fn deadline_of(deadlines: &[Option<u32>], number: u32) -> Option<u32>
     ensures { result ≡ deadline_of deadlines.now number }
 {
@@ -138,7 +139,7 @@ fn deadline_of(deadlines: &[Option<u32>], number: u32) -> Option<u32>
     }
 }
 
-/// The latencies of the streams of a table to each of their listeners, where the deadlines are by stream number.
+/// Returns the latencies of the streams of a table to each of their listeners. The deadlines are by stream number.
 fn latencies_of(
     alloc: Global,
     costs: &Costs<'_>,
@@ -153,11 +154,12 @@ fn latencies_of(
     Ok(latencies)
 }
 
-/// How long the frames of the streams of a table's rows take to each of their listeners, in the order of the rows, and of the listeners in
-/// each stream's tree. The deadlines, in nanoseconds, are by stream number; a stream has none where there are fewer.
+/// Returns how long the frames of the streams of a table's rows take to each of their listeners, in the order of the rows, and of the
+/// listeners in each stream's tree. The deadlines, in nanoseconds, are by stream number; a stream for which there is no entry has no
+/// deadline.
 ///
 /// # Errors
-/// `Memory` where a growth is refused.
+/// `Memory` if an allocation fails.
 pub fn latencies_of_rows(
     alloc: Global,
     domain: &Domain,

@@ -1,10 +1,10 @@
-//! The output of `latency`, before it is told.
+//! The output of `latency`, before it is written.
 
 use crate::latency::latencies::Latency;
 use cqf_press::Sheet;
 use std::marker::Model;
 
-/// What the output of `latency` is told from: the latencies, and a sheet. To those who hold it, it is the latencies.
+/// The output of `latency` before it is written: the latencies, and a sheet. Contracts see only the latencies.
 #[derive(Drop)]
 pub struct LatencyOutput {
     pub(crate) latencies: Vec<Latency>,

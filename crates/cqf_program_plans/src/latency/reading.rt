@@ -1,4 +1,4 @@
-//! What the command `latency` reads.
+//! The input of the command `latency`.
 ghost use Rattle.std.specs.Prelude.{◌≡◌, Ok, IfErr, IfOk, map};
 ghost use Rattle.cqf_admission.specs.Asking.{asked_paced};
 ghost use Rattle.cqf_program_plans.specs.Latency.Input.{asked_in, deadlines_in, latency_input};
@@ -13,8 +13,8 @@ use cqf_topology::{Domain, PacedRequest, Planned};
 use cqf_units::Memory;
 use std::alloc::Global;
 
-/// The domain and the streams of the input, read within some limits, with their deadlines. Each stream that has traffic reserves what it
-/// needs of a cycle.
+/// Reads the domain and the streams of the input within some limits, with the streams' deadlines. Each stream that has traffic reserves
+/// what its traffic needs in a cycle.
 pub(crate) fn read_planned(
     alloc: Global,
     limits: Limits,
@@ -29,10 +29,10 @@ pub(crate) fn read_planned(
     Ok((domain, streams))
 }
 
-/// The requests and the deadlines of some streams, each by its place among them.
+/// Returns the requests and the deadlines of these streams, each by the stream's index.
 ///
 /// # Errors
-/// Where a growth is refused.
+/// If an allocation fails.
 pub fn parted(
     alloc: Global,
     streams: Vec<Planned>,

@@ -1,4 +1,4 @@
-//! Latencies, told line by line.
+//! Latencies, written line by line.
 ghost use Rattle.cqf_press.specs.Edge.{HasTold, writing};
 ghost use Rattle.cqf_press.specs.Press.{Puts};
 ghost use Rattle.cqf_report.specs.Written.{line_of_fields};
@@ -15,7 +15,7 @@ fn put_header<W: Sink>(press: &mut Press<'_, W>)
     press.put(b"stream,listener,bridges,least,most,window,deadline,verdict\n");
 }
 
-/// Puts a deadline, where there is one.
+/// Puts a deadline, if there is one.
 pub fn put_deadline<W: Sink>(press: &mut Press<'_, W>, deadline: Option<u32>)
     ensures { Puts W.contents press.old press.new (text_of_deadline deadline) }
 {
@@ -24,7 +24,7 @@ pub fn put_deadline<W: Sink>(press: &mut Press<'_, W>, deadline: Option<u32>)
     }
 }
 
-/// Puts a verdict, where there is one.
+/// Puts a verdict, if there is one.
 fn put_verdict<W: Sink>(press: &mut Press<'_, W>, verdict: Option<Verdict>)
     ensures { Puts W.contents press.old press.new (text_of_verdict verdict) }
 {
@@ -73,7 +73,7 @@ fn put_latencies<W: Sink>(press: &mut Press<'_, W>, latencies: &[Latency])
 }
 
 impl LatencyOutput {
-    /// Tells the output: the latencies, in their order. It asks for no memory.
+    /// Writes the output: the latencies, in order. It allocates no memory.
     pub fn tell<W: Sink>(self, told: &mut Told<W>)
         ensures { HasTold (writing W.contents told.old told.new) (text_of_latency self) }
     {

@@ -15,7 +15,7 @@ use cqf_press::{Sheet, Stop};
 use cqf_topology::{Domain, PacedRequest};
 use std::alloc::Global;
 
-/// The streams with one more listed behind them, whatever room links have, or the end where it is refused.
+/// Appends one more stream to the listed ones, no matter what room links have, or returns the end of the command if the stream is refused.
 fn list_one(
     alloc: Global,
     domain: &Domain,
@@ -41,7 +41,7 @@ fn list_one(
     }
 }
 
-/// Streams listed in turn, or the end with the line of the first that is refused.
+/// Lists streams in turn, or returns the end of the command with the line of the first stream that is refused.
 fn list_all(alloc: Global, domain: &Domain, requests: &[PacedRequest]) -> Result<LoadListing, Stop>
     ensures ok { IfOk result (λ listing. listed_from domain.now [] (map asked_paced requests.now) ≡ Ok listing) }
     ensures err { IfErr result (IsRefused (listed_from domain.now [] (map asked_paced requests.now))) }
@@ -55,13 +55,12 @@ fn list_all(alloc: Global, domain: &Domain, requests: &[PacedRequest]) -> Result
     Ok(listing)
 }
 
-/// The output of `load` for an input that is read within some limits, ready to be told: a line a link, with what it holds of the streams
-/// and has left. A stream that a link has no room for is told with the others.
+/// Returns the output of `load` for an input that is read within some limits, ready to be written: one line per link, with what the link
+/// holds of the streams and what it has left. A stream for which a link has no room is counted with the others.
 ///
 /// # Errors
-/// With status 1 and the line of the first fault of the input: of its parts, of the domain, of the streams, or of the first
-/// stream that is refused for another reason than a link's budget, where those before it count as accepted; and with status 3
-/// for want of memory.
+/// With status 1 and the line of the first fault of the input: of its parts, of the domain, of the streams, or of the first stream that is
+/// refused for a reason other than a link's budget; the streams before it count as accepted. With status 3 if an allocation fails.
 pub fn load_output(alloc: Global, limits: Limits, input: &[u8]) -> Result<LoadOutput, Stop>
     ensures ok { IfOk result (λ output. loaded_input limits input.now ≡ Ok (text_of_load output)) }
     ensures err { IfErr result (IsRefused (loaded_input limits input.now)) }

@@ -1,4 +1,4 @@
-//! Streams that are listed beside one another, whatever room links have.
+//! Streams that are listed together, no matter what room links have.
 ghost use Rattle.std.specs.Prelude.{ℕ, ◌≡◌, ◌≤◌, ◌<◌, ◌^◌, [], ◌∷◌, ◌++◌, IfOk, false, length, replicate, slice_index_or};
 ghost use Rattle.std.specs.List.{list_any};
 ghost use Rattle.cqf_model.specs.Domain.{is_text};
@@ -20,7 +20,7 @@ use cqf_units::{Cycle, Memory, Name};
 use std::alloc::Global;
 use std::marker::Model;
 
-/// The rows of streams by number, with what they cost of each link in each cycle, and how many go by it.
+/// The rows of streams by number, with what they cost of each link in each cycle, and how many of them use the link.
 #[derive(Drop)]
 pub(crate) struct LoadListing {
     names: NameList,
@@ -41,14 +41,14 @@ impl Model for LoadListing {
     ghost invariant = { λ l. IsListing l.names.keys l.rows.items l.held l.crossing.items };
 }
 
-/// As many sums as these, each 0, unless memory runs out.
+/// Returns `count` sums, each of them 0.
 fn no_sums(alloc: Global, count: usize) -> Result<Vec<u64>, Memory>
     ensures { IfOk result (λ sums. sums.items ≡ replicate count 0) }
 {
     Ok(vec![in alloc; 0; count]?)
 }
 
-/// Adds a number to that of each link by which a row's stream goes.
+/// Adds a number to the sum of each link that a row's stream uses.
 fn add_where(by_link: &mut Vec<u64>, row: &Row, number: u32)
     requires all { length by_link.old.items ≡ most_links }
     requires countable { IsCountable most_links row.now }
@@ -59,7 +59,7 @@ fn add_where(by_link: &mut Vec<u64>, row: &Row, number: u32)
 }
 
 impl LoadListing {
-    /// No streams, unless memory runs out.
+    /// Returns a listing of no streams.
     pub(crate) fn new(alloc: Global) -> Result<LoadListing, Memory>
         ensures { IfOk result (λ listing. listing ≡ []) }
     {
@@ -73,21 +73,21 @@ impl LoadListing {
         })
     }
 
-    /// How many streams are listed.
+    /// Returns the number of streams listed.
     pub(crate) fn len(&self) -> usize
         ensures { result ≡ length self.now }
     {
         self.rows.len()
     }
 
-    /// Whether a stream has the name.
+    /// Returns whether a listed stream has the name.
     pub(crate) fn has_name(&self, name: &Name) -> bool
         ensures { result ≡ list_any (λ row. is_text row.name name.now) self.now }
     {
         self.names.contains(name)
     }
 
-    /// What the streams cost of a link at most in a cycle, in octets: at most 32,768,000,000.
+    /// Returns what the streams cost of a link at most in a cycle, in octets: at most 32,768,000,000.
     pub(crate) fn cost_on(&self, link: u16) -> u64
         requires { link < most_links }
         ensures cost { result ≡ most_cost self.now link }
@@ -96,7 +96,7 @@ impl LoadListing {
         self.held.most_of(link)
     }
 
-    /// How many of them go by it.
+    /// Returns how many of the streams use the link.
     pub(crate) fn streams_on(&self, link: u16) -> u64
         requires { link < most_links }
         ensures { result ≡ streams_on self.now link }
@@ -105,7 +105,8 @@ impl LoadListing {
         self.crossing[usize::from(link)]
     }
 
-    /// The first reason but that a link has no room against a request that asks for less than 2^64 places, or what it is by itself.
+    /// Judges a request that has fewer than 2^64 places. Returns the first reason against it other than a link without room, or else the
+    /// judged request.
     fn weigh(&self, domain: &Domain, request: &PacedRequest) -> Result<JudgedRequest, Refused>
         requires { places_of (branches_of request.now.paths.items) < 2 ^ 64 }
         ensures { Weighs domain.now self.now (asked_paced request.now) result }
@@ -120,8 +121,8 @@ impl LoadListing {
         Ok(judged)
     }
 
-    /// The row of a request behind the others, which asks for less than 2^64 places, or the first reason against it but that
-    /// a link has no room; unless there is none, and memory runs out.
+    /// Returns the row of a request after the others, or the first reason against it other than a link without room. The request has fewer
+    /// than 2^64 places. Returns `Memory` if there is no such reason and an allocation fails.
     pub(crate) fn look_over(
         &self,
         alloc: Global,
@@ -140,7 +141,7 @@ impl LoadListing {
         }
     }
 
-    /// The listing with a row more behind the others, of a name that isn't listed, unless memory runs out.
+    /// Returns the listing with one more row at the end, of a name that isn't listed yet. Returns `Memory` if an allocation fails.
     pub(crate) fn with(self, row: Row) -> Result<LoadListing, Memory>
         requires few { length self < most_streams }
         requires countable { IsCountable most_links row }

@@ -1,11 +1,11 @@
-//! The output of `load`, before it is told.
+//! The output of `load`, before it is written.
 
 use crate::load::listing::LoadListing;
 use cqf_press::Sheet;
 use cqf_topology::Domain;
 use std::marker::Model;
 
-/// What the output of `load` is told from: a domain, its streams, and a sheet.
+/// The output of `load` before it is written: a domain, its streams, and a sheet.
 #[derive(Drop)]
 pub struct LoadOutput {
     pub(crate) domain: Domain,

@@ -1,4 +1,4 @@
-//! The output of `load`, told line by line.
+//! The output of `load`, written line by line.
 ghost use Rattle.std.specs.Prelude.{◌≡◌, ◌-◌, ◌<◌, ◌^◌, decimal, length};
 ghost use Rattle.cqf_model.specs.Domain.{budget};
 ghost use Rattle.cqf_program_plans.specs.Load.Fitting.{fits_in, megabits_of, rate_on};
@@ -14,7 +14,7 @@ use cqf_press::{Press, Sink, Told};
 use cqf_topology::{Domain, put_link};
 use cqf_units::Rate;
 
-/// A rate in Mb/s.
+/// Returns a rate in Mb/s.
 fn megabits_of(rate: Rate) -> u32
     ensures { result ≡ megabits_of rate }
 {
@@ -31,7 +31,7 @@ fn megabits_of(rate: Rate) -> u32
     }
 }
 
-/// The rate of a link in Mb/s.
+/// Returns the rate of a link in Mb/s.
 fn rate_on(domain: &Domain, link: u16) -> u32
     requires { link < length domain.now.links }
     ensures { result ≡ rate_on domain.now link }
@@ -39,19 +39,19 @@ fn rate_on(domain: &Domain, link: u16) -> u32
     megabits_of(domain.link(link).rate)
 }
 
-/// The budget of a link, in octets a cycle. A domain has at most 4,096 links.
+/// Returns the budget of a link, in octets per cycle. A domain has at most 4,096 links.
 fn budget_on(domain: &Domain, link: u16) -> u64
     requires { link < length domain.now.links }
     ensures value { result ≡ budget domain.now link }
     ensures range { result < 2 ^ 32 }
     ensures low { link < 4096 }
 {
-    // the domain is accepted: it has no more links than are represented
+    // the domain is accepted, so it has no more links than can be represented
     domain.know();
     u64::from(cqf_admission::budget_on(domain, link).0)
 }
 
-/// The greatest reservation, in octets a cycle, that costs no more than what is left, below 2^32; 0 where there is none.
+/// Returns the greatest reservation, in octets per cycle, that costs no more than `left`, which is below 2^32; 0 if there is none.
 fn fits_in(left: u64) -> u64
     requires { left < 2 ^ 32 }
     ensures { result ≡ fits_in left }
@@ -64,7 +64,7 @@ fn fits_in(left: u64) -> u64
     by_octets.min(by_frames).min(MOST_OCTETS as u64)
 }
 
-/// Puts what is left of a budget.
+/// Puts what is left of a budget, negative if more is held.
 fn put_left<W: Sink>(press: &mut Press<'_, W>, budget: u64, held: u64)
     ensures { Puts W.contents press.old press.new (left_text budget held) }
 {
@@ -85,7 +85,7 @@ fn put_percentage<W: Sink>(press: &mut Press<'_, W>, thousandths: u64)
     press.put_number(thousandths % 10);
 }
 
-/// Puts the share of a budget that is held: nothing where there is no budget.
+/// Puts the share of a budget that is held; nothing if the budget is 0.
 fn put_used<W: Sink>(press: &mut Press<'_, W>, budget: u64, held: u64)
     requires { held < 2 ^ 36 }
     ensures { Puts W.contents press.old press.new (used_text budget held) }
@@ -152,7 +152,7 @@ fn put_load<W: Sink>(press: &mut Press<'_, W>, domain: &Domain, listing: &LoadLi
 }
 
 impl LoadOutput {
-    /// Tells the output: a line for each link. It asks for no memory.
+    /// Writes the output: one line per link. It allocates no memory.
     pub fn tell<W: Sink>(self, told: &mut Told<W>)
         ensures { HasTold (writing W.contents told.old told.new) (text_of_load self) }
     {

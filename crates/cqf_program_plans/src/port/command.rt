@@ -17,14 +17,14 @@ use cqf_report::{TableFault, read_arrivals};
 use cqf_units::{Memory, Nanos, Rate};
 use std::alloc::Global;
 
-/// The end where a gate list is refused.
+/// Returns the end of a command whose gate list is refused.
 fn list_stop(alloc: Global, fault: TextFault) -> Stop
     ensures { EndsWith 1 (list_line fault) result }
 {
     Stop::refused(alloc, "list", &fault)
 }
 
-/// The gate list of a part.
+/// Reads the gate list of a part.
 fn list_part(alloc: Global, text: &[u8]) -> Result<TxList, Stop>
     ensures ok { IfOk result (λ list. list_of_text text.now ≡ Ok list) }
     ensures err { IfErr result (IsRefused (or_line list_line (list_of_text text.now))) }
@@ -35,7 +35,7 @@ fn list_part(alloc: Global, text: &[u8]) -> Result<TxList, Stop>
     }
 }
 
-/// The end where arrivals are refused.
+/// Returns the end of a command whose arrivals are refused.
 fn arrivals_stop(alloc: Global, fault: TableFault) -> Stop
     ensures refused { fault ≢ TableFault.Memory → EndsWith 1 (arrivals_line fault) result }
     ensures memory { fault ≡ TableFault.Memory → EndsWith 3 [] result }
@@ -46,7 +46,7 @@ fn arrivals_stop(alloc: Global, fault: TableFault) -> Stop
     }
 }
 
-/// The arrivals of a part.
+/// Reads the arrivals of a part.
 fn arrivals_part(alloc: Global, text: &[u8]) -> Result<Vec<Arrival>, Stop>
     ensures ok { IfOk result (λ arrivals. arrivals_of_table text.now ≡ Ok arrivals.items) }
     ensures order { IfOk result (λ arrivals. AreOfferable arrivals.items) }
@@ -58,7 +58,7 @@ fn arrivals_part(alloc: Global, text: &[u8]) -> Result<Vec<Arrival>, Stop>
     }
 }
 
-/// The gate list and the arrivals of the input.
+/// Reads the gate list and the arrivals of the input.
 fn read_port(alloc: Global, input: &[u8]) -> Result<(TxList, Vec<Arrival>), Stop>
     ensures ok { IfOk result (λ found. port_input input.now ≡ Ok (found.0, found.1.items)) }
     ensures order { IfOk result (λ found. AreOfferable found.1.items) }
@@ -70,7 +70,7 @@ fn read_port(alloc: Global, input: &[u8]) -> Result<(TxList, Vec<Arrival>), Stop
     Ok((list, arrivals))
 }
 
-/// The starts before the instant, ready to be told.
+/// Returns the starts before the instant, ready to be written.
 fn starts_ready(
     alloc: Global,
     list: TxList,
@@ -89,7 +89,7 @@ fn starts_ready(
 }
 
 impl PortOutput {
-    /// Tells the output: the starts before the instant. It asks for no memory.
+    /// Writes the output: the starts before the instant. It allocates no memory.
     pub fn tell<W: Sink>(self, told: &mut Told<W>)
         ensures { HasTold (writing W.contents told.old told.new) (text_of_port self) }
     {
@@ -100,11 +100,11 @@ impl PortOutput {
     }
 }
 
-/// The output of `port`, ready to be told: the starts before `until`.
+/// Returns the output of `port`, ready to be written: the starts before `until`.
 ///
 /// # Errors
-/// With status 1 and the line of the first fault of the input: of its parts, of the gate list, of the arrivals; and with
-/// status 3 for want of memory.
+/// With status 1 and the line of the first fault of the input: of its parts, of the gate list, or of the arrivals. With status 3 if an allocation
+/// fails.
 pub fn port_output(alloc: Global, until: u64, rate: Rate, input: &[u8]) -> Result<PortOutput, Stop>
     requires { until < 2 ^ 62 }
     ensures ok { IfOk result (λ output. IsPortOutput until rate input.now (text_of_port output)) }

@@ -1,11 +1,11 @@
-//! The output of `port`, before it is told.
+//! The output of `port`, before it is written.
 
 use cqf_port::Port;
 use cqf_press::Sheet;
 use cqf_units::Rate;
 use std::marker::Model;
 
-/// What the output of `port` is told from: a port, whose starts they are, the rate of its link, and a sheet.
+/// The output of `port` before it is written: a port with its starts, the rate of its link, and a sheet.
 #[derive(Drop)]
 pub struct PortOutput {
     pub(crate) port: Port,

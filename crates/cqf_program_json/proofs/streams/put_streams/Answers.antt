@@ -19,7 +19,7 @@ offset_bounds-rows-place g c =
     let inside = place_inside c.args.wired.domain.now c.args.bridge c.args.rows.now c.args.places.now c.loop-number.number c.requires.at c.loop-number-test.true in
     omega (arith, inside)
 
--- a row of those that are put has a good pace
+-- each row that is put has a good pace
 pub put_stream-requires : goal.put_stream-requires
 put_stream-requires g c =
     c.requires.paced c.index-rows-place.result (

@@ -2,7 +2,7 @@ use Rattle.std.proofs.Common.{◌≡◌, ◌∙◌, ◌++◌, ◌∷◌, [], ℕ
 use Rattle.std.specs.Fmt.{decimal}
 use Rattle.cqf_program_plans.proofs.reserving.line_of_lack.Goals as goal
 
--- the line feed stands behind all of it
+-- the line feed follows all of it
 ends : (place octets needed : List ℕ) →
     place ++ (codes ": BelowTraffic " ++ (octets ++ (codes " " ++ (needed ++ 10 ∷ [])))) ≡ (place ++ (codes ": BelowTraffic " ++ (octets ++ (codes " " ++ needed)))) ++ 10 ∷ []
 ends place octets needed =

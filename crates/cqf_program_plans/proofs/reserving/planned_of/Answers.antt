@@ -7,7 +7,7 @@ use Rattle.cqf_traffic.specs.declared.flows.Flow.{Flow}
 use Rattle.cqf_traffic.specs.FlowsText.{FlowText, flow_text}
 use Rattle.cqf_program_plans.proofs.reserving.planned_of.Goals as goal
 
--- what is taken of streams
+-- the part that is taken of streams
 abbrev taken : List Flow → List PlannedText
 taken flows = map (λ (flow : FlowText). flow.0) (map flow_text flows)
 

@@ -7,7 +7,7 @@ use Rattle.cqf_traffic.specs.declared.paced_flows.PacedFlow.{PacedFlow}
 use Rattle.cqf_traffic.specs.PacedFlows.{PacedFlowText, paced_flow_text}
 use Rattle.cqf_program_plans.proofs.reserving.requests_of.Goals as goal
 
--- what is taken of streams
+-- the part that is taken of streams
 abbrev taken : List PacedFlow → List PacedText
 taken flows = map (λ (flow : PacedFlowText). flow.0) (map paced_flow_text flows)
 

@@ -4,7 +4,7 @@ use Rattle.cqf_topology.specs.PacedText.{paced_text}
 use Rattle.cqf_traffic.specs.PacedFlows.{PacedFlowText, paced_flow_text}
 use Rattle.cqf_program_plans.proofs.reserving.requests_of.Given as goal
 
--- those so far, and those that are still to come
+-- those so far, and those still to be taken
 abbrev pub invariant-loop-flow : goal.invariant-loop-flow
 invariant-loop-flow l =
     map (λ (flow : PacedFlowText). flow.0) (map paced_flow_text l.fn.flows.items)

@@ -1,4 +1,4 @@
--- The pass tells the starts of the scenario's book.
+-- The pass yields the starts of the scenario's book.
 use Rattle.std.proofs.Common.{List, refl, subst}
 use Rattle.std.proofs.lemmas.Result.{IfOk-weaker}
 use Rattle.cqf_model.specs.declared.frames.Offer.{Offer}

@@ -1,4 +1,4 @@
--- The lines of the cycles told are put, of each run that the basis is of.
+-- The lines of the cycles yielded so far are put, for each run with this basis.
 use Rattle.std.proofs.Common.{◌≡◌, ◌-◌, codes}
 use Rattle.cqf_model.specs.Book.{starts_of}
 use Rattle.cqf_instants.specs.Meaning.{Given}

@@ -1,4 +1,4 @@
--- What is judged by the streams of the log is of the scenario's history.
+-- The verdicts by the streams of the log are those of the scenario's history.
 use Rattle.std.proofs.Common.{◌≡◌, ◌∙◌, List, ap, refl, subst, sym}
 use Rattle.cqf_model.specs.History.{IsLegalHistory, Recorded, seals, streams_of}
 use Rattle.cqf_instants_run.specs.HistoryStarts.{IsLaidOutHistoryOf}

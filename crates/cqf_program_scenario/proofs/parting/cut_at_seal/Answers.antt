@@ -5,7 +5,7 @@ use Rattle.cqf_program_scenario.specs.Parting.{closes}
 use Rattle.cqf_program_scenario.proofs.Commands.{behind-cut, behind-none, opening-all, opening-cut}
 use Rattle.cqf_program_scenario.proofs.parting.cut_at_seal.Goals as goal
 
--- where the first Seal of calls is
+-- the index of the first Seal among the calls
 abbrev seal_in : List (ℕ × Call) → Option ℕ
 seal_in calls = position (λ (call : ℕ × Call). closes (called_of call)) calls
 

@@ -1,4 +1,4 @@
--- There are so many lists without a command.
+-- There are this many lists without a command.
 use Rattle.std.proofs.Common.{[]}
 use Rattle.cqf_program_scenario.specs.Parted.{acts_of_each}
 use Rattle.cqf_program_scenario.specs.Parting.{AreCommandsBy}

@@ -1,4 +1,4 @@
--- The lines up to the next place are put, and it is noted by which links streams came.
+-- The lines up to the next index are put, and it is noted over which links streams arrived.
 use Rattle.std.proofs.Common.{get_or, length}
 use Rattle.cqf_addressing.specs.Streams.{gate_index}
 use Rattle.cqf_press.specs.Press.{Puts}

@@ -22,7 +22,7 @@ pub stream_at-stream-requires-clause-inside : goal.stream_at-stream-requires-cla
 stream_at-stream-requires-clause-inside g c =
     place_inside c.args.plan.domain.now c.args.bridge c.args.plan.rows.now c.args.places.now c.loop-place.place-index c.requires.at c.loop-place-test.true
 
--- a row of those that are put has a good pace
+-- each row whose lines are put has a good pace
 pub put_stream-requires-clause-paced : goal.put_stream-requires-clause-paced
 put_stream-requires-clause-paced g c =
     let i = c.loop-place.place-index in

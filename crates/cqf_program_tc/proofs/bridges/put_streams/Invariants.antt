@@ -1,4 +1,4 @@
--- The lines of the streams up to the next place are put.
+-- The lines of the streams up to the next index are put.
 use Rattle.std.proofs.Common.{get_or, length, take}
 use Rattle.std.specs.List.{flat_map}
 use Rattle.cqf_addressing.specs.Streams.{gate_index}

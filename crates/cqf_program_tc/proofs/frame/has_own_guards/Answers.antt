@@ -1,4 +1,4 @@
--- Whether one more has.
+-- Whether one more link has one.
 use Rattle.std.proofs.Common.{◌<◌, ◌∙◌, arith, length, sym}
 use Rattle.cqf_program_tc.proofs.Owned.{none_so_far, some_has}
 use Rattle.cqf_program_tc.proofs.frame.has_own_guards.Goals as goal

@@ -1,4 +1,4 @@
--- None of the links so far has a guard time of its own.
+-- None of the links so far has a guard band of its own.
 use Rattle.std.proofs.Common.{◌≡◌, false, take}
 use Rattle.std.specs.List.{list_any}
 use Rattle.cqf_program_tc.specs.Bridge.{has_own_guard}

@@ -1,4 +1,4 @@
--- So many lists have nothing in them.
+-- This number of lists are empty.
 use Rattle.cqf_lists.specs.ByNumber.{AreListsBy, lists_of}
 use Rattle.cqf_program_tc.proofs.NotedRows.{no_place}
 use Rattle.cqf_program_tc.proofs.rows.no_places.Given as goal

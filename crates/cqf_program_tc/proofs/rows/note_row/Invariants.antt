@@ -1,4 +1,4 @@
--- The place is noted at each bridge that one of the hops so far leaves.
+-- The index is noted at each bridge that one of the hops so far leaves.
 use Rattle.std.proofs.Common.{take}
 use Rattle.cqf_program_tc.specs.Rows.{places_in}
 use Rattle.cqf_program_tc.proofs.NotedRows.{AreUpTo}

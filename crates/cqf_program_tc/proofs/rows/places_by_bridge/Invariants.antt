@@ -1,4 +1,4 @@
--- The places of the rows so far are noted.
+-- The indices of the rows so far are noted.
 use Rattle.cqf_program_tc.specs.Rows.{AreBelow, places_in}
 use Rattle.cqf_program_tc.proofs.rows.places_by_bridge.Given as goal
 

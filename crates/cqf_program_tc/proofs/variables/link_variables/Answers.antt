@@ -12,7 +12,7 @@ use Rattle.cqf_program_tc.proofs.variables.link_variables.Goals as goal
 pub loop-link-init : goal.loop-link-init
 loop-link-init c = no_lists (link_variable c.args.domain.now) c.new-variables.result.items c.new-variables.ensures.items
 
--- what is made is there for each link
+-- there is a variable for each link
 pub bounds-words-place : goal.bounds-words-place
 bounds-words-place c =
     let d = c.args.domain.now in

@@ -1,4 +1,4 @@
--- The bytes so far are put behind the word.
+-- The bytes so far are appended to the word.
 use Rattle.std.proofs.Common.{◌≡◌, ◌++◌, take}
 use Rattle.cqf_program_tc.specs.Variables.{word_of}
 use Rattle.cqf_program_tc.proofs.variables.push_word.Given as goal

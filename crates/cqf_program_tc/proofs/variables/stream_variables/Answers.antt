@@ -12,7 +12,7 @@ use Rattle.cqf_program_tc.proofs.variables.stream_variables.Goals as goal
 pub loop-place-init : goal.loop-place-init
 loop-place-init c = no_lists (variable_at c.args.rows.now) c.new-variables.result.items c.new-variables.ensures.items
 
--- what is made is there for each row
+-- there is a variable for each row
 pub bounds-words-place : goal.bounds-words-place
 bounds-words-place c =
     let rows = c.args.rows.now in

@@ -1,6 +1,6 @@
 use Rattle.cqf_worker.proofs.closing.add_parts.Goals as goal
 
--- each part stands behind its own
+-- each part is appended to its list
 pub returns : goal.returns
 returns c = record {
   more_ins = c.in_ok-append.ensures;

@@ -5,7 +5,7 @@ use Rattle.cqf_worker.specs.Wires.{count_on}
 use Rattle.cqf_worker_loops.specs.Workers.{StretchPort}
 use Rattle.cqf_worker.proofs.closing.close_links.Given as goal
 
--- the ports so far are fed, and the ends that are left are some of those that were there
+-- the ports so far are fed, and the ends that are left are some of those given
 abbrev pub invariant-loop-taking : goal.invariant-loop-taking
 invariant-loop-taking l =
     (l.yielded ++ into_iter_items l.taking-iterator ≡ l.fn.ins.items)

@@ -11,11 +11,11 @@ close_links-requires c =
       on_links wired.0 c.args.workers.items c.in_ok-parts.parts.outs.items outs_at c.in_ok-parts.ensures.all_outs wired.1.at_outs,
     )
 
--- place by place the ends of tables are of one pipe
+-- index by index the ends for tables are of one pipe
 pub close_tables-requires : goal.close_tables-requires
 close_tables-requires c = same_pipes c.args.tables.items c.args.workers.items c.in_ok-parts.parts c.in_ok-parts.ensures c.requires.tables
 
--- what was taken is the beginning of what was put
+-- what was taken is a prefix of what was put
 pub returns-clause-fed : goal.returns-clause-fed
 returns-clause-fed c = all_fed c.args.workers.items c.in_ok-parts.parts c.in_ok-parts.ensures c.in_ok-close_links.ensures.fed
 

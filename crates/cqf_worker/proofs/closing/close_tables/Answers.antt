@@ -3,7 +3,7 @@ use Rattle.std.specs.Vec.Iter.{into_iter_items}
 use Rattle.cqf_worker.proofs.Unwiring.{given_more, next_pair}
 use Rattle.cqf_worker.proofs.closing.close_tables.Goals as goal
 
--- the ends at a place are of one pipe
+-- the ends at an index are of one pipe
 pub close-under_way-requires : goal.close-under_way-requires
 close-under_way-requires c =
     let puts = c.loop-putting.yielded in

@@ -6,7 +6,7 @@ use Rattle.cqf_worker.specs.Closing.{AreGivenBy}
 use Rattle.cqf_worker_loops.specs.PipeEnds.{End}
 use Rattle.cqf_worker.proofs.closing.close_tables.Given as goal
 
--- the pipes so far are closed, each with the end at its place
+-- the pipes so far are closed, each with the end at its index
 abbrev pub invariant-loop-putting : goal.invariant-loop-putting
 invariant-loop-putting l =
     (l.yielded ++ into_iter_items l.putting-iterator ≡ l.fn.ins.items)

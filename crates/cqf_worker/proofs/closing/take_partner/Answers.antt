@@ -10,7 +10,7 @@ returns-in-Some-clause-some c =
     partner_found c.args.outs.now.items c.args.link c.in-Some.place c.remove.result
     (sym (c.in-Some.ensures ∙ ap (position (λ (out : StretchPort). out.link == c.args.link)) c.as_slice.ensures.value)) c.remove.ensures.value
 
--- it is gone, and no other
+-- it is removed, and no other
 pub returns-in-Some-clause-one : goal.returns-in-Some-clause-one
 returns-in-Some-clause-one c =
     one_lost c.args.outs.now.items c.remove.new.self.items c.args.link c.in-Some.place c.remove.result

@@ -4,14 +4,14 @@ use Rattle.cqf_worker.specs.declared.account.Account.{Account}
 use Rattle.cqf_worker.proofs.Accounts.{told_account}
 use Rattle.cqf_worker.proofs.conducting.conduct.Goals as goal
 
--- the tapes may be told
+-- the tapes can be read as a book
 pub book_of-requires-clause-tapes : goal.book_of-requires-clause-tapes
 book_of-requires-clause-tapes g c =
     let paged = c.in_ok-history.field-0 in
     let is = c.in_ok-history.ensures.ok in
     (c.tapes_tell_the_book.ensures c.args.domain.now c.args.cycles paged.tapes is.book c.know.ensures.accepted is.some is.its_tapes).may
 
--- the book that its tapes tell is that of the run
+-- the book read from its tapes is that of the run
 pub returns-clause-ok : goal.returns-clause-ok
 returns-clause-ok g c =
     let paged = c.in_ok-history.field-0 in

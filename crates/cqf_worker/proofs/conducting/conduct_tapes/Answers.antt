@@ -12,7 +12,7 @@ run_threads-requires-after_bounds g c κs within =
     is_ready c.args.domain.now c.args.admission.entries c.args.offers.now c.args.background.now c.args.cycles
     (map (λ (v : Vec Command Global). v.items) c.args.admins.items) c.in_ok-desk.field-0 c.in_ok-desk.ensures.ok c.requires.short
 
--- the tapes may take their background frames
+-- the background frames can be added to the tapes
 pub back-requires-clause-run : goal.back-requires-clause-run
 back-requires-clause-run g c =
     may_back c.args.domain.now c.args.admission.entries c.args.offers.now c.args.background.now c.args.cycles
@@ -48,7 +48,7 @@ returns-clause-ok g c =
     c.tables_may_come.ensures c.relays_keep_the_tapes.ensures c.requires.short c.backed_tapes_are_the_books.ensures
     c.book_of_history_says_the_shift.ensures c.back.new.tapes c.in_ok-back.ensures.drops c.in_ok-back.ensures.tapes
 
--- it can't begin
+-- the run can't begin
 pub returns-in_err-desk-clause-err : goal.returns-in_err-desk-clause-err
 returns-in_err-desk-clause-err g c =
     passed_on c.from_residual.result c.in_err-desk.field-0.0
@@ -57,7 +57,7 @@ returns-in_err-desk-clause-err g c =
     (told_before c.args.domain.now c.args.admission.entries c.args.offers.now c.args.background.now c.args.cycles
     (map (λ (v : Vec Command Global). v.items) c.args.admins.items) c.in_err-desk.field-0.0 c.in_err-desk.ensures.err)
 
--- or its threads tell a fault
+-- or its threads report a fault
 pub returns-in_err-ended-clause-err : goal.returns-in_err-ended-clause-err
 returns-in_err-ended-clause-err g c =
     passed_on c.from_residual-in_err-ended.result c.in_err-ended.field-0.0
@@ -67,7 +67,7 @@ returns-in_err-ended-clause-err g c =
     (map (λ (v : Vec Command Global). v.items) c.args.admins.items) c.in_ok-desk.field-0 c.in_ok-desk.ensures.ok
     c.in_err-ended.field-0.0 c.in_err-ended.ensures.err)
 
--- or it isn't closed
+-- or it can't be closed
 pub returns-in_err-account-clause-err : goal.returns-in_err-account-clause-err
 returns-in_err-account-clause-err g c =
     passed_on c.from_residual-in_err-account.result c.in_err-account.field-0.0

@@ -18,7 +18,7 @@ returns-clause-ok c =
       seated = c.in_ok-administrators.ensures.ok;
     }
 
--- or there is no memory for one of them
+-- or one of them can't be allocated
 pub returns-in_err-administrators-clause-err : goal.returns-in_err-administrators-clause-err
 returns-in_err-administrators-clause-err c =
     passed_on c.from_residual-in_err-administrators.result c.in_err-administrators.field-0.0 IsStartFault

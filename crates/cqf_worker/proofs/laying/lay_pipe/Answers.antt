@@ -5,7 +5,7 @@ use Rattle.cqf_worker.specs.Wires.{tables_pipe}
 use Rattle.cqf_worker.proofs.Wiring.{pipe_keeps, pipe_laid_at}
 use Rattle.cqf_worker.proofs.laying.lay_pipe.Goals as goal
 
--- the one worker has the putting end, the other the taking end
+-- one worker has the putting end, the other one the taking end
 pub returns-clause-laid : goal.returns-clause-laid
 returns-clause-laid c =
     let out : StretchPort = record { link = c.args.link; pipe = c.in_ok-putting.putting } in
@@ -15,7 +15,7 @@ returns-clause-laid c =
     c.in_ok-add_out.ensures c.index_mut-2.ensures.value c.in_ok-add_in.ensures refl refl c.in_ok-putting.ensures.nothing_put
     c.in_ok-putting.ensures.nothing_taken c.in_ok-putting.ensures.pair
 
--- and both keep their pipes of tables
+-- and both keep their pipes for tables
 pub returns-clause-tables : goal.returns-clause-tables
 returns-clause-tables c =
     pipe_keeps tables_pipe c.args.workers.now.items c.from-3.result c.from-4.result c.index_mut.result.now c.add_out.new.worker c.index_mut-2.result.now

@@ -6,7 +6,7 @@ use Rattle.cqf_worker.specs.Laying.{AreBare, HasCycles, IsBare, traffic_of}
 use Rattle.cqf_worker.proofs.Wiring.{bare_more, nothing_more, pipes_more}
 use Rattle.cqf_worker.proofs.laying.ready_workers.Goals as goal
 
--- the bridge is one of the domain's
+-- the bridge is one of the domain
 pub ready_worker-requires-clause-bridge : goal.ready_worker-requires-clause-bridge
 ready_worker-requires-clause-bridge c =
     omega (arith, c.loop-number-test.true, c.bridges-number-end.ensures, ap (λ (d : Domain). length d.bridges) c.in_ok-shared.ensures)

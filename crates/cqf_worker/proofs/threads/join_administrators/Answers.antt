@@ -11,7 +11,7 @@ use Rattle.cqf_worker.proofs.threads.join_administrators.Goals as goal
 pub loop-handle-init : goal.loop-handle-init
 loop-handle-init g c = (search rules, (λ clean. clean), (λ clean. search rules), ([], tt, (refl, c.new-seats.ensures.items)))
 
--- one thread more has ended
+-- one more thread has ended
 pub loop-handle-preserved : goal.loop-handle-preserved
 loop-handle-preserved g c =
     let before = c.loop-handle.yielded in

@@ -7,7 +7,7 @@ use Rattle.cqf_worker.proofs.threads.run_in.Goals as goal
 pub returns-in-Err-clause-err : goal.returns-in-Err-clause-err
 returns-in-Err-clause-err g c = start_told c.args.shared.cycles c.args.ready c.in-Err.fault c.in-Err.ensures.err
 
--- where nothing has gone wrong in the end, each thread has done its part
+-- if nothing has gone wrong in the end, each thread has done its part
 pub returns-in-Ok-all_ended-clause-ok : goal.returns-in-Ok-all_ended-clause-ok
 returns-in-Ok-all_ended-clause-ok g c =
     let all = c.in-Ok-all_ended.ensures.all in
@@ -21,7 +21,7 @@ returns-in-Ok-all_ended-clause-ok g c =
     (seats.ensures.done (workers.ensures.before all.0))
     (sealed_so c.args.shared.cycles c.args.ready c.seal_each-sealed.result ended.sealed all.3 c.seal_each-sealed.ensures.ok)
 
--- else what is told may be told
+-- else what is reported may be reported
 pub returns-in-Err-all_ended-clause-err : goal.returns-in-Err-all_ended-clause-err
 returns-in-Err-all_ended-clause-err g c =
     let workers = c.join_workers-workers in

@@ -12,7 +12,7 @@ loop-worker-init g c =
     let gives : into_iter_items c.into_iter-worker-iterator.result ≡ c.args.workers.items = search rules in
     (gives, search rules, search rules, subst (All (MayWork c.args.cycles)) (sym gives) c.requires.new)
 
--- the next worker may work, and promises what it does for as many cycles
+-- the next worker may work, and its promise has the same number of cycles
 pub spawn_with-requires-clause-runs : goal.spawn_with-requires-clause-runs
 spawn_with-requires-clause-runs g c κs within =
     let may : MayWork c.args.cycles c.in-Some.worker = holds_of_first (MayWork c.args.cycles) c.in-Some.worker (into_iter_items c.next.new.self)
@@ -21,7 +21,7 @@ spawn_with-requires-clause-runs g c κs within =
       search rules,
     )
 
--- one thread more
+-- one more thread
 pub loop-worker-preserved : goal.loop-worker-preserved
 loop-worker-preserved g c =
     let before = c.loop-worker.yielded in

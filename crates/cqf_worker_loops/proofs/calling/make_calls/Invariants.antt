@@ -2,6 +2,6 @@ use Rattle.std.proofs.Common.{◌≡◌, length, take}
 use Rattle.cqf_worker_loops.specs.Commands.{HasCalled}
 use Rattle.cqf_worker_loops.proofs.calling.make_calls.Given as goal
 
--- the commands before a place were made
+-- the commands before the index were made
 abbrev pub invariant-loop-place : goal.invariant-loop-place
 invariant-loop-place g l = HasCalled (take l.place l.fn.commands.items) l.fn.seat l.seat × (l.place-end ≡ length l.fn.commands.items)

@@ -3,7 +3,7 @@ use Rattle.cqf_bridge.specs.Agenda.{offers_listed_at}
 use Rattle.cqf_worker_loops.proofs.TakenTables.{enters_table, offers_entered}
 use Rattle.cqf_worker_loops.proofs.rounds.enter_table.Goals as goal
 
--- what is offered is of the cycle
+-- the offers are of the cycle
 pub take_table-requires-clause-offers : goal.take_table-requires-clause-offers
 take_table-requires-clause-offers g c =
     offers_entered c.args.worker.now c.args.table.now c.offers-offers.result.now c.tables.result c.requires c.tables.ensures c.offers-offers.ensures

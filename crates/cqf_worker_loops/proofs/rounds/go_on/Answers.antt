@@ -4,7 +4,7 @@ use Rattle.cqf_worker_loops.proofs.HandedStretches.{gives_up, goes_further, goes
 use Rattle.cqf_worker_loops.proofs.rounds.go_on.Goals.{then-may_send+in_ok-send, else-may_send}
 use Rattle.cqf_worker_loops.proofs.rounds.go_on.Goals as goal
 
--- where a link may go on it has gone on, and else looked
+-- if a link can go on, it has gone on; else the worker has only looked
 pub tell-requires : goal.tell-requires
 tell-requires g c =
     let first = c.args.worker.now in
@@ -27,7 +27,7 @@ returns-clause-ok g c =
     ] in
     goes_further first c.if-may_send.worker _ goes c.in_ok-tell.ensures.ok
 
--- where it gives up it has put stretches alone
+-- if it gives up, it has put only stretches
 pub returns-in_err-send-clause-err : goal.returns-in_err-send-clause-err
 returns-in_err-send-clause-err g c =
     on_fault c.from_residual-in_err-send.result _ (gives_up c.args.worker.now c.look.new.worker _ c.requires c.in_ok-look.ensures.ok refl)

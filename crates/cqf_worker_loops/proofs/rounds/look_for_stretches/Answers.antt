@@ -21,7 +21,7 @@ loop-stretch-preserved g c =
     (found_item port.pipe c.look.new.self c.look.result c.look.ensures.pipe c.look.ensures.items (Item c.in-Item-Item.stretch) (cc)))
     c.in_ok-take_stretch-in-Item-Item.ensures refl refl refl)
 
--- where none has come it is as it was
+-- if none has arrived, it is unchanged
 pub returns-in-Nothing-clause-ok : goal.returns-in-Nothing-clause-ok
 returns-in-Nothing-clause-ok g c =
     let w = c.loop-stretch.worker in
@@ -31,7 +31,7 @@ returns-in-Nothing-clause-ok g c =
     (ap (λ (end : End (Carried Stretch)). end.items)
     (found_nothing port.pipe c.look.new.self c.look.result c.look.ensures.pipe c.look.ensures.items c.in-Nothing.is))) refl)
 
--- and where it gives up it has put stretches alone
+-- if it gives up, it has put only stretches
 pub returns-in_default-clause-err : goal.returns-in_default-clause-err
 returns-in_default-clause-err g c = gives_up c.args.worker.now c.loop-stretch.worker _ c.requires.way c.loop-stretch.invariant refl
 

@@ -21,7 +21,7 @@ loop-table-preserved g c =
     (found_item w.tables c.look.new.self c.look.result c.look.ensures.pipe c.look.ensures.items (Item c.in-Item-Item.table) (cc))
     c.in_ok-enter_table-in-Item-Item.ensures.ok)
 
--- where it gives up it has put stretches alone
+-- if it gives up, it has put only stretches
 pub returns-in_default-clause-err : goal.returns-in_default-clause-err
 returns-in_default-clause-err g c =
     gives_up c.args.worker.now c.loop-table.worker _ c.requires c.loop-table.invariant refl

@@ -4,7 +4,7 @@ use Rattle.cqf_worker_loops.proofs.HandedStretches.{goes_further, hands_on_at, n
 use Rattle.cqf_worker_loops.proofs.rounds.tell.Goals.{then-has_news+in_ok-tell_on, else-has_news, then-is_onward, else-is_onward}
 use Rattle.cqf_worker_loops.proofs.rounds.tell.Goals as goal
 
--- the link has something to hand on by the port
+-- the link has something to pass on through the port
 pub tell_on-requires-clause-at : goal.tell_on-requires-clause-at
 tell_on-requires-clause-at g c =
     let w = c.loop-place.worker in

@@ -5,7 +5,7 @@ use Rattle.cqf_worker_loops.specs.Stepping.{GoesFurther, IsUnderWay}
 use Rattle.cqf_worker_loops.specs.Workers.{Offering}
 use Rattle.cqf_worker_loops.proofs.rounds.tell.Given as goal
 
--- it has gone on, of whatever traffic it was under way, and the port is that of the next link that ends in another bridge
+-- it has gone on, for all traffic for which it was under way, and the port is that of the next link that ends in another bridge
 abbrev pub invariant-loop-place : goal.invariant-loop-place
 invariant-loop-place g l =
     GoesFurther l.fn.worker l.worker × (l.place-end ≡ length l.worker.relay.outlets.items) × (l.port ≤ l.place)

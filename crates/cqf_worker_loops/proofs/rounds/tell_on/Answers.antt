@@ -6,7 +6,7 @@ use Rattle.cqf_worker_loops.proofs.HandedStretches.{back_of, either_way, few_put
 use Rattle.cqf_worker_loops.proofs.HandedStretches.{told_there}
 use Rattle.cqf_worker_loops.proofs.rounds.tell_on.Goals as goal
 
--- fewer stretches were put at the port than may be
+-- fewer stretches were put at the port than the limit
 pub try_put-requires : goal.try_put-requires
 try_put-requires g c =
     let at = c.requires.at in
@@ -22,7 +22,7 @@ try_put-requires g c =
       );
     }
 
--- it goes on with the stretch put
+-- it goes on, and the stretch is put
 pub returns-in-Ok-clause-ok : goal.returns-in-Ok-clause-ok
 returns-in-Ok-clause-ok g c =
     let at = c.requires.at in
@@ -32,13 +32,13 @@ returns-in-Ok-clause-ok g c =
     goes_with_put c.args.place c.args.port c.args.worker.now _ c.index_mut.result.now c.stretch_of-stretch.result at c.stretch_of-stretch.ensures port
     (port_more outs c.args.port c.index_mut.result.now c.try_put.new.self c.stretch_of-stretch.result c.try_put.ensures.pipe c.in-Ok.ensures.ok) refl refl refl
 
--- the link is there still
+-- the link is still there
 pub keep_back-requires : goal.keep_back-requires
 keep_back-requires g c =
     let hands = c.stretch_of-stretch.ensures in
     outlets_inside c.args.place c.args.worker.now.relay c.stretch_of-stretch.new.self hands.outlet hands.stays hands.was
 
--- it goes on with the stretch kept
+-- it goes on, and the stretch is kept
 pub returns-in-Err-Full-Item-clause-ok : goal.returns-in-Err-Full-Item-clause-ok
 returns-in-Err-Full-Item-clause-ok g c =
     let w = c.args.worker.now in
@@ -49,7 +49,7 @@ returns-in-Err-Full-Item-clause-ok g c =
     (back_of arm.field-0 arm.field-0-0 arm.back c.stretch_of-stretch.result (cc) (cc) arm.ensures.back) by_then refl refl refl
     (port_same w.outs.items c.args.port c.index_mut.result.now c.try_put.new.self c.index_mut.ensures.value c.try_put.ensures.pipe arm.ensures.err)
 
--- and where it gives up it has put stretches alone
+-- if it gives up, it has put only stretches
 pub returns-clause-err : goal.returns-clause-err
 returns-clause-err g c =
     let at = c.requires.at in

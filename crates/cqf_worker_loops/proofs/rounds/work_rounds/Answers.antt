@@ -7,7 +7,7 @@ use Rattle.cqf_worker_loops.proofs.Through.{ends_so}
 use Rattle.cqf_worker_loops.proofs.rounds.work_rounds.Goals.{in-None, in-Some+then-is_over}
 use Rattle.cqf_worker_loops.proofs.rounds.work_rounds.Goals as goal
 
--- its bridge is over, and it keeps what that has sent and dropped
+-- its bridge is over, and it keeps what the bridge has sent and dropped
 pub returns-clause-ok : goal.returns-clause-ok
 returns-clause-ok g c =
     let w = c.loop-round.worker in
@@ -18,7 +18,7 @@ returns-clause-ok g c =
     on_done c.keep.result _ _ (λ keeps. ends_so c.args.worker.now w c.keep.new.worker c.requires c.loop-round.invariant over keeps c.keep.ensures.outs)
     c.keep.ensures.ok
 
--- where it gives up it has put stretches alone
+-- if it gives up, it has put only stretches
 pub returns-clause-put : goal.returns-clause-put
 returns-clause-put g c =
     on_fault c.keep.result _

@@ -6,7 +6,7 @@ use Rattle.cqf_worker_loops.proofs.HandedTables.{handed_as, hands_next, hands_no
 use Rattle.cqf_worker_loops.proofs.sealing.hand_on.Goals.{then-not-hand, else-not-hand}
 use Rattle.cqf_worker_loops.proofs.sealing.hand_on.Goals as goal
 
--- no end was handed them yet
+-- no end was given them yet
 pub loop-place-init : goal.loop-place-init
 loop-place-init g c = (
   hands_none (map Item (tables_handed c.args.block.now)) c.args.tables.now,
@@ -15,7 +15,7 @@ loop-place-init g c = (
       (map Item (tables_handed c.args.block.now)) c.args.tables.now,
 )
 
--- the next end was handed them, unless its worker has ended
+-- the next end was given them, unless its worker has ended
 pub loop-place-preserved : goal.loop-place-preserved
 loop-place-preserved g c =
     let tables = map Item (tables_handed c.args.block.now) in (
@@ -35,7 +35,7 @@ loop-place-preserved g c =
           ]),
     )
 
--- and where one wasn't, one of all is as it was
+-- if one end wasn't, one of all is unchanged
 pub returns-clause-missed : goal.returns-clause-missed
 returns-clause-missed g c is =
     let missed = c.loop-place.invariant.2 is in

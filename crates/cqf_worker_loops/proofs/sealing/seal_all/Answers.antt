@@ -10,7 +10,7 @@ returns-in-Ok-false-clause-err g c =
     broken_by_worker c.args.cycles c.args.seat c.args.tables.items (record { fault = Lost; conductor = c.seal_cycles.new.conductor }) refl
     sealed.closed (sealed.missed c.in-Ok-false.field-0-test) sealed.pipes sealed.put
 
--- or a Seal was refused, or memory
+-- or a Seal was refused, or an allocation failed
 pub returns-in-Err-clause-err : goal.returns-in-Err-clause-err
 returns-in-Err-clause-err g c =
     broken_off c.args.cycles c.args.seat c.args.tables.items (record { fault = c.in-Err.fault; conductor = c.seal_cycles.new.conductor })

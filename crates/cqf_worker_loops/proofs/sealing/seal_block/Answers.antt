@@ -3,14 +3,14 @@ use Rattle.cqf_worker_loops.proofs.Passing.{passed_on}
 use Rattle.cqf_worker_loops.proofs.SealedCycles.{seals_behind, some_behind, some_first}
 use Rattle.cqf_worker_loops.proofs.sealing.seal_block.Goals as goal
 
--- the first isn't closed
+-- the first cycle isn't closed
 pub returns-in_err-first-clause-err : goal.returns-in_err-first-clause-err
 returns-in_err-first-clause-err g c =
     passed_on c.from_residual.result c.in_err-first.field-0.0 (SealsSome c.args.count c.args.seat.now c.seal_one.new.seat)
     c.from_residual.ensures.1
     (some_first c.args.count c.args.seat.now c.seal_one.new.seat c.in_err-first.field-0.0 c.in_err-first.ensures.err c.requires.some)
 
--- or one behind it
+-- or a later one isn't
 pub returns-in_err-behind-clause-err : goal.returns-in_err-behind-clause-err
 returns-in_err-behind-clause-err g c =
     passed_on c.from_residual-in_err-behind.result c.in_err-behind.field-0.0 (SealsSome c.args.count c.args.seat.now c.seal_many.new.seat)
@@ -18,7 +18,7 @@ returns-in_err-behind-clause-err g c =
     (some_behind c.args.count c.args.seat.now c.seal_one.new.seat c.seal_many.new.seat c.in_ok-first.first c.in_err-behind.field-0.0 c.in_ok-first.ensures.ok
     c.in_err-behind.ensures.err c.requires.some)
 
--- the first is closed, and then the others
+-- the first cycle is closed, and then the others
 pub returns-clause-ok : goal.returns-clause-ok
 returns-clause-ok g c =
     seals_behind c.args.count c.args.seat.now c.seal_one.new.seat c.seal_many.new.seat c.in_ok-first.first c.in_ok-behind.behind.items c.requires.some

@@ -5,7 +5,7 @@ use Rattle.cqf_worker_loops.specs.Handing.{HasClosed, LacksOne}
 use Rattle.cqf_worker_loops.proofs.SealedCycles.{IsSealing, closes_some, none_left, none_stopped, seals_back, seals_closed, told_stop}
 use Rattle.cqf_worker_loops.proofs.sealing.seal_cycles.Goals as goal
 
--- so many more are closed
+-- count more cycles are closed
 pub loop-left-preserved : goal.loop-left-preserved
 loop-left-preserved g c =
     let closed = c.args.cycles - c.loop-left.left in
@@ -23,7 +23,7 @@ loop-left-preserved g c =
       omega (arith, c.loop-left.invariant.1),
     )
 
--- some aren't, and the workers are told
+-- some aren't, and the workers are notified
 pub returns-in-Err-clause-put : goal.returns-in-Err-clause-put
 returns-in-Err-clause-put g c =
     told_stop c.args.conductor.now.seat c.args.conductor.now.tables.items (c.args.cycles - c.loop-left.left) c.min-count.result c.loop-left.conductor.seat
@@ -44,7 +44,7 @@ returns-clause-closed g c =
     (seals_closed c.args.conductor.now.seat c.args.conductor.now.tables.items (c.args.cycles - c.loop-left.left) c.loop-left.conductor.seat
     c.loop-left.conductor.tables.items c.loop-left.all c.loop-left.invariant.0)
 
--- and where a worker had ended, it lacks tables
+-- if a worker had ended, it lacks tables
 pub returns-clause-missed : goal.returns-clause-missed
 returns-clause-missed g c is =
     subst (LacksOne c.loop-left.conductor.tables.items) (none_left c.args.cycles c.loop-left.left (omega (arith, c.loop-left-test.false)))

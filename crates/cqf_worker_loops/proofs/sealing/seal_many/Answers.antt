@@ -17,7 +17,7 @@ loop-preserved g c =
     (seals_more c.loop.counter c.args.seat.now c.loop.seat c.seal_one.new.seat c.loop.tables.items c.in_ok-table.table c.loop.invariant
     c.in_ok-table.ensures.ok)
 
--- the next isn't
+-- the next cycle isn't closed
 pub returns-in_err-table-clause-err : goal.returns-in_err-table-clause-err
 returns-in_err-table-clause-err g c =
     passed_on c.from_residual.result c.in_err-table.field-0.0 (SealsSome c.args.count c.args.seat.now c.seal_one.new.seat) c.from_residual.ensures.1

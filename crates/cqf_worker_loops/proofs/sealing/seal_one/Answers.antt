@@ -19,7 +19,7 @@ returns-clause-ok g c =
     seals_one c.args.seat.now c.seal.new.seat c.in_ok-seal.ensures.keeps.0 c.in-Some.table.now c.in_ok-copy.copy c.in_ok-seal.ensures.keeps.1
     (ap option_copied (sym c.in-Some.is) ∙ c.last_table.ensures) c.in_ok-copy.ensures
 
--- or can't be copied
+-- or the table can't be copied
 pub returns-in_err-copy-clause-err : goal.returns-in_err-copy-clause-err
 returns-in_err-copy-clause-err g c =
     passed_on c.from_residual-in_err-copy.result Memory (SealsSome 1 c.args.seat.now c.seal.new.seat) c.from_residual-in_err-copy.ensures.1

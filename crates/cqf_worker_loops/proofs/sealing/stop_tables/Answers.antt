@@ -4,7 +4,7 @@ use Rattle.cqf_worker_loops.specs.declared.carried.Carried.TheVariants.{Stop}
 use Rattle.cqf_worker_loops.proofs.HandedTables.{handed_as, hands_next, hands_some, room_next}
 use Rattle.cqf_worker_loops.proofs.sealing.stop_tables.Goals as goal
 
--- nobody was told yet
+-- none was notified yet
 pub loop-place-init : goal.loop-place-init
 loop-place-init g c = (hands_some (Stop ∷ []) c.args.tables.now, refl)
 
@@ -18,7 +18,7 @@ tell-requires g c = record {
   );
 }
 
--- the next one was told
+-- the next worker was notified
 pub loop-place-preserved : goal.loop-place-preserved
 loop-place-preserved g c = (
   hands_next (Stop ∷ []) c.args.tables.now c.loop-place.tables c.loop-place.place false c.index-tables-place.result c.tell.new.end c.tell.result false

@@ -3,6 +3,6 @@ use Rattle.cqf_worker_loops.specs.declared.carried.Carried.TheVariants.{Stop}
 use Rattle.cqf_worker_loops.proofs.HandedTables.{HandsOn}
 use Rattle.cqf_worker_loops.proofs.sealing.stop_tables.Given as goal
 
--- the ends before a place were told
+-- the workers at the ends before the index were notified
 abbrev pub invariant-loop-place : goal.invariant-loop-place
 invariant-loop-place g l = HandsOn (Stop ∷ []) l.fn.tables l.tables l.place false × (l.place-end ≡ length l.fn.tables)

@@ -8,14 +8,14 @@ returns-clause-stopped g c =
     (told_at_each outs.items c.as_mut_slice.result.now c.stop_each.new.ports outs.len outs.ok.0 c.as_mut_slice.ensures.value c.stop_each.ensures.count
     c.stop_each.ensures.stopped c.requires.batches).0
 
--- so it is the last there
+-- so it is the last item there
 pub returns-clause-carried : goal.returns-clause-carried
 returns-clause-carried g c =
     let outs = c.args.worker.outs in
     (told_at_each outs.items c.as_mut_slice.result.now c.stop_each.new.ports outs.len outs.ok.0 c.as_mut_slice.ensures.value c.stop_each.ensures.count
     c.stop_each.ensures.stopped c.requires.batches).1
 
--- and the wires stay
+-- and the wires stay the same
 pub returns-clause-outs : goal.returns-clause-outs
 returns-clause-outs g c =
     let outs = c.args.worker.outs in

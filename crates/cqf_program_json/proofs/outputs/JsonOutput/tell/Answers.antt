@@ -7,7 +7,7 @@ use Rattle.cqf_program_json.specs.Output.{text_of_json}
 use Rattle.cqf_program_json.specs.Text.{json_text}
 use Rattle.cqf_program_json.proofs.outputs.JsonOutput.tell.Goals as goal
 
--- the rows that are handed on have good paces
+-- the rows that are passed on have good paces
 pub put_object-requires-clause-paced : goal.put_object-requires-clause-paced
 put_object-requires-clause-paced g c =
     subst (λ (rows : List Row). AreOfGoodPaces rows) (sym c.as_slice-3.ensures.value) c.self.invariant.paced

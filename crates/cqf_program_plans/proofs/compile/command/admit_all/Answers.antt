@@ -11,7 +11,7 @@ use Rattle.cqf_program_plans.specs.Compile.Output.{admitted_from}
 use Rattle.cqf_program_plans.proofs.Planned.{admitted_more, asked_at, planned_more, refused_whole}
 use Rattle.cqf_program_plans.proofs.compile.command.admit_all.Goals as goal
 
--- one stream more is admitted, and its row put
+-- one more stream is admitted, and its row appended
 pub loop-place-preserved : goal.loop-place-preserved
 loop-place-preserved c =
     let d = c.args.domain.now in

@@ -3,7 +3,7 @@ use Rattle.cqf_admission.specs.Asking.{asked_paced}
 use Rattle.cqf_program_plans.specs.Compile.Output.{ArePlanned, admitted_from}
 use Rattle.cqf_program_plans.proofs.compile.command.admit_all.Given as goal
 
--- each call so far admitted a stream, and the rest is admitted behind them
+-- each call so far admitted a stream, and the rest is admitted after them
 abbrev pub invariant-loop-place : goal.invariant-loop-place
 invariant-loop-place l =
     (l.ledger.requests ≡ map asked_paced l.requests)

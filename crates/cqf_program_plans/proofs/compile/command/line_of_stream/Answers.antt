@@ -3,7 +3,7 @@ use Rattle.std.specs.Fmt.{decimal}
 use Rattle.cqf_model.specs.Refusals.{text_of_refusal}
 use Rattle.cqf_program_plans.proofs.compile.command.line_of_stream.Goals as goal
 
--- the line feed stands behind the refusal
+-- the line feed follows the refusal
 pub returns : goal.returns
 returns c =
     c.in_ok-line.ensures.ok

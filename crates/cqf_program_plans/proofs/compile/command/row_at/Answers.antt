@@ -5,7 +5,7 @@ use Rattle.cqf_model.specs.History.{held_in, seals}
 use Rattle.cqf_program_plans.proofs.CompileLemmas.{refused_so}
 use Rattle.cqf_program_plans.proofs.compile.command.row_at.Goals as goal
 
--- a form that isn't good is refused, whatever is held
+-- a form that isn't good is refused, no matter what is held
 pub returns-in-Err-clause-err : goal.returns-in-Err-clause-err
 returns-in-Err-clause-err c = λ entries more.
     let d = c.args.domain.now in

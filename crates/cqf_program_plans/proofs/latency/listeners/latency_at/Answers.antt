@@ -7,12 +7,12 @@ use Rattle.cqf_program_plans.specs.EndNames.{name_of_end}
 use Rattle.cqf_program_plans.specs.Latency.Text.{is_station, latency_to}
 use Rattle.cqf_program_plans.proofs.latency.listeners.latency_at.Goals as goal
 
--- what is there, where something is there just where a test holds
+-- the value, if there is one if and only if a test passes
 there_if : {A : Type 0} (b : Bool) (x y : A) → Some x ≡ (if b then Some y else None) → (b ≡ true) × (x ≡ y)
 there_if true x y e = (refl, cc)
 there_if false x y e = let never : ⊥ = cc in absurd never
 
--- and where nothing is there, nothing else is
+-- and if there is no value, there is none on the other side
 none_if : {A B : Type 0} (b : Bool) (y : A) (z : B) → None ≡ (if b then Some y else None) → None ≡ (if b then Some z else None)
 none_if true y z e = let never : ⊥ = cc in absurd never
 none_if false y z e = refl

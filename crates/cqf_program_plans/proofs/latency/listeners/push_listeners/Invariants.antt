@@ -1,4 +1,4 @@
--- The latencies of the hops so far stand behind those before the row.
+-- The latencies of the hops so far follow those before the row.
 use Rattle.std.proofs.Common.{◌≡◌, ◌++◌, filter, map, take}
 use Rattle.cqf_model.specs.declared.topology.Hop.{Hop}
 use Rattle.cqf_model.specs.Domain.{end_of}

@@ -9,7 +9,7 @@ use Rattle.cqf_worker_loops.proofs.pipe_ends.PipeIn.close.Goals as goal
 pub absorb-requires-clause-rule : goal.absorb-requires-clause-rule
 absorb-requires-clause-rule g c = merges _ _ _ _ (ap (λ v. v.puts) c.self.invariant.1) (ap (λ v. v.takes) c.out.invariant.1)
 
--- what waits at the taking end is under way, and behind it what the channel holds
+-- what waits at the taking end is under way, followed by what the channel holds
 pub returns : goal.returns
 returns g c =
     let waiting = c.out.inside.waiting.items in

@@ -4,7 +4,7 @@ use Rattle.cqf_worker_loops.proofs.PipeSteps.{receives}
 use Rattle.cqf_worker_loops.proofs.Waiting.{comes, hands_out}
 use Rattle.cqf_worker_loops.proofs.pipe_ends.PipeOut.look.Goals as goal
 
--- the item waited first
+-- the item was the first of those that waited
 pub invariant_of-self : goal.invariant_of-self
 invariant_of-self g c =
     let handed = handed_by c.self.inside.pass c.self.inside.waiting.items in
@@ -23,7 +23,7 @@ returns-in-Some-clause-items g c =
 pub try_recv_as-requires-clause-rule : goal.try_recv_as-requires-clause-rule
 try_recv_as-requires-clause-rule g c = (receives _ _ (ap (λ v. v.takes) c.self.invariant.1), λ items views h at. tt)
 
--- nothing waited, and the item came with what waits now
+-- nothing waited; the item arrived with the items that wait now
 pub invariant_of-self-in-Ok : goal.invariant_of-self-in-Ok
 invariant_of-self-in-Ok g c =
     let next = comes _ _ _ c.in-Ok.bundle.behind.items c.in-Ok.bundle.first _ (ap (λ v. v.taken) c.in-Ok.ensures.rule.0) c.self.invariant.3

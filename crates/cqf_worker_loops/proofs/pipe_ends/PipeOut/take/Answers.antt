@@ -3,7 +3,7 @@ use Rattle.cqf_worker_loops.specs.PipeEnds.{handed_by}
 use Rattle.cqf_worker_loops.proofs.Waiting.{comes, hands_out}
 use Rattle.cqf_worker_loops.proofs.pipe_ends.PipeOut.take.Goals as goal
 
--- the item waited first
+-- the item was the first of those that waited
 pub invariant_of-self : goal.invariant_of-self
 invariant_of-self g c =
     let handed = handed_by c.self.inside.pass c.self.inside.waiting.items in
@@ -18,7 +18,7 @@ returns-in-Some-clause-some g c =
     (c.self.invariant.3 ∙ ap (λ l. handed ++ l) c.in-Some.ensures.items) c.self.invariant.4 in
     next.0 ∙ ap (λ e. e.items ++ c.in-Some.item ∷ []) c.self.view_is
 
--- nothing waited, and the item came with what waits now
+-- nothing waited; the item arrived with the items that wait now
 pub invariant_of-self-2 : goal.invariant_of-self-2
 invariant_of-self-2 g c =
     let next = comes _ _ _ c.in_ok-first.field-0.behind.items c.in_ok-first.field-0.first _ (ap (λ v. v.taken) c.in_ok-first.ensures.some.0) c.self.invariant.3

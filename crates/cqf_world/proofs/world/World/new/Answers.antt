@@ -12,7 +12,7 @@ invariant_of-result c =
     c.requires.offers c.requires.background
     c.requires.few_cycles c.legal_network_exists.ensures c.new_bridge_follows.ensures.follows c.new.result.items c.new.ensures.items
 
--- and begins with the admission, and no page
+-- and it begins with the admission, and no page
 pub returns : goal.returns
 returns c =
     is_new c.args.admission c.args.plan.now c.domain-domain.result.now c.args.offers.now c.args.background.now c.args.cycles c.bridges.result

@@ -16,7 +16,7 @@ most_at-most-requires-clause-inside c =
     let low = low_hop c.args.row.now.tree.items c.args.hop.now _ c.requires.of_tree c.requires.countable.inside in
     omega (arith, low, c.self.invariant.each.as_many, ap (λ (t : DomainTable). length t.domain.links) c.self.view_is)
 
--- what is kept of the hop's link is what the rows cost of it beside the row
+-- the sum that is kept of the hop's link is what the rows cost of it beside the row
 told : (domain table : Domain) (rows : List Row) (costs : Turned) (row : Row) (hop : Hop) → AreCosts domain rows costs → Contains row.tree.items hop →
     IsCountable (length table.links) row → length domain.links ≡ length table.links →
     most_at costs hop.link row.pace hop.depth ≡ most_beside rows row.tree.items row.pace hop.link
