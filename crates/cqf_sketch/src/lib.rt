@@ -21,8 +21,8 @@
 //! bridges = ["a", "b"]
 //! stations = ["s"]
 //! links = [
-//! { from = "a", to = "b", rate = 1000, delay = 500, duplex = true },
-//! { from = "b", to = "s", rate = 1000, delay = 500, duplex = true },
+//!     { from = "a", to = "b", rate = 1000, delay = 500, duplex = true },
+//!     { from = "b", to = "s", rate = 1000, delay = 500, duplex = true },
 //! ]
 //! ```
 //!
@@ -39,8 +39,8 @@
 //! ```
 //!
 //! is a stream from the talker mic to two listeners. With `path` and `from` it is refused: `BadValue from`. With
-//! `every` and `in-step = true`, which says that its talker is in step with the network, it is refused too: `BadValue
-//! every`.
+//! `every` and `in-step = true`, which says that its talker is in step with the network, it is refused too:
+//! `BadValue every`.
 //!
 //! The first path from a to s, with links 0 from bridge a to bridge b, 1 from a to c, 2 from b to station s and 3 from
 //! c to s:
