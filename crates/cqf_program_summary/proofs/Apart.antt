@@ -41,7 +41,7 @@ use Rattle.cqf_program_summary.specs.Summary.Counting.{AreApart, leads_to, tally
 use Rattle.cqf_program_summary.specs.Summary.{listener_to, listeners_by, way_to, ways_of}
 use Rattle.cqf_program_summary.specs.Summary.Told.{row_of_stream, row_unless}
 
--- what branches have that aren't refused
+-- what branches have if they aren't refused
 record IsGoodTree (d : Domain) (paths : List Branch) : Type 0 where
   known : position (λ name. is_none (node_named d name)) (flat_map (λ branch. branch) paths) ≡ None
   whole : broken_place d paths ≡ None
@@ -139,7 +139,7 @@ module _ (d : Domain) (domain : IsDomain d) (cost : ℕ → ℕ) (ds : List Deli
       by None good = row_apart (granted_row d 0 0 asked) (is_tree d asked.paths (good_tree d asked.paths (good_branches d asked good)))
       by (Some refused) bad = pairs_one apart_ways (way_to ds None)
 
--- a way leads where it led
+-- a way leads where it led before
 way_leads : (ending : Fate) (at : ℕ) (journey : Journey) (way : ListenerWay) → (way_with ending at journey way).to ≡ way.to
 way_leads ending at journey way = by (leads_to journey.listener way.to)
   where
