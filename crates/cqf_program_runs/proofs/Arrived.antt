@@ -65,7 +65,7 @@ module _ (run : Run) (streams : List PlannedText) (book : Contents) (says : Says
       InShift run (length run.tables) x.frame hop.link start.cycle.0
   shifted x hop start at = subst₂ (λ (frame link : ℕ). InShift run (length run.tables) frame link start.cycle.0) at.1 at.2 (says.only start at.0)
 
-  -- a delivery to a listener, where the frame starts on the link there
+  -- a delivery to a listener, if the frame starts on the link there
   abbrev by_start : (x : Offered) (row : Row) (hop : Hop) (delivery : Delivery) → IsCovered run x row → Contains (listeners_of run.domain row) hop →
       way x hop (start_on book.starts x.frame hop.link) ≡ delivery → (start : Started) → start_on book.starts x.frame hop.link ≡ Some start →
       IsArrivalOfOffer run streams book delivery

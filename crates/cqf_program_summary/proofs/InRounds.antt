@@ -125,7 +125,7 @@ room_to_tell starts source index cycles basis are at before told more first now 
 pub none_before : (starts : List Started) → starts_before 0 starts ≡ []
 none_before starts = filter_none (λ (s : Started). nat_lt s.cycle.0 0) starts (λ s among. le-ltb s.cycle.0 0 (omega arith))
 
--- what is wanted of starts is of one of them, and of drops likewise
+-- whether a leg is wanted; a wanted leg of a list of starts is that of one of them, and so for drops
 abbrev wants : Source → Leg → Bool
 wants source x = is_wanted source.offers source.wanted (frame_of x)
 

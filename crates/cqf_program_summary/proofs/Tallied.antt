@@ -130,14 +130,14 @@ journey_reaches : (to : Option Listener) (journey : Journey) → reaches (name_o
 journey_reaches None journey = refl
 journey_reaches (Some listener) journey = refl
 
--- a way with a journey more, by whether it leads there
+-- a path with a journey more, by whether it leads there
 way_by : (ending : Fate) (at : ℕ) (journey : Journey) (way : ListenerWay) (b : Bool) → leads_to journey.listener way.to ≡ b →
     (if b then record way { tally = tally_with ending at journey.whole way.tally } else way) ≡ way_with ending at journey way
 way_by ending at journey way b e =
     ap (λ (c : Bool). if c then record way { tally = tally_with ending at journey.whole way.tally } else way) (sym e)
 
 module _ (ds : List Delivery) (x : Delivery) where
-  -- a way with one delivery more
+  -- a path with one delivery more
   way_more : (to : Option Listener) (journey : Journey) → x.passage ≡ passage.Goes journey →
       way_to (ds ++ x ∷ []) to ≡ way_with (fate_of x) x.at.0 journey (way_to ds to)
   way_more to journey goes = elim (cases_Bool (leads_to journey.listener to)) [
@@ -150,7 +150,7 @@ module _ (ds : List Delivery) (x : Delivery) where
       leads : reaches (name_of_listener to) x.passage ≡ leads_to journey.listener to
       leads = ap (reaches (name_of_listener to)) goes ∙ journey_reaches to journey
 
-  -- all ways with one more
+  -- all paths with one more
   ways_more : (p : Passage) → x.passage ≡ p → (tos : List (Option Listener)) →
       map (way_to (ds ++ x ∷ [])) tos ≡ ways_with (fate_of x) x.at.0 p (map (way_to ds) tos)
   ways_more (passage.Dropped reason) e [] = refl

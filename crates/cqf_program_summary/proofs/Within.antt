@@ -92,7 +92,7 @@ with_within many ending before mid k same is more =
       taken = more many (subst (λ (t : Tally). TakenWithin many t.taken) (sym same) (counted_taken many ending before is.taken));
     }
 
--- with one way counted once more
+-- with one path counted once more
 pub way_within : (many : ℕ) (ways : List ListenerWay) (place : ℕ) (after : ListenerWay) → TallyWithin (many + 1) after.tally → WaysWithin many ways →
     WaysWithin (many + 1) (set ways place after)
 way_within many ways place after more are = All-set (λ (way : ListenerWay). TallyWithin (many + 1) way.tally) ways place after more (ways_later many 1 ways are)

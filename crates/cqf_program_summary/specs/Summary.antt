@@ -30,7 +30,7 @@ use Rattle.cqf_program_summary.specs.Summary.Tallies.{is_dropped, tally_to}
 use Rattle.cqf_program_summary.specs.Summary.Told.{is_other, row_of_stream, told_cost, told_streams}
 
 -- the summary of a stream: its name and its deadline, how many offers claim the name, how many of these are dropped,
--- and the ways to its listeners. A stream whose octets, pace or path are refused has one way without a listener
+-- and the paths to its listeners. A stream whose octets, pace or path are refused has one path without a listener
 pub record Fare : Type 0 where
   pub name : List ℕ
   pub deadline : Option ℕ
@@ -48,7 +48,7 @@ pub record Summary : Type 0 where
 abbrev pub listener_to : Domain → (ℕ → ℕ) → Hop → Listener
 listener_to d cost hop = record { name = name_of_end d hop.link; bound = most_of d hop.link hop.depth (cost hop.link) }
 
--- the way to an optional listener, by the deliveries of a stream's frames
+-- the path to an optional listener, by the deliveries of a stream's frames
 abbrev pub name_of_listener : Option Listener → Option (List ℕ)
 name_of_listener to = option_map (λ (listener : Listener). listener.name) to
 

@@ -36,12 +36,12 @@ counted (fate.Dropped reason) t = t
 abbrev pub tally_with : Fate → ℕ → Option Nanos → Tally → Tally
 tally_with ending at whole t = let now = counted ending t in record now { taken = taken_with at whole now.taken }
 
--- whether a way leads to the listener with a name
+-- whether a path leads to the listener with a name
 abbrev pub leads_to : List ℕ → Option Listener → Bool
 leads_to name None = false
 leads_to name (Some listener) = is_text name listener.name
 
--- a way with one frame more that is on a journey
+-- a path with one frame more that is on a journey
 abbrev pub way_with : Fate → ℕ → Journey → ListenerWay → ListenerWay
 way_with ending at journey way =
     if leads_to journey.listener way.to then record way { tally = tally_with ending at journey.whole way.tally } else way
@@ -50,7 +50,7 @@ abbrev pub ways_with : Fate → ℕ → Passage → List ListenerWay → List Li
 ways_with ending at (passage.Dropped reason) ways = ways
 ways_with ending at (passage.Goes journey) ways = map (way_with ending at journey) ways
 
--- the index of a way to the listener with a name: the expected one, if it leads there; otherwise the first
+-- the index of a path to the listener with a name: the expected one, if it leads there; otherwise the first
 abbrev pub leads_there : List ℕ → Option ListenerWay → Bool
 leads_there name None = false
 leads_there name (Some way) = leads_to name way.to
@@ -92,7 +92,7 @@ summary_at here (Some place) summary = record summary { fares = changed_at (fare
 abbrev pub summary_with : List ℕ → List Delivery → Summary → Summary
 summary_with name here summary = summary_at here (position (λ (fare : Fare). is_text fare.name name) summary.fares) summary
 
--- no two ways lead to one listener
+-- no two paths lead to one listener
 abbrev pub AreApart : List ListenerWay → Type 0
 AreApart ways = AllPairs (λ (a b : ListenerWay). (name : List ℕ) → leads_to name a.to ≡ true → leads_to name b.to ≡ true → ⊥) ways
 

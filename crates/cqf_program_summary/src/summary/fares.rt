@@ -108,7 +108,7 @@ fn listener_to(domain: &Domain, costs: &CycleSums, row: &Row, hop: &Hop) -> Opti
     })
 }
 
-/// Appends a way that no frame has taken.
+/// Appends a path that no frame has taken.
 fn push_way(ways: &mut Vec<ListenerWay>, to: Option<Listener>) -> Result<(), Memory>
     ensures { OnOk result (ways.new.items ≡ ways.old.items ++ way_to [] to ∷ []) }
 {
@@ -119,7 +119,7 @@ fn push_way(ways: &mut Vec<ListenerWay>, to: Option<Listener>) -> Result<(), Mem
     Ok(())
 }
 
-/// Appends the ways to the listeners of a row.
+/// Appends the paths to the listeners of a row.
 fn push_listeners(
     ways: &mut Vec<ListenerWay>,
     domain: &Domain,
@@ -139,7 +139,7 @@ fn push_listeners(
     Ok(())
 }
 
-/// Returns the ways to the listeners of a stream with this row; without a row, one way without a listener.
+/// Returns the paths to the listeners of a stream with this row; without a row, one path without a listener.
 fn ways_of(
     alloc: Global,
     domain: &Domain,
@@ -159,7 +159,7 @@ fn ways_of(
     Ok(ways)
 }
 
-/// Whether a way leads to the listener with a name.
+/// Whether a path leads to the listener with a name.
 fn leads_to(to: &Option<Listener>, name: &Name) -> bool
     ensures { result ≡ leads_to name.now to.now }
 {
@@ -169,7 +169,7 @@ fn leads_to(to: &Option<Listener>, name: &Name) -> bool
     }
 }
 
-/// Whether there is a way at an index, and it leads to the listener with a name.
+/// Whether there is a path at an index, and it leads to the listener with a name.
 fn leads_there(ways: &[ListenerWay], place: usize, name: &Name) -> bool
     ensures { result ≡ leads_there name.now (slice_get ways.now place) }
 {
@@ -179,15 +179,15 @@ fn leads_there(ways: &[ListenerWay], place: usize, name: &Name) -> bool
     }
 }
 
-/// Returns the index of the first way to the listener with a name.
+/// Returns the index of the first path to the listener with a name.
 fn first_to(ways: &[ListenerWay], name: &Name) -> Option<usize>
     ensures { result ≡ position (λ way. leads_to name.now way.to) ways.now }
 {
     ways.iter().position(|way| leads_to(&way.to, name))
 }
 
-/// Returns the index of the way to the listener with a name: the expected one if it leads there, otherwise the first.
-/// Deliveries are in the order of the ways, so the expected one is mostly right.
+/// Returns the index of the path to the listener with a name: the expected one if it leads there, otherwise the first.
+/// Deliveries are in the order of the paths, so the expected one is mostly right.
 fn place_to(ways: &[ListenerWay], expected: usize, name: &Name) -> Option<usize>
     ensures { result ≡ place_by ways.now expected name.now }
 {
@@ -197,7 +197,7 @@ fn place_to(ways: &[ListenerWay], expected: usize, name: &Name) -> Option<usize>
     first_to(ways, name)
 }
 
-/// Adds a frame on a journey to the way to its listener.
+/// Adds a frame on a journey to the path to its listener.
 fn add_journey(
     ways: &mut [ListenerWay],
     expected: usize,
@@ -216,7 +216,7 @@ fn add_journey(
     }
 }
 
-/// Adds a delivery to the way to its listener. A drop is added to none.
+/// Adds a delivery to the path to its listener. A drop is added to none.
 fn add_passage(ways: &mut [ListenerWay], expected: usize, delivery: &Delivery)
     requires apart { AreApart ways.old }
     requires few { WaysWithin 3372220214 ways.old }
@@ -242,7 +242,7 @@ impl Fares {
         requires listed { IsOfStream domain.now listed.now }
         ensures { IfOk result (λ fares. fares ≡ fare_from domain.now (cost_beside costs.now listed.now.row) deadline listed.now) }
     {
-        // names differ, and the domain is accepted; the ways need these facts
+        // names differ, and the domain is accepted; the paths need these facts
         domain.know();
         let ways = ways_of(alloc, domain, costs, &listed.row)?;
         Ok(Fares {
@@ -254,7 +254,7 @@ impl Fares {
         })
     }
 
-    /// Adds a delivery of a frame, which is expected on the way at an index.
+    /// Adds a delivery of a frame, which is expected on the path at an index.
     fn add(&mut self, expected: usize, delivery: &Delivery)
         requires { FareWithin 3372220214 self.old }
         ensures fare { self.new ≡ fare_with self.old delivery.now }

@@ -110,7 +110,7 @@ fn put_counts<W: Sink>(
     put_last(press, to, tally.taken, deadline);
 }
 
-/// Puts the row of a way of a stream.
+/// Puts the row of a path of a stream.
 fn put_way<W: Sink>(press: &mut Press<'_, W>, fares: &Fares, way: &ListenerWay)
     ensures { Puts W.contents press.old press.new (line_of_fields (way_fields fares.now way.now)) }
 {
