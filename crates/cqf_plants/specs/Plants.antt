@@ -18,8 +18,7 @@ use Rattle.cqf_plants.specs.StreamMembers.{streams_data}
 abbrev pub plant_members : Domain → List FlowText → Members
 plant_members d flows = domain_members d (streams_data flows)
 
--- a text is that of a plan: it is UTF-8, it writes the plan's table, and as TOML it parses to exactly that
--- table
+-- a text is that of a plan: it is UTF-8, it writes the plan's table, and as TOML it parses to exactly that table
 pub record IsToldPlant (d : Domain) (flows : List FlowText) (text : List ℕ) : Type 0 where
   pub encoded : is_utf8 text ≡ true
   pub written : IsDocumentText false (plant_members d flows) text

@@ -10,8 +10,8 @@ pub fn first_ways_are_a_tree()
     ensures part { FirstWaysPartForGood }
 {}
 
-/// Law: if there is no path with room, each path without that condition has a link without room. At a cost of 0, each
-/// link has room.
+/// Law: if there is no path with room, each path without that condition has a link without room. At a cost of 0,
+/// that condition excludes no path, provided that it is known what each link has left.
 pub fn full_ways_have_a_short_link()
     ensures short { FullWaysHaveAShortLink }
     ensures for_nothing { NothingHasRoomEverywhere }
