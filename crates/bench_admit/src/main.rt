@@ -1,8 +1,9 @@
-//! What admission costs: rounds of 1,000 admissions, 1,000 withdrawals and 5 Seals over a ring of 32 bridges, each with a
-//! station of its own, so over 64 links. `bench/admit` runs it and tells time and memory.
+//! The cost of admission: rounds of 1,000 admissions, 1,000 withdrawals and 5 Seals over a ring of 32 bridges, each
+//! with its own station, and so 64 links. `bench/admit` runs it and reports time and memory.
 //!
-//! The word behind the program's name is the number of rounds, 1 to 50; 2 without it. A withdrawn stream of three bridges is
-//! held for three cycles more, so each round begins with no stream held, and each of its calls is accepted.
+//! The word after the program's name is the number of rounds, 1 to 50, by default 2. A withdrawn stream of three
+//! bridges is held for three more cycles, so no stream is held when the next round begins, and each of its calls is
+//! accepted.
 #![tactic(auto)]
 
 use cqf_admission::Admission;
@@ -42,7 +43,7 @@ fn push_domain(alloc: Global, text: &mut String) -> Result<(), AllocError> {
     push_links(alloc, text)
 }
 
-/// The links of a bridge: to the next bridge and to its station.
+/// Returns the links of a bridge: to the next bridge and to its station.
 fn links_of(alloc: Global, bridge: u32) -> Result<String, AllocError> {
     let next = (bridge % 32 + 1) % 32;
     format!(in alloc;
@@ -50,7 +51,7 @@ fn links_of(alloc: Global, bridge: u32) -> Result<String, AllocError> {
     )
 }
 
-/// The name of a stream.
+/// Returns the name of a stream.
 fn name_of(alloc: Global, stream: u32) -> Result<String, AllocError> {
     format!(in alloc; "stream-{stream}")
 }
@@ -77,7 +78,7 @@ fn push_path(alloc: Global, path: &mut Vec<String>, stream: u32) -> Result<(), A
     push_node(alloc, path, "s", last)
 }
 
-/// The one path of a stream.
+/// Returns the only path of a stream.
 fn paths_of(alloc: Global, stream: u32) -> Result<Vec<Vec<String>>, AllocError> {
     let mut path = Vec::new(alloc);
     push_path(alloc, &mut path, stream)?;
@@ -86,7 +87,7 @@ fn paths_of(alloc: Global, stream: u32) -> Result<Vec<Vec<String>>, AllocError> 
     Ok(paths)
 }
 
-/// A request for a stream.
+/// Returns a request for a stream.
 fn request_of(alloc: Global, stream: u32) -> Result<Request, AllocError> {
     let name = name_of(alloc, stream)?;
     let paths = paths_of(alloc, stream)?;
@@ -97,7 +98,7 @@ fn request_of(alloc: Global, stream: u32) -> Result<Request, AllocError> {
     })
 }
 
-/// Admits the streams of a round. How many were accepted.
+/// Admits the streams of a round, and returns how many were accepted.
 fn admit_all(alloc: Global, admission: &mut Admission) -> Result<u32, AllocError> {
     let mut accepted = 0u32;
     for stream in 0..STREAMS {
@@ -109,7 +110,7 @@ fn admit_all(alloc: Global, admission: &mut Admission) -> Result<u32, AllocError
     Ok(accepted)
 }
 
-/// Withdraws the streams of a round. How many were accepted.
+/// Withdraws the streams of a round, and returns how many were accepted.
 fn withdraw_all(alloc: Global, admission: &mut Admission) -> Result<u32, AllocError> {
     let mut accepted = 0u32;
     for stream in 0..STREAMS {
@@ -128,7 +129,7 @@ fn seal_five(admission: &mut Admission) {
     }
 }
 
-/// The number of rounds that a word asks for.
+/// Returns the number of rounds that a word requests.
 fn rounds_of(word: Option<String>) -> u32 {
     match word {
         Some(word) => word.as_str().parse().unwrap_or(2u32).clamp(1, 50),
@@ -136,7 +137,7 @@ fn rounds_of(word: Option<String>) -> u32 {
     }
 }
 
-/// The number of rounds that the process's words ask for.
+/// Returns the number of rounds that the process's words request.
 fn rounds<R: Env + AllocGlobal>(rt: &R) -> io::Result<u32> {
     let mut words = std::env::args(rt)?;
     let _program = words.next();
@@ -144,7 +145,7 @@ fn rounds<R: Env + AllocGlobal>(rt: &R) -> io::Result<u32> {
     Ok(rounds_of(word))
 }
 
-/// Makes the calls of so many rounds. How many were accepted.
+/// Makes the calls of `rounds` rounds, and returns how many were accepted.
 fn run_rounds(alloc: Global, admission: &mut Admission, rounds: u32) -> Result<u32, AllocError> {
     let mut accepted = 0u32;
     for _round in 0..rounds {
@@ -156,7 +157,7 @@ fn run_rounds(alloc: Global, admission: &mut Admission, rounds: u32) -> Result<u
     Ok(accepted)
 }
 
-/// How many calls of so many rounds over the domain are accepted.
+/// Returns how many calls of `rounds` rounds over the domain are accepted.
 fn count_accepted(alloc: Global, domain: &Domain, rounds: u32) -> Result<u32, AllocError> {
     let mut admission = Admission::new(alloc, domain)?;
     let accepted = run_rounds(alloc, &mut admission, rounds);
@@ -164,7 +165,7 @@ fn count_accepted(alloc: Global, domain: &Domain, rounds: u32) -> Result<u32, Al
     accepted
 }
 
-/// The same over the domain of a text, or none where that is refused.
+/// Returns the same over the domain of a text; `None` if the domain is refused.
 fn count_over(alloc: Global, text: &str, rounds: u32) -> Result<Option<u32>, AllocError> {
     let Ok(domain) = Domain::read(alloc, text.as_bytes()) else {
         return Ok(None);
@@ -174,7 +175,7 @@ fn count_over(alloc: Global, text: &str, rounds: u32) -> Result<Option<u32>, All
     Ok(Some(accepted?))
 }
 
-/// The same over the ring.
+/// Returns the same over the ring.
 fn count_over_ring(alloc: Global, rounds: u32) -> Result<Option<u32>, AllocError> {
     let mut text = String::new(alloc);
     push_domain(alloc, &mut text)?;

@@ -1,4 +1,4 @@
--- What a domain's table says passes the checks of a domain, and is that domain.
+-- The domain that its table is read as passes the checks of a domain, and is that domain.
 use Rattle.std.proofs.Common.{◌≡◌, ◌≢◌, ◌+◌, ◌<◌, ◌≤◌, ℕ, suc, List, [], ◌∷◌, ◌++◌, ◌||◌, Bool, false, Option, Some, None, Result, Ok, MatchOption}
 use Rattle.std.proofs.Common.{length, map, get_or, slice_get, nat_le, nat_lt, ok_or, position, refl, ap, sym, ◌∙◌, inl, inr, arith}
 use Rattle.std.proofs.lemmas.Bool.{cases_Bool, true≢false}
@@ -26,7 +26,7 @@ use Rattle.cqf_topology.proofs.Told.{twice-told}
 use Rattle.cqf_topology.specs.NodeNames.{name_of_node}
 use Rattle.cqf_plants.proofs.NamesApart.{AreApart, apart_across, behind_apart, front_apart, no_place, none_taken, place_is}
 
--- a domain's text with some links, each by the names of its ends
+-- a domain's text with given links, each by the names of its ends
 abbrev pub told_links : Domain → List Link → DomainText
 told_links d links = record {
   limits = d.limits;
@@ -41,11 +41,11 @@ told_links d links = record {
 abbrev pub told_domain : Domain → DomainText
 told_domain d = told_links d d.links
 
--- no link of some is told as standing twice, where none does
+-- if no link occurs twice, none is reported as occurring twice
 none_twice : (links : List Link) → NoLinkTwice links → first_twice [] links ≡ None
 none_twice links once = by (first_twice [] links) (twice-told links)
   where
-    -- a link that is told would have a twin
+    -- a link that is reported would have a twin
     by : (o : Option ℕ) → MatchOption o ((number : ℕ) → ¬ HasTwin links number) (λ number. IsFirstTwin links number) → o ≡ None
     by None none = refl
     by (Some number) first =
@@ -61,18 +61,18 @@ none_twice links once = by (first_twice [] links) (twice-told links)
 finds_none : (p : Link → Bool) (links : List Link) → ((k : ℕ) (link : Link) → slice_get links k ≡ Some link → p link ≡ false) → position p links ≡ None
 finds_none p links none = by (position p links) refl
   where
-    -- some link
+    -- any link
     some_link : Link
     some_link = record { from = 0; to = Bridge 0; rate = Mb10; delay = 0; least = 0; guard = None }
 
-    -- a place that is found would pass
+    -- a link at a position that is found would pass
     by : (o : Option ℕ) → position p links ≡ o → o ≡ None
     by None is = refl
     by (Some i) found =
         let at = position-Some p links i some_link found in
         absurd (true≢false (sym at.1 ∙ none i (get_or links i some_link) (slice_get-get_or links i some_link at.0)))
 
--- tests that numbers fail which are below, or not above
+-- numbers below a limit, or not above it, fail these tests
 unreached : (most n : ℕ) → n < most → nat_le most n ≡ false
 unreached most n below = grind (arith, nat_tests)
 
@@ -80,7 +80,7 @@ within : (most n : ℕ) → n ≤ most → nat_lt most n ≡ false
 within most n few = grind (arith, nat_tests)
 
 module _ (d : Domain) (good : IsDomain d) where
-  -- the bridges are apart, and so are the stations
+  -- the bridges' names differ, and so do the stations'
   bridges_apart : AreApart d.bridges
   bridges_apart = front_apart d.bridges d.stations good.distinct
 
@@ -95,14 +95,14 @@ module _ (d : Domain) (good : IsDomain d) where
       no_place (name_of_node d (Station s)) d.bridges (λ i there. apart_across d.bridges d.stations good.distinct i s there inside) in
       (λ i. node_or (no_bridge i) (place_is d.stations stations_apart s inside i))
 
-  -- a node that isn't a bridge is told from it
+  -- a node that isn't a bridge is distinguished from it
   is_other : (node : Node) (b : ℕ) → node ≢ Bridge b → same_node node (Bridge b) ≡ false
   is_other node b other = elim (cases_Bool (same_node node (Bridge b))) [
     | inl same ↦ absurd (other (same_node_true node (Bridge b) same))
     | inr not_same ↦ not_same
   ]
 
-  -- a link is joined by the names of its ends
+  -- a link is found by the names of its ends
   link_is : (link : Link) → IsAcceptedLink d link →
       joined_link d.bridges d.stations (record { from = name_of_node d (Bridge link.from); to = name_of_node d link.to; times = times_of link }) ≡ Ok link
   link_is link accepted =
@@ -116,7 +116,7 @@ module _ (d : Domain) (good : IsDomain d) where
       (λ i. and_then (ok_or (from_is i) unknown_from) (λ from. and_then (ok_or (to_is i) unknown_to) (λ to. tell from to)))
       ∙ rw (is_other link.to link.from accepted.not_to_itself) refl
 
-  -- and so is each
+  -- and so is each link of a list
   links_are : (links : List Link) → ((k : ℕ) (link : Link) → slice_get links k ≡ Some link → IsAcceptedLink d link)
       → joined d.bridges d.stations (told_links d links).links ≡ Ok links
   links_are [] accepted = refl
@@ -124,7 +124,7 @@ module _ (d : Domain) (good : IsDomain d) where
       let rest = links_are links (λ k other at. accepted (suc k) other at) in
       (λ i. and_first (link_is link (accepted 0 link refl) i) (rest i))
 
-  -- no guard time, no delay and no gap is too long, and clocks are nowhere too far apart
+  -- no guard band, delay or gap is too long, and no two clocks are too far apart
   short_guards : first_long_guard d.cycle_time d.guard d.links ≡ None
   short_guards =
       finds_none (λ (link : Link). has_long_guard d.cycle_time d.guard (times_of link)) d.links
@@ -145,7 +145,7 @@ module _ (d : Domain) (good : IsDomain d) where
       finds_none (λ (link : Link). has_long_sync d.sync (times_of link)) d.links
       (λ k link at. within (time_of 72 (ticks_of_octet link.rate) + link.least) d.sync (good.accepted.links_good k link at).sync_short)
 
-  -- the guard time is within the cycle, and nothing is too many
+  -- the guard band is shorter than the cycle, and no limit is exceeded
   guard_is_short : nat_le d.cycle_time d.guard ≡ false
   guard_is_short = unreached d.cycle_time d.guard good.accepted.guard_short
 
@@ -168,7 +168,7 @@ module _ (d : Domain) (good : IsDomain d) where
       refuse (short_syncs i) fault.SyncTooLong (
       Ok (with_these (told_domain d) d.links)))))))))
 
-  -- what the domain's table says is the domain
+  -- the domain that its table is read as is the domain
   pub domain_passes : checked (told_domain d) ≡ Ok d
   domain_passes =
       (λ i. refuse (none_taken (d.bridges ++ d.stations) good.distinct i) fault.NameTaken (

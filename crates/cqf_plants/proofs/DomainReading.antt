@@ -1,4 +1,4 @@
--- A domain's table, read.
+-- Reading a domain's table.
 use Rattle.std.proofs.Common.{◌≡◌, ◌==◌, ◌+◌, ◌<◌, ◌≤◌, ℕ, suc, pos, List, [], ◌∷◌, Bool, true, false, cond, Option, Some, None, Ok, Err, All, IfSome, IsTrue}
 use Rattle.std.proofs.Common.{length, map, slice_get, nat_le, ok_or, option_map, unwrap_or, eqb-true, refl, ap, sym, ◌∙◌, arith}
 use Rattle.std.specs.Option.{option_and_then, option_or}
@@ -47,12 +47,12 @@ number_if_reads at least most members (Some n) is good =
     ∙ ap (λ o. ok_or o (BadValue at)) (number_reads least most n good.0 good.1) in
     ap (λ o. number_if_by o at least most members) is ∙ ap (λ r. and_then r (λ number. Ok (Some number))) read
 
--- a number that is told only where it isn't another is the other where it isn't told
+-- a number that is written only if it differs from a default is read as that default if it isn't written
 pub told_or : (same : Bool) (n default : ℕ) → (same ≡ true → n ≡ default) → unwrap_or (cond same None (Some n)) default ≡ n
 told_or true n default is = sym (is refl)
 told_or false n default is = refl
 
--- a name, and several
+-- a name, and several names
 pub name_reads : (name : List ℕ) → IsTrue (is_name name) → name_from (string name) ≡ Some name
 name_reads name is = ap (λ b. cond b (Some name) None) is
 
@@ -75,12 +75,12 @@ rate_reads Mb25000 = refl
 rate_reads Mb40000 = refl
 rate_reads Mb100000 = refl
 
--- some names of which there is one at least
+-- at least one name
 some_reads : (key : Key) (names : List (List ℕ)) → 0 < length names → if_some key names ≡ Ok names
 some_reads key [] some = absurd (omega arith)
 some_reads key (name ∷ names) some = refl
 
--- two numbers side by side
+-- a pair of numbers
 abbrev pair : ℕ → ℕ → ℕ × ℕ
 pair a b = (a, b)
 
@@ -94,12 +94,12 @@ delays_read false least most is ordered few =
     ap (option_and_then (λ n. option_map (pair n) (number_from n 10000000 (integer (pos most))))) (number_reads 0 10000000 least (omega arith) low)
     ∙ ap (option_map (pair least)) (number_reads least 10000000 most ordered few)
 
--- a guard time of a link's own is in its range, where its guard time is
+-- if a link's guard band is in its range, so is the link's own one
 own_in_range : (own : Option ℕ) (default below most : ℕ) → below < unwrap_or own default → unwrap_or own default ≤ most → IfSome own (λ n. (1 ≤ n) × (n ≤ most))
 own_in_range None default below most some few = tt
 own_in_range (Some n) default below most some few = let both : (1 ≤ n) × (n ≤ most) = (omega arith, few) in both
 
--- what stands in a link's table behind what may be absent, and there
+-- the values of a link's table after the members that may be absent, and at them
 rate_at : (from to : List ℕ) (delays : Data) (rate : ℕ) (guard : Option ℕ) →
     value_at key.Rate (members_of_link from to delays rate guard) ≡ Some (number_data rate)
 rate_at from to delays rate None = refl
@@ -114,12 +114,12 @@ own_at : (from to : List ℕ) (delays : Data) (rate : ℕ) (guard : Option ℕ) 
 own_at from to delays rate None = refl
 own_at from to delays rate (Some n) = refl
 
--- and at the end of a domain's
+-- and the value at the end of a domain's table
 sync_at : (told : Option ℕ) → value_at key.Sync (some_then key.Sync told no_members) ≡ option_map number_data told
 sync_at None = refl
 sync_at (Some n) = refl
 
--- the links' tables are tables, and lack nothing
+-- the links' tables are tables, and lack no key
 link_lacks_nothing : (from to : List ℕ) (delays : Data) (rate : ℕ) (guard : Option ℕ) →
     first_absent link_keys (members_of_link from to delays rate guard) ≡ None
 link_lacks_nothing from to delays rate None = refl
@@ -137,17 +137,17 @@ links_lack_nothing d (link ∷ links) =
     let rest = links_lack_nothing d links in
     (λ i. option_or (here i) (rest i))
 
--- nothing is missing of a domain's document
+-- a domain's document lacks no key
 pub domain_lacks_nothing : (d : Domain) (streams : Data) → first_missing domain_keys key.Links link_keys (domain_members d streams) ≡ None
 domain_lacks_nothing d streams = links_lack_nothing d d.links
 
 module _ (d : Domain) (good : IsDomain d) where
-  -- a node's name has the form of one
+  -- a node's name has the form of a name
   is_named : (node : Node) → IsNode d node → IsTrue (is_name (name_of_node d node))
   is_named (Bridge b) inside = good.bridges_named b [] inside
   is_named (Station s) inside = good.stations_named s [] inside
 
-  -- what a link's table says beside its ends
+  -- what is read in a link's table besides its ends
   times_are_read : (link : Link) → IsAcceptedLink d link → times_read (link_members d link) ≡ Ok (times_of link)
   times_are_read link accepted =
       let from = name_of_node d (Bridge link.from) in
@@ -184,7 +184,7 @@ module _ (d : Domain) (good : IsDomain d) where
       and_then (times_are i) (λ (times : LinkTimes).
       Ok (record { from = from; to = to; times = times })))))
 
-  -- and each of some
+  -- and each of a list of links
   links_read : (links : List Link) → ((k : ℕ) (link : Link) → slice_get links k ≡ Some link → IsAcceptedLink d link)
       → tables_from key.Links link_read (items_of (map (λ link. table (link_members d link)) links)) ≡ Ok ((told_links d links).links)
   links_read [] accepted = refl
@@ -198,7 +198,7 @@ module _ (d : Domain) (good : IsDomain d) where
       (links_are_tables d d.links)
       ∙ links_read d.links good.accepted.links_good
 
-  -- how far clocks may be apart
+  -- how far clocks may differ
   sync_reads : (streams : Data) → sync_from (domain_members d streams) ≡ Ok d.sync
   sync_reads streams =
       let none : (d.sync == 0) ≡ true → d.sync ≡ 0 = λ is. eqb-true d.sync 0 is in
@@ -211,7 +211,7 @@ module _ (d : Domain) (good : IsDomain d) where
       told_few true n few = tt
       told_few false n few = let both : (0 ≤ n) × (n ≤ 10000000) = (omega arith, few) in both
 
-  -- what a domain's table says
+  -- what is read in a domain's table
   pub domain_reads : (streams : Data) → domain_from d.limits (domain_members d streams) ≡ Ok (told_domain d)
   domain_reads streams =
       let cycle_is = number_reads 10000 10000000 d.cycle_time good.accepted.cycle_least good.accepted.cycle_most in

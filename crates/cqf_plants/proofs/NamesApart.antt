@@ -1,4 +1,4 @@
--- The places of names that are apart.
+-- The positions of names that differ.
 use Rattle.std.proofs.Common.{◌≡◌, ◌≢◌, ◌+◌, ◌<◌, ℕ, List, [], ◌++◌, Bool, Option, Some, None, AllPairs, MatchOption, length, get_or}
 use Rattle.std.proofs.Common.{refl, ap, sym, ◌∙◌, inl, inr, arith, position}
 use Rattle.std.proofs.lemmas.Bool.{cases_order, true≢false}
@@ -13,15 +13,15 @@ use Rattle.cqf_topology.specs.FirstFaults.{IsFirstRepeated, StoodEarlier}
 use Rattle.cqf_topology.proofs.Accepted.{position-None}
 use Rattle.cqf_topology.proofs.Told.{taken-told}
 
--- each two of some names differ
+-- each two of the names differ
 abbrev pub AreApart : List (List ℕ) → Type 0
 AreApart names = AllPairs (λ a b. a ≢ b) names
 
--- none of them is taken
+-- if the names differ, none is taken
 pub none_taken : (names : List (List ℕ)) → AreApart names → first_taken [] names ≡ None
 none_taken names apart = by (first_taken [] names) (taken-told names)
   where
-    -- a name that is told as taken would stand twice
+    -- a name that is reported as taken would occur twice
     by : (o : Option (List ℕ)) → MatchOption o ((place : ℕ) → ¬ StoodEarlier names place) (λ name. IsFirstRepeated names name) → o ≡ None
     by None none = refl
     by (Some name) first =
@@ -29,15 +29,15 @@ none_taken names apart = by (first_taken [] names) (taken-told names)
         absurd (apart again.before first.place [] again.earlier (slice_get_within names first.place again.name again.stands)
         (get_or_from_slice_get names again.before again.name [] again.stood ∙ sym (get_or_from_slice_get names first.place again.name [] again.stands)))
 
--- each is found at its place
+-- each name is found at its index
 pub place_is : (names : List (List ℕ)) → AreApart names → (k : ℕ) → k < length names → place_of (get_or names k []) names ≡ Some k
 place_is names apart k inside = by (position same names) refl
   where
-    -- a name is this one
+    -- whether a name equals this one
     same : List ℕ → Bool
     same = λ (other : List ℕ). is_text other (get_or names k [])
 
-    -- no other place is found
+    -- no other index is found
     by : (o : Option ℕ) → position same names ≡ o → o ≡ Some k
     by None none =
         absurd (true≢false (sym (is_text_itself (get_or names k [])) ∙
@@ -53,11 +53,11 @@ place_is names apart k inside = by (position same names) refl
           ]
         ]
 
--- what stands nowhere among them isn't found
+-- a name that occurs nowhere in the list isn't found
 pub no_place : (name : List ℕ) (names : List (List ℕ)) → ((i : ℕ) → i < length names → get_or names i [] ≢ name) → place_of name names ≡ None
 no_place name names nowhere = by (position (λ other. is_text other name) names) refl
   where
-    -- a place that is found would have it
+    -- an index that is found would have that name
     by : (o : Option ℕ) → position (λ other. is_text other name) names ≡ o → o ≡ None
     by None none = refl
     by (Some i) found =
@@ -65,7 +65,7 @@ no_place name names nowhere = by (position (λ other. is_text other name) names)
         absurd (nowhere i at.0 (is_text_same _ _ at.1))
 
 module _ (xs ys : List (List ℕ)) (apart : AreApart (xs ++ ys)) where
-  -- of two lists of names that are apart together, each is
+  -- if all names of two lists together differ, so do those of each list
   pub front_apart : AreApart xs
   front_apart i j d before inside same =
       apart i j d before (omega (arith, length-append xs ys))
@@ -76,7 +76,7 @@ module _ (xs ys : List (List ℕ)) (apart : AreApart (xs ++ ys)) where
       apart (length xs + i) (length xs + j) d (omega arith) (omega (arith, length-append xs ys))
       (get_or-append-add xs ys i d ∙ same ∙ sym (get_or-append-add xs ys j d))
 
-  -- and no name of the first stands in the second
+  -- and no name of the first list occurs in the second
   pub apart_across : (i j : ℕ) → i < length xs → j < length ys → get_or xs i [] ≢ get_or ys j []
   apart_across i j in_front behind same =
       apart i (length xs + j) [] (omega arith) (omega (arith, length-append xs ys))

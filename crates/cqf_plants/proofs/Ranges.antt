@@ -1,4 +1,4 @@
--- What is read of a stream's table can be told.
+-- The numbers of a stream that is read from a table fit in a text.
 use Rattle.std.proofs.Common.{◌≡◌, ◌≤◌, ℕ, Bool, true, false, cond, Option, Some, None, Result, Ok, Err, IfSome, List, [], All, ok_or, subst, ap, arith}
 use Rattle.std.specs.Result.{result_map_both}
 use Rattle.toml.specs.Data.{Data, Items, Members, as_array, as_str, as_table, member, no_members}
@@ -27,7 +27,7 @@ number_in_range : (least most : ℕ) (d : Data) (n : ℕ) → number_from least 
 number_in_range least most d n h =
     number-range key.Octets least most (member (key_text key.Octets) d no_members) n (ap (λ o. ok_or o (BadValue key.Octets)) h)
 
--- and so is what stands for one that is absent
+-- and so is the default of an absent number
 default_in_range : (at : TrafficKey) (n : ℕ) → default_of at ≡ Some n → IsInRange at n
 default_in_range Interval n h = absurd (cc)
 default_in_range Frames n h = let e : 1 ≡ n = cc in subst (IsInRange Frames) e (record { least = omega arith; most = omega arith })
@@ -35,12 +35,12 @@ default_in_range Size n h = absurd (cc)
 default_in_range Jitter n h = let e : 0 ≡ n = cc in subst (IsInRange Jitter) e (record { least = omega arith; most = omega arith })
 default_in_range Offset n h = let e : 0 ≡ n = cc in subst (IsInRange Offset) e (record { least = omega arith; most = omega arith })
 
--- what was read behind a fault of another kind
+-- if a mapped result is a value, so was the result before its error was mapped
 map_both-Ok : {A E F : Type 0} (f : E → F) (r : Result A E) (x : A) → result_map_both (λ y. y) f r ≡ Ok x → r ≡ Ok x
 map_both-Ok f (Ok y) x h = cc
 map_both-Ok f (Err e) x h = absurd (cc)
 
--- the numbers of a request are such as may stand in a text
+-- a request's numbers are at most 2^32 - 1
 record HasFew (request : PacedText) : Type 0 where
   octets : request.octets ≤ 4294967295
   every : request.every ≤ 4294967295
@@ -51,7 +51,7 @@ module _ (table : Members) where
   number_in : (at : TrafficKey) (n : ℕ) → number_at at table ≡ Ok n → IsInRange at n
   number_in at n h = by (traffic_at at table) h
     where
-      -- whether it stands there or not
+      -- whether or not the key is there
       by : (o : Option Data) → number_by o at ≡ Ok n → IsInRange at n
       by None h = default_in_range at n (ok_or-Ok (default_of at) at n h)
       by (Some d) h =
@@ -80,7 +80,7 @@ module _ (table : Members) where
   pub traffic_in_range : (traffic : Option TrafficText) → traffic_from table ≡ Ok traffic → IfSome traffic IsTrafficText
   traffic_in_range traffic h = by (has_traffic table) h
     where
-      -- whether there is some or not
+      -- whether or not there is traffic
       by : (b : Bool) → cond b (and_then (numbers_from table) (λ t. Ok (Some t))) (Ok None) ≡ Ok traffic → IfSome traffic IsTrafficText
       by true h =
           let (t, read, some) = and_then-Ok (numbers_from table) (λ t. Ok (Some t)) traffic h in
@@ -96,12 +96,12 @@ module _ (table : Members) where
   number_or_in_range : (at : Key) (default n : ℕ) → default ≤ 4294967295 → number_or at default table ≡ Ok n → n ≤ 4294967295
   number_or_in_range at default n few h = by (value_at at table) h
     where
-      -- whether it stands there or not
+      -- whether or not the key is there
       by : (o : Option Data) → number_or_by o at default table ≡ Ok n → n ≤ 4294967295
       by None h = let same : default ≡ n = cc in subst (λ m. m ≤ 4294967295) same few
       by (Some d) h = (number-range at 0 4294967295 table n h).1
 
-  -- the numbers of a request are of 32 bits
+  -- a request that is read has numbers of at most 32 bits
   request_in_range : (request : PacedText) → paced_from table ≡ Ok request → HasFew request
   request_in_range request h =
       let (name, at_name, h1) = and_then-Ok (read_at key.Name as_str table) _ request h in
@@ -118,7 +118,7 @@ module _ (table : Members) where
       } in
       subst HasFew same good
 
-  -- a stream that is read can be told
+  -- the numbers of a stream that is read fit in a text
   pub flow_is_tellable : (flow : FlowText) → flow_from table ≡ Ok flow → IsTellable flow
   flow_is_tellable flow h =
       let (planned, at_planned, h1) = and_then-Ok (or_streams (planned_from table)) _ flow h in
@@ -137,11 +137,11 @@ module _ (table : Members) where
       } in
       subst IsTellable same good
 
--- the streams of an array that is read can be told
+-- the numbers of the streams of an array that is read fit in a text
 array_is_tellable : (items : Items) (flows : List FlowText) → flows_of_array items ≡ Ok flows → All IsTellable flows
 array_is_tellable items flows h = by (are_tables items) h
   where
-    -- no table
+    -- the fault if an element isn't a table
     fault : FlowsFault
     fault = flows_fault.Streams (BadValue key.Streams)
 
@@ -158,7 +158,7 @@ array_is_tellable items flows h = by (are_tables items) h
     by true read = each_from-All IsTellable reader good items flows read
     by false read = absurd (cc)
 
--- and so those of a text
+-- and so for the streams of a text
 pub read_is_tellable : ReadStreamsAreTellable
 read_is_tellable text flows h =
     let (table, whole, read) = and_then-Ok (or_streams (whole_document streams_keys key.Streams [] text)) _ flows h in

@@ -1,4 +1,4 @@
--- A told plant, read.
+-- Reading the text of a plan.
 use Rattle.std.proofs.Common.{◌≡◌, ◌∙◌, ℕ, suc, List, [], ◌∷◌, true, cond, None, Result, Ok, Err, All, map, ok_or, refl, ap, arith}
 use Rattle.std.specs.Option.{option_or}
 use Rattle.std.proofs.lemmas.List.{map-id}
@@ -34,7 +34,7 @@ all_tables : (flows : List FlowText) → are_tables (tables flows) ≡ true
 all_tables [] = refl
 all_tables (flow ∷ flows) = all_tables flows
 
--- nothing is missing of them, whether or not their traffic is asked for
+-- they lack no key, whether or not traffic is required of them
 lack_no_key : (flows : List FlowText) → first_absent_within stream_keys (tables flows) ≡ None
 lack_no_key [] = refl
 lack_no_key (flow ∷ flows) = (λ i. option_or (stream_lacks_no_key flow i) (lack_no_key flows i))
@@ -47,7 +47,7 @@ lack_nothing : (flows : List FlowText) → first_lack_within (tables flows) ≡ 
 lack_nothing [] = refl
 lack_nothing (flow ∷ flows) = (λ i. option_or (stream_lacks_nothing flow i) (lack_nothing flows i))
 
--- each is read, where each can be
+-- each is read, if each can be read
 each_read : {A E : Type 0} (fault : E) (reader : Members → Result A E) (f : FlowText → A)
     → ((flow : FlowText) → IsTellable flow → reader (stream_members flow) ≡ Ok (f flow))
     → (flows : List FlowText) → All IsTellable flows → each_from (λ d. and_then (ok_or (as_table d) fault) reader) (tables flows) ≡ Ok (map f flows)
@@ -61,7 +61,7 @@ module _ (d : Domain) (flows : List FlowText) (text : List ℕ) (told : IsToldPl
   document_is : document_of text ≡ Ok (plant_members d flows)
   document_is = (λ i. cond (told.encoded i) (ok_or (told.document i) NotToml) (Err NotToml))
 
-  -- and where no key is missing of it
+  -- and if it lacks no key
   whole_is : (keys : List Key) (elements : Key) (within : List Key) → first_missing keys elements within (plant_members d flows) ≡ None
       → whole_document keys elements within text ≡ Ok (plant_members d flows)
   whole_is keys elements within none =
@@ -95,7 +95,7 @@ module _ (d : Domain) (flows : List FlowText) (text : List ℕ) (told : IsToldPl
       ∙ each_read fault flow_from (λ flow. flow) flow_is_read flows good
       ∙ ap (λ all. Ok all) (map-id flows)
 
--- a told plant reads back
+-- a plan's text reads back
 pub told_reads_back : ToldPlantsReadBack
 told_reads_back d flows text good tellable told = record {
   domain_is = domain_reads_back d flows text told good;

@@ -1,4 +1,4 @@
--- How deep a plant's table nests, and that it has no dates.
+-- How deep a plan's table nests, and that it has no dates.
 use Rattle.std.proofs.Common.{◌≡◌, ◌≤◌, ◌==◌, ◌&&◌, ℕ, pos, List, [], ◌∷◌, Bool, true, false, cond, Option, Some, None, map, refl, arith}
 use Rattle.toml.specs.Data.{Data, Members, array, integer, string, table, no_members}
 use Rattle.toml.specs.Data.{depth, items_depth, members_depth, has_valid_dates, items_have_valid_dates, members_have_valid_dates}
@@ -16,7 +16,7 @@ use Rattle.cqf_plants.specs.DomainMembers.{delays_data, link_members, links_data
 use Rattle.cqf_plants.specs.StreamMembers.{branches_then, every_told, members_by, phase_told, stream_members, streams_data, traffic_then}
 use Rattle.cqf_plants.specs.Plants.{plant_members}
 
--- items of which each nests no deeper than so
+-- if no item nests deeper than n, nor do the items together
 each_shallow : {X : Type 0} (f : X → Data) (n : ℕ) → ((x : X) → depth (f x) ≤ n) → (xs : List X) → items_depth (items_of (map f xs)) ≤ n
 each_shallow f n each [] = omega arith
 each_shallow f n each (x ∷ xs) =
@@ -38,7 +38,7 @@ some_shallow : (key : Key) (number : Option ℕ) (more : Members) → members_de
 some_shallow key None more shallow = shallow
 some_shallow key (Some n) more shallow = omega arith
 
--- the end of a stream's table: its branches, and what stands behind them
+-- the end of a stream's table: its branches, and what follows them
 end_shallow : (request : PacedText) (more : Members) → members_depth more ≤ 2 →
     members_depth (branches_then request.paths (some_then Phase (phase_told request) more)) ≤ 2
 end_shallow request more shallow = branches_shallow request.paths _ (some_shallow Phase (phase_told request) more shallow)
@@ -63,7 +63,7 @@ link_shallow : (from to : List ℕ) (delays : Data) (rate : ℕ) (guard : Option
 link_shallow from to delays rate None shallow = omega arith
 link_shallow from to delays rate (Some n) shallow = omega arith
 
--- a plant's table nests no deeper than is read
+-- a plan's table nests no deeper than the reader allows
 pub plant_shallow : (d : Domain) (flows : List FlowText) → members_depth (plant_members d flows) ≤ 80
 plant_shallow d flows =
     let bridges : depth (texts_data d.bridges) ≤ 1 = texts_shallow d.bridges in
@@ -82,7 +82,7 @@ plant_shallow d flows =
     let sync : members_depth (some_then Sync (sync_told d.sync) no_members) ≤ 2 = some_shallow Sync (sync_told d.sync) no_members (omega arith) in
     omega arith
 
--- items of which each has no date
+-- items without dates
 each_dateless : {X : Type 0} (f : X → Data) → ((x : X) → has_valid_dates (f x) ≡ true) → (xs : List X) → items_have_valid_dates (items_of (map f xs)) ≡ true
 each_dateless f each [] = refl
 each_dateless f each (x ∷ xs) = (λ i. each x i && each_dateless f each xs i)
@@ -121,7 +121,7 @@ link_dateless : (from to : List ℕ) (delays : Data) (rate : ℕ) (guard : Optio
 link_dateless from to delays rate None none = (λ i. none i && true)
 link_dateless from to delays rate (Some n) none = (λ i. none i && true)
 
--- a plant's table has none
+-- a plan's table has no dates
 pub plant_dateless : (d : Domain) (flows : List FlowText) → members_have_valid_dates (plant_members d flows) ≡ true
 plant_dateless d flows =
     let links : has_valid_dates (links_data d) ≡ true = each_dateless (λ link. table (link_members d link))

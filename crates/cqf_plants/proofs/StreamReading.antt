@@ -1,4 +1,4 @@
--- A stream's table, read.
+-- Reading a stream's table.
 use Rattle.std.proofs.Common.{◌≡◌, ◌==◌, ◌≤◌, ◌∙◌, ℕ, List, [], ◌∷◌, ◌||◌, ◌&&◌, Bool, true, false, cond, Option, Some, None, Ok, IfSome, option_map}
 use Rattle.std.proofs.Common.{find, is_none, is_some, map, ok_or, unwrap_or, refl, ap, sym, arith}
 use Rattle.std.proofs.lemmas.Bool.{and_parts}
@@ -38,7 +38,7 @@ branches_read : (at : Key) (paths : List (List (List ℕ))) → text_lists_from 
 branches_read at [] = refl
 branches_read at (path ∷ paths) = (λ i. and_first (texts_read at path i) (branches_read at paths i))
 
--- a stream that is offered in each cycle says so by both numbers
+-- a stream that is offered in each cycle has `every` 1 and `phase` 0
 each_every : (every phase : ℕ) → is_each_cycle every phase ≡ true → every ≡ 1
 each_every every phase is = let parts = and_parts (every == 1) (phase == 0) is in let one : (every == 1) ≡ true = parts.0 in grind (arith, nat_tests)
 
@@ -56,7 +56,7 @@ module _ (table : Members) (request : PacedText) (deadline : Option ℕ) (traffi
   paths_read some at =
       ap (λ o. and_then (ok_or (option_and_then as_array o) (BadValue key.Paths)) (text_lists_from key.Paths)) at ∙ branches_read key.Paths some
 
-  -- so the branches of a stream
+  -- so the branches of a stream are read
   branches_by_read : (some : List (List (List ℕ))) → value_at key.Path table ≡ path_data some → value_at key.Paths table ≡ paths_data some
       → branches_from table ≡ Ok some
   branches_by_read [] at_path at_paths = (λ i. branches_by (at_path i) (at_paths i) table) ∙ paths_read [] at_paths
@@ -101,7 +101,7 @@ module _ (table : Members) (request : PacedText) (deadline : Option ℕ) (traffi
       number_or_reads key.Phase 0 (phase_told request) has.phase_at (told_few same request.phase few)
       ∙ ap Ok (told_or same request.phase 0 (λ is. each_phase request.every request.phase is))
 
-  -- the request, with these cycles and without
+  -- the request, with its cycles and without
   request_reads : request.octets ≤ 4294967295 → request_from table ≡ Ok (unpaced request)
   request_reads few =
       (λ i. and_then (name_read i) (λ name. and_then (octets_read few i) (λ octets. and_then (branches_are i) (λ paths.
@@ -149,7 +149,7 @@ module _ (table : Members) (request : PacedText) (deadline : Option ℕ) (traffi
       ap (λ b. cond b (and_then (numbers_from table) (λ t. Ok (Some t))) (Ok None)) (some_traffic t.interval (at Interval))
       ∙ ap (λ r. and_then r (λ t. Ok (Some t))) (numbers_read t good at)
 
-  -- no key is missing of those that each stream has
+  -- no key that each stream needs is missing
   has_branches : (some : List (List (List ℕ))) → (is_none (path_data some) && is_none (paths_data some)) ≡ false
   has_branches [] = refl
   has_branches (path ∷ []) = refl
@@ -162,7 +162,7 @@ module _ (table : Members) (request : PacedText) (deadline : Option ℕ) (traffi
       let branches_there : lacks key.Path table ≡ false = (λ i. is_none (has.path_at i) && is_none (has.paths_at i)) ∙ has_branches request.paths in
       (λ i. cond (name_there i) (Some key.Name) (cond (octets_there i) (Some key.Octets) (cond (branches_there i) (Some key.Path) None)))
 
-  -- nor one that traffic owes
+  -- nor is a key that traffic needs
   none_owed : (some : Option TrafficText) → ((at : TrafficKey) → traffic_at at table ≡ option_map (λ t. number_data (number_of_traffic at t)) some)
       → first_owed table ≡ None
   none_owed None at = ap (λ b. cond b (find (is_lacked table) traffic_keys) None) (no_traffic at)
@@ -194,7 +194,7 @@ flow_is_read flow good =
     (λ i. and_then (or_streams (planned_is_read flow good i)) (λ planned.
     and_then (result_map_both (λ t. t) flows_fault.BadValue (traffic_is i)) (λ traffic. Ok (planned, traffic))))
 
--- and nothing is missing of it
+-- and no key is missing
 pub stream_lacks_no_key : (flow : FlowText) → first_absent stream_keys (stream_members flow) ≡ None
 stream_lacks_no_key flow = none_absent (stream_members flow) _ _ _ (has_values flow)
 

@@ -1,4 +1,4 @@
--- What stands at each key of a stream's table.
+-- The value at each key of a stream's table.
 use Rattle.std.proofs.Common.{◌≡◌, ◌∙◌, ℕ, pos, List, [], ◌∷◌, true, false, Option, Some, None, option_map, nat_cmp, is_eq, Ordering, Less, Equal, Greater, refl, sym}
 use Rattle.std.specs.Ordering.{match_ordering}
 use Rattle.std.specs.Cmp.Lexicographic.{slice_cmp}
@@ -15,7 +15,7 @@ use Rattle.cqf_traffic.specs.TrafficText.{TrafficText, value_at as traffic_at}
 use Rattle.cqf_plants.specs.DomainMembers.{some_then, texts_data}
 use Rattle.cqf_plants.specs.StreamMembers.{branches_data, branches_then, every_told, members_by, number_of_traffic, phase_told, traffic_then}
 
--- what stands at `path`, and at `paths`
+-- the value at `path`, and at `paths`
 abbrev pub path_data : List (List (List ℕ)) → Option Data
 path_data [] = None
 path_data (path ∷ []) = Some (texts_data path)
@@ -40,7 +40,7 @@ pub record HasStream (table : Members) (request : PacedText) (deadline : Option 
   pub deadline_at : value_at Deadline table ≡ option_map number_data deadline
   pub traffic_is : (key : TrafficKey) → traffic_at key table ≡ option_map (λ t. number_data (number_of_traffic key t)) traffic
 
--- another key is passed over
+-- another key is skipped
 past : (o : Ordering) (d : Data) (found : Option Data) → is_eq o ≡ false → match_ordering o found (Some d) found ≡ found
 past Less d found other = refl
 past Equal d found other = absurd (true≢false other)
@@ -58,7 +58,7 @@ past_branches key (path ∷ []) more not_path not_paths = past (slice_cmp nat_cm
 past_branches key (path ∷ other ∷ paths) more not_path not_paths =
     past (slice_cmp nat_cmp key (key_text Paths)) (branches_data (path ∷ other ∷ paths)) (get_member key more) not_paths
 
--- a key behind those in front, and one that isn't among those at the end
+-- a key after the first ones is found past them; a key that isn't among the last ones isn't found there
 past_front : (key : List ℕ) (deadline every : Option ℕ) (more : Members) → is_eq (slice_cmp nat_cmp key (key_text Deadline)) ≡ false
     → is_eq (slice_cmp nat_cmp key (key_text Every)) ≡ false
     → get_member key (some_then Deadline deadline (some_then Every every more)) ≡ get_member key more
@@ -82,7 +82,7 @@ paths_found [] more none = refl
 paths_found (path ∷ []) more none = none
 paths_found (path ∷ other ∷ paths) more none = refl
 
--- a number is found, where there is one
+-- a number is found, if there is one
 here : (o : Ordering) (d : Data) (found : Option Data) → is_eq o ≡ true → match_ordering o found (Some d) found ≡ Some d
 here Less d found same = absurd (true≢false (sym same))
 here Equal d found same = refl
@@ -93,7 +93,7 @@ some_found : (at : Key) (number : Option ℕ) (more : Members) → is_eq (slice_
 some_found at None more same none = none
 some_found at (Some n) more same none = here (slice_cmp nat_cmp (key_text at) (key_text at)) (number_data n) (value_at at more) same
 
--- the numbers of traffic, where there is none and where there is some
+-- the numbers of traffic: none without traffic, each with traffic
 none_there : (request : PacedText) (deadline : Option ℕ) (key : TrafficKey) → traffic_at key (members_by request deadline None) ≡ None
 none_there request deadline Interval =
     past_front (traffic_key_text Interval) deadline (every_told request) _ refl refl

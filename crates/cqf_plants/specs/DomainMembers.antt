@@ -1,4 +1,4 @@
--- The table that a domain is told by: its keys in the order of their bytes.
+-- The table that a domain is written as. Its keys are in the order of their bytes.
 use Rattle.std.specs.Prelude.{ℕ, pos, List, [], ◌∷◌, ◌==◌, Option, Some, None, if◌then◌else◌, map}
 use Rattle.std.specs.Ordering.{match_ordering, nat_cmp}
 use Rattle.std.specs.Cmp.Lexicographic.{slice_cmp}
@@ -14,27 +14,27 @@ use Rattle.cqf_topology.specs.declared.keys.Key.TheVariants.{Bridges, Cycle, Del
 use Rattle.cqf_topology.specs.Fields.{key_text}
 use Rattle.cqf_topology.specs.NodeNames.{name_of_node}
 
--- a table with a value at a key, in the order of the keys
+-- a table with a value put at a key; keys stay in order, and an earlier value at the key is replaced
 abbrev pub put : List ℕ → Data → Members → Members
 put key value no_members = member key value no_members
 put key value (member other that more) =
     match_ordering (slice_cmp nat_cmp key other) (member key value (member other that more)) (member other value more) (member other that (put key value more))
 
--- a number at a key, where there is one
+-- puts a number at a key, if there is a number
 abbrev pub put_some : Key → Option ℕ → Members → Members
 put_some key None members = members
 put_some key (Some n) members = put (key_text key) (integer (pos n)) members
 
--- a number at a key, in front of other members
+-- a number at a key, before other members
 abbrev pub number_then : List ℕ → ℕ → Members → Members
 number_then key n more = member key (integer (pos n)) more
 
--- the same, where there is such a number
+-- the same, if there is a number; otherwise the other members alone
 abbrev pub some_then : Key → Option ℕ → Members → Members
 some_then key None more = more
 some_then key (Some n) more = number_then (key_text key) n more
 
--- some texts, as an array
+-- a list of texts, as an array
 abbrev pub texts_data : List (List ℕ) → Data
 texts_data texts = array (items_of (map string texts))
 
@@ -50,12 +50,12 @@ megabits_of Mb25000 = 25000
 megabits_of Mb40000 = 40000
 megabits_of Mb100000 = 100000
 
--- a link's delays: one number where the least is the greatest, else both, the least first
+-- a link's delays: one number if the least delay equals the greatest; otherwise both, the least first
 abbrev pub delays_data : ℕ → ℕ → Data
 delays_data least most =
     if least == most then integer (pos most) else array (items_of (integer (pos least) ∷ integer (pos most) ∷ []))
 
--- a link's table, of its ends by their names, its delays, its rate, and its own guard time, where it has one
+-- a link's table: the names of its ends, its delays, its rate, and its own guard band if it has one
 abbrev pub members_of_link : List ℕ → List ℕ → Data → ℕ → Option ℕ → Members
 members_of_link from to delays rate guard =
     member (key_text Delay) delays (
@@ -72,11 +72,11 @@ link_members d link =
 abbrev pub links_data : Domain → Data
 links_data d = array (items_of (map (λ link. table (link_members d link)) d.links))
 
--- how far clocks may be apart, where they may at all
+-- how far clocks may differ; none if they may not
 abbrev pub sync_told : ℕ → Option ℕ
 sync_told sync = if sync == 0 then None else Some sync
 
--- a domain's table, with what stands at `streams` beside it
+-- a domain's table; the value at `streams` is given
 abbrev pub domain_members : Domain → Data → Members
 domain_members d streams =
     member (key_text Bridges) (texts_data d.bridges) (

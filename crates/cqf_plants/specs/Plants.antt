@@ -1,4 +1,4 @@
--- A plant's text, and what every command reads in it.
+-- The text of a plan, and what each command reads in it.
 use Rattle.std.specs.Prelude.{ℕ, ◌≡◌, ◌≤◌, false, true, List, map, Some, Ok, All, IfSome}
 use Rattle.std.specs.Str.{is_utf8}
 use Rattle.toml.specs.Data.{Members}
@@ -14,17 +14,17 @@ use Rattle.cqf_traffic.specs.TrafficText.{IsTrafficText}
 use Rattle.cqf_plants.specs.DomainMembers.{domain_members}
 use Rattle.cqf_plants.specs.StreamMembers.{streams_data}
 
--- a plant's table: a domain and its streams
+-- a plan's table: a domain and its streams
 abbrev pub plant_members : Domain → List FlowText → Members
 plant_members d flows = domain_members d (streams_data flows)
 
--- a text tells a plant: it is UTF-8 and writes the plant's table, and it is TOML of just that table
+-- a text is that of a plan: it is UTF-8, it writes the plan's table, and as TOML it parses to exactly that table
 pub record IsToldPlant (d : Domain) (flows : List FlowText) (text : List ℕ) : Type 0 where
   pub encoded : is_utf8 text ≡ true
   pub written : IsDocumentText false (plant_members d flows) text
   pub document : parse_document text ≡ Some (plant_members d flows)
 
--- a stream's numbers are such as may stand in a text
+-- a stream's numbers fit in a text: each is at most 2^32 - 1, a deadline is at least 1, and traffic is in its ranges
 pub record IsTellable (flow : FlowText) : Type 0 where
   pub octets : flow.0.0.octets ≤ 4294967295
   pub every : flow.0.0.every ≤ 4294967295
@@ -32,12 +32,12 @@ pub record IsTellable (flow : FlowText) : Type 0 where
   pub deadline : IfSome flow.0.1 (λ deadline. (1 ≤ deadline) × (deadline ≤ 4294967295))
   pub traffic : IfSome flow.1 IsTrafficText
 
--- what is read of a request where nobody asks in which cycles its stream is offered
+-- a request without its cycles: its name, octets and branches
 abbrev pub unpaced : PacedText → RequestText
 unpaced request = record { name = request.name; octets = request.octets; paths = request.paths }
 
--- a text reads as a plant: as its domain, and as its streams by each reader, with traffic, with deadlines alone, as requests, and as
--- requests of which nobody asks in which cycles
+-- a text reads as a plan: as its domain, and as its streams by each reader: with deadlines and traffic, with deadlines
+-- only, as requests with their cycles, and as requests without cycles
 pub record ReadsAsPlant (d : Domain) (flows : List FlowText) (text : List ℕ) : Type 0 where
   pub domain_is : domain_within d.limits text ≡ Ok d
   pub flows_are : flows_of_text text ≡ Ok flows
@@ -45,11 +45,11 @@ pub record ReadsAsPlant (d : Domain) (flows : List FlowText) (text : List ℕ) :
   pub paced_are : paced_of_text text ≡ Ok (map (λ flow. flow.0.0) flows)
   pub requests_are : streams_of_text text ≡ Ok (map (λ flow. unpaced flow.0.0) flows)
 
--- a text that tells an accepted domain and streams that can be told reads as just these
+-- the text of an accepted domain and of streams whose numbers fit reads as exactly that domain and these streams
 abbrev pub ToldPlantsReadBack : Type 0
 ToldPlantsReadBack = (d : Domain) (flows : List FlowText) (text : List ℕ) → IsDomain d → All IsTellable flows → IsToldPlant d flows text →
     ReadsAsPlant d flows text
 
--- streams that are read from any text can be told
+-- the numbers of streams that are read from any text fit in a text
 abbrev pub ReadStreamsAreTellable : Type 0
 ReadStreamsAreTellable = (text : List ℕ) (flows : List FlowText) → flows_of_text text ≡ Ok flows → All IsTellable flows

@@ -1,4 +1,4 @@
--- The tables that streams are told by: their keys in the order of their bytes.
+-- The tables that streams are written as. Their keys are in the order of their bytes.
 use Rattle.std.specs.Prelude.{ℕ, pos, List, [], ◌∷◌, ◌&&◌, ◌==◌, Bool, if◌then◌else◌, Option, Some, None, map}
 use Rattle.toml.specs.Data.{Data, string, integer, array, table, Members, no_members, member}
 use Rattle.toml.specs.View.{items_of}
@@ -13,11 +13,11 @@ use Rattle.cqf_traffic.specs.TrafficText.{TrafficText}
 use Rattle.cqf_traffic.specs.FlowsText.{FlowText}
 use Rattle.cqf_plants.specs.DomainMembers.{number_then, put, put_some, some_then, texts_data}
 
--- several branches, as an array of arrays
+-- a list of branches, as an array of arrays
 abbrev pub branches_data : List (List (List ℕ)) → Data
 branches_data paths = array (items_of (map texts_data paths))
 
--- a stream that isn't offered in each cycle says in which it is, by both numbers; one that is says neither
+-- whether a stream is offered in each cycle. Its table has both `every` and `phase` if it isn't, and neither if it is.
 abbrev pub is_each_cycle : ℕ → ℕ → Bool
 is_each_cycle every phase = (every == 1) && (phase == 0)
 
@@ -27,7 +27,7 @@ every_told request = if is_each_cycle request.every request.phase then None else
 abbrev pub phase_told : PacedText → Option ℕ
 phase_told request = if is_each_cycle request.every request.phase then None else Some request.phase
 
--- the branches of a stream: the only one is its `path`, and none or several are its `paths`
+-- the branches of a stream: a single branch is its `path`; none or several are its `paths`
 abbrev pub branches_then : List (List (List ℕ)) → Members → Members
 branches_then [] more = member (key_text Paths) (branches_data []) more
 branches_then (path ∷ []) more = member (key_text Path) (texts_data path) more
@@ -44,7 +44,7 @@ number_of_traffic Offset t = t.offset
 abbrev pub traffic_then : TrafficKey → TrafficText → Members → Members
 traffic_then key t more = number_then (traffic_key_text key) (number_of_traffic key t) more
 
--- a stream's table, of its request, deadline and traffic: all five keys of traffic stand, or none
+-- a stream's table: its request, deadline and traffic. Either all five keys of traffic are there, or none.
 abbrev pub members_by : PacedText → Option ℕ → Option TrafficText → Members
 members_by request deadline None =
     some_then Deadline deadline (
@@ -73,7 +73,7 @@ stream_members flow = members_by flow.0.0 flow.0.1 flow.1
 abbrev pub streams_data : List FlowText → Data
 streams_data flows = array (items_of (map (λ flow. table (stream_members flow)) flows))
 
--- the same, put one after the other into a table
+-- the same values, put into a table one after the other
 abbrev pub put_branches : List (List (List ℕ)) → Members → Members
 put_branches [] members = put (key_text Paths) (branches_data []) members
 put_branches (path ∷ []) members = put (key_text Path) (texts_data path) members

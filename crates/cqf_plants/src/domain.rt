@@ -13,7 +13,7 @@ use cqf_units::{Memory, Name, Rate};
 use std::alloc::Global;
 use toml::{Table, Value};
 
-/// A rate in Mb/s.
+/// Returns a rate in Mb/s.
 fn megabits_of(rate: Rate) -> u32
     ensures { result ≡ megabits_of rate }
 {
@@ -30,7 +30,7 @@ fn megabits_of(rate: Rate) -> u32
     }
 }
 
-/// The name of a node.
+/// Returns the name of a node.
 fn name_of(domain: &Domain, node: Node) -> &Name
     requires { IsNode domain.now node }
     ensures { result.now ≡ name_of_node domain.now node }
@@ -41,7 +41,8 @@ fn name_of(domain: &Domain, node: Node) -> &Name
     }
 }
 
-/// A link's delays: one number where the least is the greatest, else both. The error is want of memory.
+/// Returns a link's delays: one number if the least equals the greatest; otherwise both, the least first. Returns
+/// `Memory` if an allocation fails.
 fn delays_value(alloc: Global, least: u32, most: u32) -> Result<Value, Memory>
     ensures { IfOk result (λ value. view value ≡ delays_data least most) }
 {
@@ -54,7 +55,7 @@ fn delays_value(alloc: Global, least: u32, most: u32) -> Result<Value, Memory>
     Ok(Value::Array(both))
 }
 
-/// A link's table. The error is want of memory.
+/// Returns a link's table. Returns `Memory` if an allocation fails.
 fn link_table(alloc: Global, domain: &Domain, link: Link) -> Result<Table, Memory>
     requires from { IsNode domain.now (Bridge link.from) }
     requires to { IsNode domain.now link.to }
@@ -77,7 +78,7 @@ fn link_table(alloc: Global, domain: &Domain, link: Link) -> Result<Table, Memor
     Ok(table)
 }
 
-/// The tables of the links, by number. The error is want of memory.
+/// Returns the tables of the links, by number. Returns `Memory` if an allocation fails.
 pub(crate) fn links_value(alloc: Global, domain: &Domain) -> Result<Value, Memory>
     ensures { IfOk result (λ value. view value ≡ links_data domain.now) }
 {
@@ -90,7 +91,7 @@ pub(crate) fn links_value(alloc: Global, domain: &Domain) -> Result<Value, Memor
     Ok(Value::Array(links))
 }
 
-/// The names of the bridges, by number. The error is want of memory.
+/// Returns the names of the bridges, by number. Returns `Memory` if an allocation fails.
 pub(crate) fn bridges_value(alloc: Global, domain: &Domain) -> Result<Value, Memory>
     ensures { IfOk result (λ value. view value ≡ texts_data domain.now.bridges) }
 {
@@ -102,7 +103,7 @@ pub(crate) fn bridges_value(alloc: Global, domain: &Domain) -> Result<Value, Mem
     Ok(Value::Array(names))
 }
 
-/// The names of the stations, by number. The error is want of memory.
+/// Returns the names of the stations, by number. Returns `Memory` if an allocation fails.
 pub(crate) fn stations_value(alloc: Global, domain: &Domain) -> Result<Value, Memory>
     ensures { IfOk result (λ value. view value ≡ texts_data domain.now.stations) }
 {

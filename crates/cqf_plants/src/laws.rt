@@ -1,15 +1,15 @@
-//! What a told plant is to those who read it.
+//! What the readers of a plan's text get.
 ghost use Rattle.cqf_plants.specs.Plants.{ReadStreamsAreTellable, ToldPlantsReadBack};
 
-/// Law: the text that tells a domain and streams is read as just that domain, and as just these streams by each reader: with
-/// traffic, with deadlines alone, as requests, and as requests of which nobody asks in which cycles their streams are offered. So what is
-/// told is what every command reads.
+/// Law: the text of an accepted domain and of streams whose numbers fit in a text is read as exactly that domain and
+/// these streams. This holds for each reader: with deadlines and traffic, with deadlines only, as requests with their
+/// cycles, and as requests without cycles. So every command reads what was written.
 pub fn told_plants_read_back()
     ensures { ToldPlantsReadBack }
 {}
 
-/// Law: streams that are read from a text can be told: their numbers are such as may stand in one. So a plant that is read, and told
-/// again, is read as the same.
+/// Law: the numbers of streams that are read from a text fit in a text. So a plan that is read and written again is
+/// read as the same plan.
 pub fn read_streams_are_tellable()
     ensures { ReadStreamsAreTellable }
 {}

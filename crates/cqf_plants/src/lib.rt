@@ -1,7 +1,7 @@
-//! A plant as a text: an accepted domain and its streams, with their deadlines and traffic, written in TOML.
+//! The text of a plan: an accepted domain and its streams, with their deadlines and traffic, in TOML.
 //!
-//! [`write_plant`] gives the text of a plant. [`told_plants_read_back`] is the law that such a text is read by every command as just
-//! that domain and just these streams.
+//! [`write_plant`] returns the text of a plan. By the law [`told_plants_read_back`], every command reads such a text as
+//! exactly that domain and these streams.
 //!
 //! ```text
 //! bridges = ["stage"]
@@ -27,9 +27,9 @@
 //! size = 704
 //! ```
 //!
-//! is the text of a domain with one link, and one stream with a deadline and traffic. A stream that isn't offered in each cycle has `every`
-//! and `phase` too, a domain whose clocks may be apart `sync`, a link with a guard time of its own `guard`, and one whose delay varies both its
-//! delays, as `delay = [400, 600]`.
+//! is the text of a domain with one link, and one stream with a deadline and traffic. A stream that isn't offered in
+//! each cycle also has `every` and `phase`. A domain whose clocks may differ also has `sync`. A link with its own guard
+//! band also has `guard`. A link whose delay varies has both delays, as `delay = [400, 600]`.
 #![tactic(auto)]
 
 mod domain;

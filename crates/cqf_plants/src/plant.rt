@@ -1,4 +1,4 @@
-//! The text of a plant.
+//! The text of a plan.
 ghost use Rattle.std.specs.Prelude.{◌≡◌, IfOk, map, string_bytes};
 ghost use Rattle.toml.specs.View.{table_view};
 ghost use Rattle.cqf_traffic.specs.FlowsText.{flow_text};
@@ -14,7 +14,7 @@ use cqf_units::Memory;
 use std::alloc::{AllocError, Global};
 use toml::Table;
 
-/// How far clocks of a domain may be apart, where they may at all.
+/// Returns how far clocks of a domain may differ; `None` if they may not.
 fn told_sync(domain: &Domain) -> Option<u32>
     ensures { result ≡ sync_told domain.now.sync }
 {
@@ -25,7 +25,7 @@ fn told_sync(domain: &Domain) -> Option<u32>
     }
 }
 
-/// The table of a plant. The error is want of memory.
+/// Returns the table of a plan. Returns `Memory` if an allocation fails.
 fn plant_table(alloc: Global, domain: &Domain, flows: &[Flow]) -> Result<Table, Memory>
     ensures { IfOk result (λ table. table_view table ≡ plant_members domain.now (map flow_text flows.now)) }
 {
@@ -62,14 +62,21 @@ fn plant_table(alloc: Global, domain: &Domain, flows: &[Flow]) -> Result<Table, 
     Ok(table)
 }
 
-/// The text of a plant, in TOML: the domain, and then its streams in order, each with its deadline and traffic, where it has them. Keys
-/// stand in the order of their bytes; a stream's only branch is its `path`, none or several are its `paths`, and `every` and `phase` stand
-/// both, and only where the stream isn't offered in each cycle, that is where they aren't 1 and 0; `sync` stands only where it isn't 0, a
-/// link's least delay only where it isn't the greatest, and its `guard` only where it has its own. It reads back as this domain
-/// and these streams ([`crate::told_plants_read_back`]).
+/// Returns the text of a plan, in TOML: the domain, and its streams in order, each with its deadline and traffic if it
+/// has them.
+///
+/// * Keys are in the order of their bytes.
+/// * A stream's single branch is its `path`; none or several are its `paths`.
+/// * `every` and `phase` are both written if they aren't 1 and 0, that is if the stream isn't offered in each cycle;
+///   otherwise neither is.
+/// * `sync` is written if it isn't 0.
+/// * A link's least delay is written if it isn't the greatest, and its `guard` if it has its own.
+///
+/// If the domain is accepted and the streams' numbers fit in a text, the text reads back as this domain and these
+/// streams ([`crate::told_plants_read_back`]).
 ///
 /// # Errors
-/// Where a growth is refused.
+/// `Memory` if an allocation fails.
 pub fn write_plant(alloc: Global, domain: &Domain, flows: &[Flow]) -> Result<String, Memory>
     ensures { IfOk result (λ text. IsToldPlant domain.now (map flow_text flows.now) (string_bytes text)) }
 {

@@ -15,7 +15,7 @@ use cqf_units::{Memory, Nanos};
 use std::alloc::Global;
 use toml::{Table, Value};
 
-/// Texts as an array. The error is want of memory.
+/// Returns texts as an array. Returns `Memory` if an allocation fails.
 fn texts_value(alloc: Global, texts: &[String]) -> Result<Value, Memory>
     ensures { IfOk result (λ value. view value ≡ texts_data (map string_bytes texts.now)) }
 {
@@ -27,7 +27,7 @@ fn texts_value(alloc: Global, texts: &[String]) -> Result<Value, Memory>
     Ok(Value::Array(values))
 }
 
-/// Branches as an array of arrays. The error is want of memory.
+/// Returns branches as an array of arrays. Returns `Memory` if an allocation fails.
 fn branches_value(alloc: Global, paths: &[Vec<String>]) -> Result<Value, Memory>
     ensures { IfOk result (λ value. view value ≡ branches_data (map (λ path. map string_bytes path.items) paths.now)) }
 {
@@ -39,8 +39,8 @@ fn branches_value(alloc: Global, paths: &[Vec<String>]) -> Result<Value, Memory>
     Ok(Value::Array(values))
 }
 
-/// Puts the branches of a stream into its table: the only one as its `path`, none or several as its `paths`. The error is want of
-/// memory.
+/// Puts the branches of a stream into its table: a single branch as its `path`, none or several as its `paths`. Returns
+/// `Memory` if an allocation fails.
 fn put_branches(alloc: Global, table: &mut Table, paths: &[Vec<String>]) -> Result<(), Memory>
     ensures { OnOk result (table_view table.new ≡ put_branches (map (λ path. map string_bytes path.items) paths.now) (table_view table.old)) }
 {
@@ -56,7 +56,8 @@ fn put_branches(alloc: Global, table: &mut Table, paths: &[Vec<String>]) -> Resu
     }
 }
 
-/// Puts the cycles in which a stream is offered into its table, where it isn't each. The error is want of memory.
+/// Puts the cycles in which a stream is offered into its table, if they aren't all cycles. Returns `Memory` if an
+/// allocation fails.
 fn put_pace(alloc: Global, table: &mut Table, request: &PacedRequest) -> Result<(), Memory>
     ensures { OnOk result (table_view table.new ≡ put_pace (paced_text request.now) (table_view table.old)) }
 {
@@ -68,7 +69,7 @@ fn put_pace(alloc: Global, table: &mut Table, request: &PacedRequest) -> Result<
     Ok(())
 }
 
-/// Puts a request into its stream's table. The error is want of memory.
+/// Puts a request into its stream's table. Returns `Memory` if an allocation fails.
 fn put_request(alloc: Global, table: &mut Table, request: &PacedRequest) -> Result<(), Memory>
     ensures { OnOk result (table_view table.new ≡ put_request (paced_text request.now) (table_view table.old)) }
 {
@@ -79,7 +80,7 @@ fn put_request(alloc: Global, table: &mut Table, request: &PacedRequest) -> Resu
     Ok(())
 }
 
-/// Puts a time of a stream's traffic into its table, in nanoseconds. The error is want of memory.
+/// Puts a time of a stream's traffic into its table, in nanoseconds. Returns `Memory` if an allocation fails.
 fn put_time(alloc: Global, table: &mut Table, key: TrafficKey, time: Nanos) -> Result<(), Memory>
     requires { time.0 < 2 ^ 32 }
     ensures { OnOk result (table_view table.new ≡ put (traffic_key_text key) (integer (pos time.0)) (table_view table.old)) }
@@ -88,7 +89,8 @@ fn put_time(alloc: Global, table: &mut Table, key: TrafficKey, time: Nanos) -> R
     Ok(())
 }
 
-/// Puts a stream's traffic into its table, where there is some: all five keys. The error is want of memory.
+/// Puts a stream's traffic, if there is any, into its table, with all five keys. Returns `Memory` if an allocation
+/// fails.
 fn put_traffic(alloc: Global, table: &mut Table, traffic: Option<Traffic>) -> Result<(), Memory>
     ensures { OnOk result (table_view table.new ≡ put_traffic traffic (table_view table.old)) }
 {
@@ -102,7 +104,7 @@ fn put_traffic(alloc: Global, table: &mut Table, traffic: Option<Traffic>) -> Re
     Ok(())
 }
 
-/// A stream's table. The error is want of memory.
+/// Returns a stream's table. Returns `Memory` if an allocation fails.
 fn stream_table(alloc: Global, flow: &Flow) -> Result<Table, Memory>
     ensures { IfOk result (λ table. table_view table ≡ stream_members (flow_text flow.now)) }
 {
@@ -113,7 +115,7 @@ fn stream_table(alloc: Global, flow: &Flow) -> Result<Table, Memory>
     Ok(table)
 }
 
-/// The tables of streams, in order. The error is want of memory.
+/// Returns the tables of streams, in order. Returns `Memory` if an allocation fails.
 pub(crate) fn streams_value(alloc: Global, flows: &[Flow]) -> Result<Value, Memory>
     ensures { IfOk result (λ value. view value ≡ streams_data (map flow_text flows.now)) }
 {

@@ -1,4 +1,4 @@
-//! Values put into tables.
+//! Functions that put values into tables.
 ghost use Rattle.std.specs.Prelude.{◌≡◌, pos, OnOk};
 ghost use Rattle.toml.specs.Data.{integer, string};
 ghost use Rattle.toml.specs.View.{table_view, view};
@@ -9,7 +9,7 @@ use cqf_units::Memory;
 use std::alloc::Global;
 use toml::{Table, Value};
 
-/// Puts a value into a table. The error is want of memory.
+/// Puts a value into a table. An earlier value at the key is replaced. Returns `Memory` if an allocation fails.
 pub(crate) fn put_value(
     alloc: Global,
     table: &mut Table,
@@ -23,7 +23,7 @@ pub(crate) fn put_value(
     Ok(())
 }
 
-/// Puts a number into a table. The error is want of memory.
+/// Puts a number into a table. Returns `Memory` if an allocation fails.
 pub(crate) fn put_number(
     alloc: Global,
     table: &mut Table,
@@ -36,7 +36,7 @@ pub(crate) fn put_number(
     Ok(())
 }
 
-/// Puts a number into a table, where there is one. The error is want of memory.
+/// Puts a number into a table, if there is one. Returns `Memory` if an allocation fails.
 pub(crate) fn put_some(
     alloc: Global,
     table: &mut Table,
@@ -51,7 +51,7 @@ pub(crate) fn put_some(
     Ok(())
 }
 
-/// Puts a text into a table. The error is want of memory.
+/// Puts a text into a table. Returns `Memory` if an allocation fails.
 pub(crate) fn put_text(
     alloc: Global,
     table: &mut Table,

@@ -17,7 +17,7 @@ HasRead-nothing known old new most same few = record {
   few = subst (λ (x : List ℕ). length x ≤ most) (sym same) few;
 }
 
--- one read filled a part behind what was filled, in bytes with room that begin as before
+-- one read filled a part after the filled bytes; the beginning is as before
 pub HasRead-filled : (before after : Option (List ℕ)) (value old made read bytes : List ℕ) (at count most : ℕ) → value ≡ take at old → at ≤ length old
     → take at made ≡ take at old → take at read ≡ take at made → Consumes before after (take count (drop at read)) → count ≤ most → bytes ≡ read
     → HasRead before after value (take (at + count) bytes) (length value + most)
@@ -30,12 +30,12 @@ HasRead-filled before after value old made read bytes at count most is inside ke
       few = omega (arith, length-take (at + count) bytes);
     }
 
--- what one more read gave stands behind what was taken so far
+-- the bytes of one more read follow those taken so far
 pub Consumes-read : (before now after : Option (List ℕ)) (old new : List ℕ) (most : ℕ) → Consumes before now old → HasRead now after old new most
     → Consumes before after new
 Consumes-read before now after old new most taken read =
     subst (λ (x : List ℕ). Consumes before after x) (sym read.kept) (Consumes-trans before now after old read.given taken read.taken)
 
--- nothing was taken of a reader that wasn't read
+-- from a reader that wasn't read, nothing was taken
 pub Consumes-unread : (known : Option (List ℕ)) (bytes : List ℕ) → bytes ≡ [] → Consumes known known bytes
 Consumes-unread known bytes none = subst (λ (x : List ℕ). Consumes known known x) (sym none) (Consumes-nil known)

@@ -1,4 +1,4 @@
--- From what each step of a run says to what the run comes to.
+-- From the result of each step of a run to the result of the run.
 use Rattle.std.proofs.Common.{◌≡◌, ◌≢◌, ◌⊎◌, ◌≤◌, ◌<◌, ℕ, List, [], ◌∷◌, Bool, true, false, Option, Some}
 use Rattle.std.proofs.Common.{None, length, arith, codes, inl, inr, sym, subst, subst₂, refl}
 use Rattle.std.specs.Str.{IsUtf8}
@@ -28,7 +28,7 @@ use Rattle.cqf_program_words.specs.declared.words.Format.TheVariants as form
 use Rattle.cqf_program_words.specs.declared.words.Job.{Job}
 use Rattle.cqf_program_words.specs.declared.words.Job.TheVariants.{Check, Compile, Deliveries, Hops, Latency, Line, Load, Offers, Plan, Port, Report, Run, Summary}
 
--- words that are given and mean no job stop the run before anything is read
+-- given words that mean no job stop the run before anything is read
 pub IsStopped-by_words : (words : List (List ℕ)) (input : Reading) (stop : Stop) → words ≢ [] → input.failed ≡ false → EndsWords words stop
     → ¬ AskForVersion words → ShowsWords words stop → TellsPlainly words stop → IsStopped words input stop
 IsStopped-by_words [] input stop some sound e no_version shows tells = absurd (some refl)
@@ -44,7 +44,7 @@ IsStopped-by_words (word ∷ words) input stop some sound e no_version shows tel
   | inr (inr three) ↦ inr (inr (inr (inl (three, e.memory three))))
 ]
 
--- the version, which was asked for, stops the run before anything is read
+-- the version, if requested, stops the run before anything is read
 pub IsStopped-by_version : (words : List (List ℕ)) (input : Reading) (stop : Stop) → words ≢ [] → input.failed ≡ false → AskForVersion words
     → EndsWith 0 version_line stop → IsStopped words input stop
 IsStopped-by_version words input stop some sound asks e = elim e.statuses [
@@ -53,7 +53,7 @@ IsStopped-by_version words input stop some sound asks e = elim e.statuses [
   | inr three ↦ inr (inr (inr (inl (three, e.memory three))))
 ]
 
--- no words ask for nothing
+-- no words request nothing
 no_words_ask : ¬ AskForVersion []
 no_words_ask (inl same) = (cc)
 no_words_ask (inr same) = (cc)
@@ -68,7 +68,7 @@ HasCause-by_line bytes stop short text e shows tells = elim e.statuses [
   | inr (inr three) ↦ inr (inr (inr (inl (three, e.memory three))))
 ]
 
--- what is told of words that a line has, of the line and the words by their other names
+-- the report about a line's words, for the same line and words under other names
 pub TellsPlainly-of : {line first : List ℕ} {words taken : List (List ℕ)} (stop : Stop) → line ≡ first → words ≡ taken →
     (is_shown_whole line ≡ true → TellsPlainly words stop) → is_shown_whole first ≡ true → TellsPlainly taken stop
 TellsPlainly-of {line} {first} {words} {taken} stop same_line same_words tells =
@@ -91,11 +91,11 @@ HasCause-by_length bytes stop short long e = elim e.statuses [
   | inr three ↦ inr (inr (inr (inl (three, e.memory three))))
 ]
 
--- want of memory stops it
+-- lack of memory stops it
 pub HasCause-by_memory : (words : List (List ℕ)) (bytes : List ℕ) (stop : Stop) → stop.status ≡ 3 → stop.text.items ≡ [] → HasCause words bytes stop
 HasCause-by_memory words bytes stop three none = inr (inr (inr (inl (three, none))))
 
--- a read that was broken off ends the input
+-- a read that failed ends the input
 pub EndsInput-broken : (most : ℕ) (input : Reading) (before : Bool) (cause : ReadFailure) (stop : Stop) → Marks before input.failed cause → EndsRead cause stop
     → EndsInput most input stop
 EndsInput-broken most input before Memory stop marks ended = inr (inr ended)
@@ -104,7 +104,7 @@ EndsInput-broken most input before Fault stop marks ended = elim ended.statuses 
   | inr three ↦ inr (inr (three, ended.memory three))
 ]
 
--- more bytes than so many end it
+-- more than `most` bytes end it
 pub EndsInput-long : (most : ℕ) (input : Reading) (stop : Stop) → IsTooLong most input.bytes → input.failed ≡ false →
     EndsWith 1 (line_of (codes "cqf: input too long")) stop
     → EndsInput most input stop
@@ -122,7 +122,7 @@ IsStopped-by_input words input stop (inl e) means =
 IsStopped-by_input words input stop (inr (inl e)) means = inr (inr (inr (inr (e.0, inl (e.1.failed, e.1.line)))))
 IsStopped-by_input words input stop (inr (inr e)) means = inr (inr (inr (inl e)))
 
--- a cause stops it, once all is read
+-- if all is read, a cause stops it
 pub IsStopped-by_cause : (words : List (List ℕ)) (input : Reading) (stop : Stop) → input.failed ≡ false → IsAtEnd input.after
     → HasCause words input.bytes stop → IsStopped words input stop
 IsStopped-by_cause words input stop sound at_end (inl e) = inl (e.0, record { answered = e.1; at_end = λ _. at_end; sound = sound })
@@ -152,7 +152,7 @@ refusal_statuses limits (Offers cycles seed) input stop h = h.statuses
 refusal_statuses limits (Hops cycles stream frame) input stop h = h.statuses
 refusal_statuses limits (Plan table given) input stop h = h.statuses
 
--- a refused input with status 3 is told with no text
+-- a refused input with status 3 has no text
 refusal_memory : (limits : Limits) (job : Job) (input : List ℕ) (stop : Stop) → IsRefusal limits job input stop → stop.status ≡ 3 → stop.text.items ≡ []
 refusal_memory limits (Port until rate) input stop h = h.memory
 refusal_memory limits (Line cycles) input stop h = h.memory
@@ -234,7 +234,7 @@ pub HasCause-by_end : (words : List (List ℕ)) (bytes : List ℕ) (job : Job) (
 HasCause-by_end words bytes job stop short text means (inl h) = HasCause-by_refusal words bytes job stop short text means h
 HasCause-by_end words bytes job stop short text means (inr h) = HasCause-by_failure words bytes job stop short text means h
 
--- a run of the words that the first line has is done: of these, of their limits and of what stands behind the line by their other names
+-- a run of the first line's words is done, given these words, their limits and the rest of the input under other names
 pub IsDone-by_line : (bytes rest output : List ℕ) (words : List (List ℕ)) (limits : Limits) (job : Job) → length bytes ≤ most_bytes [] → HasWords bytes
     → words ≡ words_of [] bytes → limits ≡ limits_of (words_of [] bytes) → rest ≡ input_of [] bytes → Mean words job → IsOutput limits job rest output
     → IsDone [] bytes output
@@ -254,7 +254,7 @@ HasCause-by_line_end bytes rest words limits job stop short text same within beh
     HasCause-by_end [] bytes job stop short (λ _. text) (subst (λ (those : List (List ℕ)). Mean those job) same means)
     (subst₂ (λ (set : Limits) (input : List ℕ). IsEnd set job input stop) within behind h)
 
--- words that are given are the run's
+-- if words are given, they are the run's
 means_given : (words : List (List ℕ)) (bytes : List ℕ) (job : Job) → words ≢ [] → Mean words job → Mean (words_of words bytes) job
 means_given [] bytes job some means = absurd (some refl)
 means_given (word ∷ words) bytes job some means = means
@@ -304,7 +304,7 @@ answer_of words input stop (inr (inr (inr (inr e)))) none = absurd (omega (arith
 -- a run over a reader and an output that fail and refuse only for such kinds of error
 module _ (fails refuses : ErrorKind → Type 0) (words : List (List ℕ)) (input : Reading) (output faults : Writing)
     (may_fail : input.failed ≡ true → SomeKind fails) (may_refuse : output.refused ≡ true → SomeKind refuses) where
-  -- a run that hands over what it has for its output ends with that, or with the output's fault
+  -- a run that writes its output ends with that, or with the output's fault
   Ends-told : (text : List ℕ) (status : ℕ) → IsHeard (most_bytes words) input → IsBehindWords words input → IsToldOutput words input text → input.failed ≡ false
       → HandsOver text output faults status → Ends fails refuses words input output faults status
   Ends-told text status heard behind_words is_output sound h = record {
@@ -380,7 +380,7 @@ module _ (fails refuses : ErrorKind → Type 0) (words : List (List ℕ)) (input
     by_status = subst (λ (given : ℕ). EndsByStatus fails refuses words input output faults given) (sym t.2) (barred_by_status stop s t.0 t.1 t.3);
   }
 
--- there is no kind of error where there is none
+-- if there is no kind of error, none occurs
 none_of : (may : ErrorKind → Type 0) → NoKind may → SomeKind may → ⊥
 none_of may none some = ∥∥₁_elim some (λ p q. absurd p) (λ found. none found.0 found.1)
 
@@ -395,7 +395,7 @@ faulty_of fails refuses words input output faults e = elim e.by_status [
   | inr (inr (inr (inr four))) ↦ four.1
 ]
 
--- it is one of threads or of the output, where reads never fail
+-- it is a fault of threads or of the output, if reads never fail
 pub faults-read : (fails refuses : ErrorKind → Type 0) → NoKind fails → FaultIsOfThreadsOrOutput fails refuses
 faults-read fails refuses none words input output faults e = elim (faulty_of fails refuses words input output faults e) [
   | inl read ↦ absurd (none_of fails none read.may)
@@ -403,14 +403,14 @@ faults-read fails refuses none words input output faults e = elim (faulty_of fai
   | inr (inr run) ↦ inl run
 ]
 
--- and one of threads, where the output refuses nothing
+-- and one of threads, if the output refuses nothing
 pub faults-told : (fails refuses : ErrorKind → Type 0) → NoKind fails → NoKind refuses → FaultIsOfThreads fails refuses
 faults-told fails refuses none nothing words input output faults e = elim (faults-read fails refuses none words input output faults e) [
   | inl run ↦ run
   | inr told ↦ absurd (none_of refuses nothing told.may)
 ]
 
--- a number that a text writes is at most the greatest
+-- a number that is read from a text is at most the limit
 number_within : (least most number : ℕ) (text : Option Text) → IsNumberIn least most number text → number ≤ most
 number_within least most number None is = absurd is
 number_within least most number (Some text) is = is.3

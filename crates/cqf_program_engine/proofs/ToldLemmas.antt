@@ -1,4 +1,4 @@
--- What was told to a list of bytes.
+-- What was written to a list of bytes.
 use Rattle.std.proofs.Common.{◌≡◌, ℕ, Bool, Err, IfOk, List, Ok, Result, Some, [], subst, sym}
 use Rattle.std.specs.Global.{Global}
 use Rattle.std.specs.declared.io.traits.Write as write
@@ -7,7 +7,7 @@ use Rattle.cqf_press.specs.Edge.{HasTold, since, writing}
 use Rattle.cqf_press.specs.declared.sinks.Sink as sink
 use Rattle.cqf_press.specs.declared.told.Told.{Told}
 
--- what is handed out of a list that was empty before is each text that it was told
+-- a list that was empty before has each text that was written to it
 pub text-told : {s : sink.Ghosts (Vec ℕ Global)} {w : write.Ghosts (Vec ℕ Global)} {E : Type 0} {list : List ℕ}
     {refused : Bool} (old new : Told (Vec ℕ Global) s w) (IsText : List ℕ → Type 0) (result : Result (Vec ℕ Global) E) → old.writer.items ≡ []
     → ((text : List ℕ) → IsText text → HasTold (writing (λ (list : Vec ℕ Global). Some list.items) old new) text)

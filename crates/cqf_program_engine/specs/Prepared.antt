@@ -1,4 +1,4 @@
--- What an output tells.
+-- The text of an output.
 use Rattle.std.specs.Prelude.{ℕ, ◌≡◌, List}
 use Rattle.cqf_program_engine.specs.declared.prepared.PreparedOutput.{PreparedOutput}
 use Rattle.cqf_program_engine.specs.declared.prepared.PreparedOutput.TheVariants.{Account, Config, Deliveries, Hops, Latency, Line, Load, Object}
@@ -16,7 +16,7 @@ use Rattle.cqf_program_runs.specs.Run.Told.{IsRunTold}
 use Rattle.cqf_program_tc.specs.Output.{text_of_env, text_of_tc}
 use Rattle.cqf_program_threads.specs.AccountTold.{text_of_account}
 
--- the text is one that the output tells
+-- the text is one of the output
 abbrev pub IsTextOf : PreparedOutput → List ℕ → Type 0
 IsTextOf (Text output) text = text ≡ output.items
 IsTextOf (Port output) text = text ≡ text_of_port output
@@ -33,6 +33,6 @@ IsTextOf (Deliveries output) text = AreDeliveriesTold output text
 IsTextOf (Summary output) text = text ≡ text_of_summary output
 IsTextOf (Hops output) text = IsToldText output text
 
--- the output tells a text, of which this holds
+-- the output has a text with a given property
 abbrev pub HasText : (List ℕ → Type 0) → PreparedOutput → Type 0
 HasText wanted output = (text : List ℕ) × IsTextOf output text × wanted text

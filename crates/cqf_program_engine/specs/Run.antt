@@ -1,4 +1,4 @@
--- What a run of the program comes to, for the words that it is given and the bytes that its reader has.
+-- The result of a run of the program, for its words and the bytes of its reader.
 use Rattle.std.specs.Prelude.{ℕ, ◌≡◌, ◌≢◌, ◌⊎◌, ◌≤◌, ◌<◌, ◌==◌, ◌++◌, Bool, true, false, List, [], ◌∷◌, Ok, Option, String, ⊤, codes, if◌then◌else◌, length, option_map, string_bytes}
 use Rattle.std.specs.Io.KnownBytes.{Appends, IsAtEnd, Keeps}
 use Rattle.std.specs.List.{slice_split, before_first, after_first}
@@ -43,7 +43,7 @@ use Rattle.cqf_program_words.specs.Shown.{ShowsBehind, ShowsLine, ShowsWords, ar
 use Rattle.cqf_program_words.specs.Words.{AreMistaken, AskForHelp, Mean, TellsMistake, ask_for_large, limits_of}
 use Rattle.cqf_program_engine.specs.declared.runs.TheConstants.{VERSION}
 
--- the job's numbers aren't above their limits
+-- the job's numbers are within their limits
 abbrev pub IsWithin : Job → Type 0
 IsWithin (Port until rate) = until ≤ last_until
 IsWithin (Line cycles) = cycles ≤ most_cycles
@@ -64,11 +64,11 @@ abbrev pub is_threaded : Job → Bool
 is_threaded (Run cycles threads) = threads
 is_threaded job = false
 
--- of which frames the book is told by frame: of those of a stream, of one alone
+-- the frames that `hops` lists: those of a stream, or a single one
 abbrev pub wanted_of : Option (String Global) → Option ℕ → Wanted
 wanted_of stream frame = record { stream = option_map string_bytes stream; frame = frame }
 
--- the output of a job for its input, which is read within some limits
+-- the output of a job for its input, which is read within given limits
 abbrev pub IsOutput : Limits → Job → List ℕ → List ℕ → Type 0
 IsOutput limits (Port until rate) input output = IsPortOutput until rate input output
 IsOutput limits (Line cycles) input output = IsLineOutput cycles input output
@@ -88,8 +88,9 @@ IsOutput limits (Summary cycles) input output = IsSummaryOutput limits cycles in
 IsOutput limits (Hops cycles stream frame) input output = IsHopsOutput limits cycles (wanted_of stream frame) input output
 IsOutput limits (Plan table given) input output = IsPlanOf limits table (option_map times_of given) input (Ok output)
 
--- the input of a job, which is read within some limits, is refused, with the line of its first fault; or of a deadline that isn't kept
--- for sure, where that is strict, or of what isn't well, where that is checked; or no candidate for the cycle time is good
+-- the input of a job, which is read within given limits, is refused with a line: of its first fault; for `latency` if
+-- strict, of a deadline that isn't certain to be met; for `check`, of what isn't well; or for `plan`, if no candidate
+-- for the cycle time is good
 abbrev pub IsRefusal : Limits → Job → List ℕ → Stop → Type 0
 IsRefusal limits (Port until rate) input stop = IsRefused (port_input input) stop
 IsRefusal limits (Line cycles) input stop = IsRefused (line_input input) stop
@@ -108,7 +109,7 @@ IsRefusal limits (Summary cycles) input stop = IsRefused (planned_scenario limit
 IsRefusal limits (Hops cycles stream frame) input stop = IsRefused (wanted_scenario limits cycles (wanted_of stream frame) input) stop
 IsRefusal limits (Plan table given) input stop = IsPlanRefusal limits table (option_map times_of given) input stop
 
--- a run on threads fails, with the line of its fault: its input isn't refused. No other job fails
+-- a run on threads fails, with the line of its fault; its input isn't refused. No other job fails
 abbrev pub IsFailure : Limits → Job → List ℕ → Stop → Type 0
 IsFailure limits (Run cycles true) input stop = (stop.status ≡ 4) × TellsFault cycles (scenario_input limits cycles input) stop.text.items
 IsFailure limits job input stop = ⊥
@@ -121,7 +122,7 @@ IsEnd limits job input stop = IsRefusal limits job input stop ⊎ IsFailure limi
 abbrev pub is_space : ℕ → Bool
 is_space byte = byte == 32
 
--- the first line of the input, and what stands behind it
+-- the first line of the input, and what follows it
 abbrev pub first_line : List ℕ → List ℕ
 first_line bytes = before_first is_line_feed bytes
 
@@ -137,23 +138,23 @@ pub record HasWords (bytes : List ℕ) : Type 0 where
   pub text : IsUtf8 (first_line bytes)
   pub short : length (first_line bytes) ≤ most_line
 
--- the words of the run: those that are given, or where none are, those of the input's first line, which single spaces
--- divide
+-- the words of the run: the given ones or, if there are none, those of the input's first line, which are separated by
+-- single spaces
 abbrev pub words_of : List (List ℕ) → List ℕ → List (List ℕ)
 words_of [] bytes = slice_split is_space (first_line bytes)
 words_of (word ∷ words) bytes = word ∷ words
 
--- the input of the job: all that was read, or where it has the words, what stands behind them
+-- the input of the job: all bytes that were read or, if the first line has the words, those that follow it
 abbrev pub input_of : List (List ℕ) → List ℕ → List ℕ
 input_of [] bytes = behind_first_line bytes
 input_of (word ∷ words) bytes = bytes
 
--- the most bytes that the program reads, by the words that are given: more where these ask for large plants, and not where the input begins
--- with its words
+-- the most bytes that the program reads, by the given words: more if these contain `--large`. Words of the input's
+-- first line don't count
 abbrev pub most_bytes : List (List ℕ) → ℕ
 most_bytes words = if ask_for_large words then 536870912 else 67108864
 
--- more bytes than so many
+-- more than `most` bytes
 abbrev pub IsTooLong : ℕ → List ℕ → Type 0
 IsTooLong most bytes = most < length bytes
 
@@ -165,30 +166,32 @@ pub record IsDone (words : List (List ℕ)) (bytes output : List ℕ) : Type 0 w
   pub means : Mean (words_of words bytes) job
   pub is_output : IsOutput (limits_of (words_of words bytes)) job (input_of words bytes) output
 
--- the input is refused: it is too long, where words that are given mean a job; or the words mean a job, and this is the
--- line of the first fault of its input: the stop has status 1, so that the line is that of the fault
+-- the input is refused. Either it is too long, and the given words, if there are any, mean a job; or the words mean a
+-- job, and the line is that of its input's first fault. The stop has status 1
 pub record IsRefusedRun (words : List (List ℕ)) (bytes : List ℕ) (stop : Stop) : Type 0 where
   pub status : stop.status ≡ 1
   pub length_first : (IsTooLong (most_bytes words) bytes × (stop.text.items ≡ line_of (codes "cqf: input too long")) × (words ≢ [] → (job : Job) × Mean words job))
       ⊎ ((length bytes ≤ most_bytes words) × (words ≡ [] → HasWords bytes)
       × ((job : Job) × Mean (words_of words bytes) job × IsRefusal (limits_of (words_of words bytes)) job (input_of words bytes) stop))
 
--- the program's version is asked for, by one of these words alone
+-- the program's version is requested, by a single word
 abbrev pub AskForVersion : List (List ℕ) → Type 0
 AskForVersion words = (words ≡ codes "--version" ∷ []) ⊎ (words ≡ codes "-V" ∷ [])
 
--- where clap takes words that are all printable, a mistake in them is told by a line of the program's own, which says what is wanted
+-- if the words are all printable and clap accepts them, a mistake in them is reported by a line of the program's own,
+-- which says what is expected
 abbrev pub TellsPlainly : List (List ℕ) → Stop → Type 0
 TellsPlainly words stop = are_printable words ≡ true → TellsMistake words stop
 
--- how a mistake is told: by a line of the program's own where words that are given aren't all printable, where a first line that has the
--- words isn't shown as it is, and where clap takes the words. Of other words the text is clap's
+-- how a mistake is reported: by a line of the program's own that shows the words escaped, if given words aren't all
+-- printable or a first line with the words isn't shown as it is; otherwise by a line of the program's own if clap
+-- accepts the words, and by clap's text if it doesn't
 abbrev pub ShowsMistake : List (List ℕ) → List ℕ → Stop → Type 0
 ShowsMistake [] bytes stop = ShowsLine (first_line bytes) stop × (is_shown_whole (first_line bytes) ≡ true → TellsPlainly (words_of [] bytes) stop)
 ShowsMistake (word ∷ words) bytes stop = ShowsWords (word ∷ words) stop × TellsPlainly (word ∷ words) stop
 
--- the words mean no job: those of the first line aren't text; it is too long to have words; or they are a mistake, and don't ask for the
--- version. The stop has status 2
+-- the words mean no job: those of the first line aren't text; this line is too long to have words; or the words are a
+-- mistake, and don't request the version. The stop has status 2
 pub record IsMisuse (words : List (List ℕ)) (bytes : List ℕ) (stop : Stop) : Type 0 where
   pub status : stop.status ≡ 2
   pub short : words ≡ [] → length bytes ≤ most_bytes words
@@ -197,7 +200,7 @@ pub record IsMisuse (words : List (List ℕ)) (bytes : List ℕ) (stop : Stop) :
       ⊎ ((words ≡ [] → HasWords bytes) × AreMistaken (words_of words bytes) × ((job : Job) → ¬ Mean (words_of words bytes) job)
       × ¬ AskForVersion words × ShowsMistake words bytes stop))
 
--- a run on threads fails: the words mean that job, and this is the line of its fault. The stop has status 4
+-- a run on threads fails: the words mean that job, and the line is that of its fault. The stop has status 4
 pub record IsFailedRun (words : List (List ℕ)) (bytes : List ℕ) (stop : Stop) : Type 0 where
   pub short : length bytes ≤ most_bytes words
   pub text : words ≡ [] → HasWords bytes
@@ -205,20 +208,20 @@ pub record IsFailedRun (words : List (List ℕ)) (bytes : List ℕ) (stop : Stop
   pub means : Mean (words_of words bytes) job
   pub fails : IsFailure (limits_of (words_of words bytes)) job (input_of words bytes) stop
 
--- all that the program reads was read: too many bytes, or what there was
+-- all that the program reads was read: more bytes than it accepts, or all there were
 abbrev pub IsAll : List (List ℕ) → Reading → Type 0
 IsAll words input = IsTooLong (most_bytes words) input.bytes ⊎ IsAtEnd input.after
 
--- words that are given mean a job before anything is read
+-- before anything is read, given words mean a job
 abbrev pub IsBehindWords : List (List ℕ) → Reading → Type 0
 IsBehindWords words input = words ≢ [] → ((job : Job) × Mean words job) ⊎ ((input.bytes ≡ []) × (input.failed ≡ false))
 
--- the end of a read that was broken off: status 4 and the line that tells so where the reader failed, 3 for want of memory
+-- the stop of a read that ended early: status 4 and the line about it if the reader failed, status 3 for lack of memory
 abbrev pub EndsRead : ReadFailure → Stop → Type 0
 EndsRead Memory stop = (stop.status ≡ 3) × (stop.text.items ≡ [])
 EndsRead Fault stop = EndsWith 4 (line_of (codes "cqf: input fault")) stop
 
--- status 1: there are more bytes than so many
+-- status 1: there are more than `most` bytes
 pub record EndsTooLong (most : ℕ) (input : Reading) (stop : Stop) : Type 0 where
   pub long : IsTooLong most input.bytes
   pub sound : input.failed ≡ false
@@ -229,14 +232,14 @@ pub record EndsUnread (input : Reading) (stop : Stop) : Type 0 where
   pub failed : input.failed ≡ true
   pub line : stop.text.items ≡ line_of (codes "cqf: input fault")
 
--- how a read of the whole input, of so many bytes at most, ends before its end; status 3 is want of memory
+-- how a read of the whole input, of at most `most` bytes, ends early; status 3 is lack of memory
 abbrev pub EndsInput : ℕ → Reading → Stop → Type 0
 EndsInput most input stop = ((stop.status ≡ 1) × EndsTooLong most input stop)
     ⊎ (((stop.status ≡ 4) × EndsUnread input stop)
     ⊎ ((stop.status ≡ 3) × (stop.text.items ≡ [])))
 
--- how a read of one text more ends before its end: with status 1 where all come to more than so many bytes, with status 4 where the reader
--- failed, which it may for these kinds of error, and with status 3 for want of memory
+-- how a read of one more text ends early: with status 1 if all texts together have more than `most` bytes, with status
+-- 4 if the reader failed, with one of these kinds of error, and with status 3 for lack of memory
 pub record EndsText (fails : ErrorKind → Type 0) (most : ℕ) (bytes : List ℕ) (stop : Stop) : Type 0 where
   pub statuses : (stop.status ≡ 1) ⊎ ((stop.status ≡ 4) ⊎ (stop.status ≡ 3))
   pub long : stop.status ≡ 1 → IsTooLong most bytes × (stop.text.items ≡ line_of (codes "cqf: input too long"))
@@ -244,12 +247,12 @@ pub record EndsText (fails : ErrorKind → Type 0) (most : ℕ) (bytes : List �
   pub may : stop.status ≡ 4 → SomeKind fails
   pub memory : stop.status ≡ 3 → stop.text.items ≡ []
 
--- whether the word asks for the program's version
+-- whether the word requests the program's version
 abbrev pub IsVersionWord : Bool → List ℕ → Type 0
 IsVersionWord true word = (word ≡ codes "--version") ⊎ (word ≡ codes "-V")
 IsVersionWord false word = ¬ ((word ≡ codes "--version") ⊎ (word ≡ codes "-V"))
 
--- whether it is
+-- whether the words do
 abbrev pub IsAsking : Bool → List (List ℕ) → Type 0
 IsAsking true words = AskForVersion words
 IsAsking false words = ¬ AskForVersion words
@@ -258,12 +261,12 @@ IsAsking false words = ¬ AskForVersion words
 abbrev pub version_line : List ℕ
 version_line = codes "cqf " ++ line_of VERSION.now
 
--- a question about the program is answered, and no job is done: help, by a text of clap's, or the version
+-- a question about the program is answered, and no job is done: by help, in a text of clap's, or by the version
 abbrev pub IsQuestionAnswered : List (List ℕ) → List ℕ → List ℕ → Type 0
 IsQuestionAnswered words bytes text = AskForHelp (words_of words bytes) ⊎ (AskForVersion words × (text ≡ version_line))
 
--- why a run ends before it is done, where no read failed, by its status: a question is answered, the input is refused, the words mean no
--- job, there was no memory, or a run on threads failed
+-- why a run ends before it is done, if no read failed: a question is answered, the input is refused, the words mean no
+-- job, memory was lacking, or a run on threads failed
 abbrev pub HasCause : List (List ℕ) → List ℕ → Stop → Type 0
 HasCause words bytes stop = ((stop.status ≡ 0) × IsQuestionAnswered words bytes stop.text.items)
     ⊎ (IsRefusedRun words bytes stop
@@ -276,13 +279,13 @@ abbrev pub HasFault : List (List ℕ) → Reading → Stop → Type 0
 HasFault words input stop = ((input.failed ≡ true) × (stop.text.items ≡ line_of (codes "cqf: input fault")))
     ⊎ ((input.failed ≡ false) × IsAtEnd input.after × IsFailedRun words input.bytes stop)
 
--- status 0: a question is answered, behind all of an input that has the words
+-- status 0: a question is answered; if the words are those of the input, all of it was read
 pub record StopsWithAnswer (words : List (List ℕ)) (input : Reading) (stop : Stop) : Type 0 where
   pub answered : IsQuestionAnswered words input.bytes stop.text.items
   pub at_end : words ≡ [] → IsAtEnd input.after
   pub sound : input.failed ≡ false
 
--- status 1: the input is refused, behind all that the program reads of it
+-- status 1: the input is refused, after all that the program reads of it was read
 pub record StopsRefused (words : List (List ℕ)) (input : Reading) (stop : Stop) : Type 0 where
   pub refused : IsRefusedRun words input.bytes stop
   pub whole : IsAll words input
@@ -294,7 +297,7 @@ pub record StopsMisused (words : List (List ℕ)) (input : Reading) (stop : Stop
   pub at_end : words ≡ [] → IsAtEnd input.after
   pub sound : input.failed ≡ false
 
--- how a run ends before it is done, for what its reader gave: the one case of each status, where 3 is want of memory
+-- how a run ends before it is done, for what was read: one case for each status; 3 is lack of memory
 abbrev pub IsStopped : List (List ℕ) → Reading → Stop → Type 0
 IsStopped words input stop = ((stop.status ≡ 0) × StopsWithAnswer words input stop)
     ⊎ (((stop.status ≡ 1) × StopsRefused words input stop)
@@ -308,45 +311,49 @@ pub record HasRun (words : List (List ℕ)) (input : Reading) (output : List ℕ
   pub at_end : IsAtEnd input.after
   pub sound : input.failed ≡ false
 
--- how an output that was told ends: nothing is on the writer of faults; or the output refused some of it, and the line that tells so is
+-- how a run ends after its output was written: nothing is on the writer of faults; or the output refused some of it,
+-- and the line about that is on the writer of faults
 pub record EndsTold (refused : Bool) (faults : Writing) (status : ℕ) : Type 0 where
   pub statuses : (status ≡ 0) ⊎ (status ≡ 4)
   pub done : status ≡ 0 → (refused ≡ false) × Keeps faults.before faults.after
   pub fault : status ≡ 4 → (refused ≡ true) × HasTold faults (line_of (codes "cqf: output fault"))
 
--- the text was handed over: all of it was written, and nothing on the writer of faults; or the output refused some of
--- it, and the writer of faults got the line that tells so
+-- the text was written: all of it, and nothing on the writer of faults; or the output refused some of it, and the line
+-- about that is on the writer of faults
 pub record HandsOver (text : List ℕ) (output faults : Writing) (status : ℕ) : Type 0 where
   pub statuses : (status ≡ 0) ⊎ (status ≡ 4)
   pub told : HasTold output text
   pub done : status ≡ 0 → (output.refused ≡ false) × Keeps faults.before faults.after
   pub fault : status ≡ 4 → (output.refused ≡ true) × HasTold faults (line_of (codes "cqf: output fault"))
 
--- what the run has for its output: the job's, or the help or the version that was asked for
+-- what the run writes on its output: the output of its job, or the help or the version that was requested
 abbrev pub IsToldOutput : List (List ℕ) → Reading → List ℕ → Type 0
 IsToldOutput words input text = (IsDone words input.bytes text × IsAtEnd input.after)
     ⊎ (IsQuestionAnswered words input.bytes text × (words ≡ [] → IsAtEnd input.after))
 
--- nothing is on the output, and this text was told on the writer of faults: all of it, where that writer refused nothing
+-- nothing is on the output, and this text was written on the writer of faults: all of it, if that writer refused
+-- nothing
 pub record TellsFaultAlone (text : List ℕ) (output faults : Writing) : Type 0 where
   pub quiet : Keeps output.before output.after
   pub accepted : output.refused ≡ false
   pub line : HasTold faults text
 
--- the stop was told: what was asked for on the output, and the line of any other end alone, on the writer of faults
+-- the text of a stop was written: a requested one on the output, and the line of any other stop on the writer of faults
+-- only
 abbrev pub TellsStop : Stop → Writing → Writing → ℕ → Type 0
 TellsStop stop output faults status = ((stop.status ≡ 0) × HandsOver stop.text.items output faults status)
     ⊎ (((stop.status ≡ 3) × (status ≡ 3) × TellsFaultAlone (line_of (codes "cqf: out of memory")) output faults)
     ⊎ ((stop.status ≢ 0) × (stop.status ≢ 3) × (status ≡ stop.status) × TellsFaultAlone stop.text.items output faults))
 
--- the reader failed, which it may for these kinds of error: nothing is on the output, and the line that tells so is on the writer of faults
+-- the reader failed, with one of these kinds of error; nothing is on the output, and the line about that is on the
+-- writer of faults
 pub record IsInputFault (fails : ErrorKind → Type 0) (input : Reading) (output faults : Writing) : Type 0 where
   pub failed : input.failed ≡ true
   pub may : SomeKind fails
   pub told : TellsFaultAlone (line_of (codes "cqf: input fault")) output faults
 
--- the output was refused, which it may be for these kinds of error: a front of it was written, and the line that tells so is on the writer of
--- faults
+-- the output refused a part, with one of these kinds of error; the beginning of the text was written, and the line
+-- about that is on the writer of faults
 pub record IsOutputFault (refuses : ErrorKind → Type 0) (words : List (List ℕ)) (input : Reading) (output faults : Writing) : Type 0 where
   pub refused : output.refused ≡ true
   pub may : SomeKind refuses
@@ -356,8 +363,8 @@ pub record IsOutputFault (refuses : ErrorKind → Type 0) (words : List (List �
   pub told : HasTold output text
   pub line : HasTold faults (line_of (codes "cqf: output fault"))
 
--- a run on threads failed, behind an input that was read to its end: nothing is on the output, and the line that tells so is on the
--- writer of faults
+-- a run on threads failed, after its input was read to the end; nothing is on the output, and the line about that is on
+-- the writer of faults
 pub record EndsByRunFault (words : List (List ℕ)) (input : Reading) (output faults : Writing) : Type 0 where
   pub sound : input.failed ≡ false
   pub at_end : IsAtEnd input.after
@@ -365,7 +372,7 @@ pub record EndsByRunFault (words : List (List ℕ)) (input : Reading) (output fa
   pub failed : IsFailedRun words input.bytes stop
   pub told : TellsFaultAlone stop.text.items output faults
 
--- status 0: the run's output was written, or the help or the version that was asked for, and nothing else
+-- status 0: the run's output was written, or the requested help or version, and nothing else
 pub record EndsDone (words : List (List ℕ)) (input : Reading) (output faults : Writing) : Type 0 where
   pub text : List ℕ
   pub is_output : IsToldOutput words input text
@@ -374,7 +381,7 @@ pub record EndsDone (words : List (List ℕ)) (input : Reading) (output faults :
   pub sound : input.failed ≡ false
   pub accepted : output.refused ≡ false
 
--- status 1: the input was refused, behind all that the program reads of it, by the line of its first fault
+-- status 1: after all that the program reads of it was read, the input was refused, with the line of its first fault
 pub record EndsRefused (words : List (List ℕ)) (input : Reading) (output faults : Writing) : Type 0 where
   pub stop : Stop
   pub refused : IsRefusedRun words input.bytes stop
@@ -390,7 +397,7 @@ pub record EndsMisused (words : List (List ℕ)) (input : Reading) (output fault
   pub at_end : words ≡ [] → IsAtEnd input.after
   pub sound : input.failed ≡ false
 
--- status 3: there was no memory
+-- status 3: memory was lacking
 abbrev pub EndsForMemory : Writing → Writing → Type 0
 EndsForMemory output faults = TellsFaultAlone (line_of (codes "cqf: out of memory")) output faults
 
@@ -399,7 +406,7 @@ abbrev pub EndsFaulty : (ErrorKind → Type 0) → (ErrorKind → Type 0) → Li
 EndsFaulty fails refuses words input output faults = IsInputFault fails input output faults
     ⊎ (IsOutputFault refuses words input output faults ⊎ EndsByRunFault words input output faults)
 
--- the one case of each status
+-- one case for each status
 abbrev pub EndsByStatus : (ErrorKind → Type 0) → (ErrorKind → Type 0) → List (List ℕ) → Reading → Writing → Writing → ℕ → Type 0
 EndsByStatus fails refuses words input output faults status = ((status ≡ 0) × EndsDone words input output faults)
     ⊎ (((status ≡ 1) × EndsRefused words input output faults)
@@ -407,19 +414,19 @@ EndsByStatus fails refuses words input output faults status = ((status ≡ 0) ×
     ⊎ (((status ≡ 3) × EndsForMemory output faults)
     ⊎ ((status ≡ 4) × EndsFaulty fails refuses words input output faults))))
 
--- what the engine leaves: what was read, and what its status stands for, where reads may fail and the output may refuse for these kinds
--- of error
+-- the result of the engine: what was read, and what its status means, if reads may fail and the output may refuse with
+-- these kinds of error
 pub record Ends (fails refuses : ErrorKind → Type 0) (words : List (List ℕ)) (input : Reading) (output faults : Writing) (status : ℕ) : Type 0 where
   pub heard : IsHeard (most_bytes words) input
   pub behind_words : IsBehindWords words input
   pub by_status : EndsByStatus fails refuses words input output faults status
 
--- status 4 is that of a run on threads, or of the output, which refused a write
+-- status 4 is that of a run on threads that failed, or of an output that refused a write
 abbrev pub FaultIsOfThreadsOrOutput : (ErrorKind → Type 0) → (ErrorKind → Type 0) → Type 0
 FaultIsOfThreadsOrOutput fails refuses = (words : List (List ℕ)) (input : Reading) (output faults : Writing)
     → Ends fails refuses words input output faults 4 → EndsByRunFault words input output faults ⊎ IsOutputFault refuses words input output faults
 
--- status 4 is that of a run on threads
+-- status 4 is that of a run on threads that failed
 abbrev pub FaultIsOfThreads : (ErrorKind → Type 0) → (ErrorKind → Type 0) → Type 0
 FaultIsOfThreads fails refuses = (words : List (List ℕ)) (input : Reading) (output faults : Writing)
     → Ends fails refuses words input output faults 4 → EndsByRunFault words input output faults

@@ -1,4 +1,4 @@
-//! Bytes that a reader fills, with room behind them.
+//! Bytes that a reader fills, with room after them.
 ghost use Rattle.std.specs.Prelude.{ℕ, ◌≡◌, ◌≤◌, ◌<◌, ◌+◌, List, [], IfOk, IfErr, OnOk, OnErr, length, take, drop};
 ghost use Rattle.std.specs.Io.KnownBytes.{Consumes, IsAtEnd, Keeps};
 ghost use Rattle.cqf_program_engine.specs.Edge.{HasRead, MayBreak};
@@ -12,10 +12,10 @@ use std::alloc::Global;
 use std::io;
 use std::marker::Model;
 
-/// How many bytes are read at a time, and by how many the room grows.
+/// The number of bytes that are read at a time, and by which the room grows.
 pub(crate) const STEP: usize = 1_048_576;
 
-/// The bytes that were filled, and room behind them. It is cleared before it is first lent to a reader, and never again.
+/// The bytes that were filled, and room after them. The room is cleared only once, before it is first lent to a reader.
 #[derive(Drop)]
 pub(crate) struct Filled {
     bytes: Vec<u8>,
@@ -32,8 +32,8 @@ impl Model for Filled {
     ghost invariant = { λ filled. filled.count ≤ length filled.bytes.items };
 }
 
-/// Reserves room for so many more. Behind the first step that is room for all that there may ever be, so that nothing is copied
-/// again, and where that much is refused, at least for so many.
+/// Reserves room for at least `more` more bytes. After the first step it reserves room for all bytes that there may
+/// ever be, so that nothing is copied again; if that allocation fails, it reserves room for `more` only.
 fn reserve(bytes: &mut Vec<u8>, more: usize, room: usize) -> Result<(), Memory>
     requires { length bytes.old.items ≤ room }
     ensures { bytes.new.items ≡ bytes.old.items }
@@ -45,7 +45,7 @@ fn reserve(bytes: &mut Vec<u8>, more: usize, room: usize) -> Result<(), Memory>
     bytes.reserve(more)
 }
 
-/// Makes the bytes longer by a step, or up to the most that there may ever be.
+/// Makes the bytes longer by a step, but not longer than `room`, the most that there may ever be.
 fn lengthen(bytes: &mut Vec<u8>, room: usize) -> Result<(), Memory>
     requires { length bytes.old.items < room }
     ensures longer { OnOk result (length bytes.old.items < length bytes.new.items) }
@@ -58,7 +58,7 @@ fn lengthen(bytes: &mut Vec<u8>, room: usize) -> Result<(), Memory>
     bytes.resize(long + more, 0)
 }
 
-/// Sees to it that the bytes are longer than what is filled of them, where there are never more than so many.
+/// Makes the bytes longer than their filled part, if they aren't. There are never more than `room`.
 fn make_room(bytes: &mut Vec<u8>, filled: usize, room: usize) -> Result<(), Memory>
     requires inside { filled ≤ length bytes.old.items }
     requires few { filled < room }
@@ -72,7 +72,7 @@ fn make_room(bytes: &mut Vec<u8>, filled: usize, room: usize) -> Result<(), Memo
     lengthen(bytes, room)
 }
 
-/// One read of at most so many bytes into the buffer, from a place on.
+/// Makes one read of at most `most` bytes into the buffer, from index `at` on.
 fn read_at<R: Source>(
     reader: &mut R,
     buffer: &mut [u8],
@@ -94,7 +94,7 @@ fn read_at<R: Source>(
 }
 
 impl Filled {
-    /// None yet.
+    /// Makes an empty one.
     pub(crate) fn new(alloc: Global) -> Filled
         ensures { result ≡ [] }
     {
@@ -104,15 +104,18 @@ impl Filled {
         }
     }
 
-    /// The bytes that were filled.
+    /// Returns the bytes that were filled.
     pub(crate) fn as_slice(&self) -> &[u8]
         ensures { result.now ≡ self.now }
     {
         &self.bytes.as_slice()[..self.count]
     }
 
-    /// One read of at most so many bytes, behind those that were filled, of which there is never more room than is said: how many it gave,
-    /// none only at the end of the input. `Err` with `Fault` where the reader fails. With `Memory` it wasn't asked.
+    /// Makes one read of at most `most` bytes, which are appended to those that were filled. There is never room for
+    /// more than `room` bytes. Returns how many were read; none only at the end of the input.
+    ///
+    /// # Errors
+    /// `Fault` if the reader fails. `Memory` if an allocation fails; then the reader wasn't called.
     pub(crate) fn fill<R: Source>(
         &mut self,
         reader: &mut R,

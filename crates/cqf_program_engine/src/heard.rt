@@ -1,4 +1,4 @@
-//! A reader that remembers what it gave.
+//! A reader that remembers what was read.
 ghost use Rattle.std.specs.Prelude.{◌≡◌, ◌≤◌, ◌<◌, ◌+◌, [], true, false, IfOk, IfErr, OnOk, length};
 ghost use Rattle.std.specs.Io.KnownBytes.{IsAtEnd};
 ghost use Rattle.cqf_press.specs.Kinds.{SomeKind};
@@ -8,16 +8,16 @@ use crate::sources::Source;
 use cqf_units::Memory;
 use std::alloc::Global;
 
-/// Why a read gave nothing.
+/// Why a read returned nothing.
 #[derive(Clone, Copy, Debug, PartialEq, Eq)]
 pub(crate) enum ReadFailure {
-    /// There was no memory for what it would have given.
+    /// There was no memory for the bytes.
     Memory,
     /// The reader failed.
     Fault,
 }
 
-/// Want of memory, as a cause.
+/// Makes a failed allocation the cause of a failed read.
 impl From<Memory> for ReadFailure {
     ghost use Rattle.cqf_program_engine.specs.declared.heard.ReadFailure.TheVariants as variant;
 
@@ -28,8 +28,9 @@ impl From<Memory> for ReadFailure {
     }
 }
 
-/// A reader with all the bytes that it gave, and whether a read of it failed. Nothing but its own reads sets either, and the last
-/// only for a kind of error for which the reader may fail. A read that a signal interrupts hasn't failed: it is made again.
+/// A reader with all the bytes that were read, and whether a read failed. Only its own reads change these. The last is
+/// set only for a kind of error with which the reader may fail. A read that a signal interrupts hasn't failed: it is
+/// made again.
 #[derive(Drop)]
 pub struct Heard<R: Source> {
     reader: R,
@@ -41,7 +42,7 @@ pub struct Heard<R: Source> {
 impl<R: Source> Heard<R> {
     ghost use Rattle.cqf_program_engine.specs.Edge.{HasRead, Marks, MayBreak};
 
-    /// A reader that wasn't read yet.
+    /// Makes a reader that wasn't read yet.
     pub fn new(alloc: Global, reader: R) -> Heard<R>
         ensures reader { result.reader ≡ reader }
         ensures bytes { result.bytes ≡ [] }
@@ -54,15 +55,18 @@ impl<R: Source> Heard<R> {
         }
     }
 
-    /// All the bytes that the reader gave.
+    /// Returns all bytes that were read.
     pub fn bytes(&self) -> &[u8]
         ensures { result.now ≡ self.now.bytes }
     {
         self.bytes.as_slice()
     }
 
-    /// One read, of at most so many bytes, where there is never room for more of them all than is said: how many it gave, none only at the
-    /// end of the input. `Err` with `Fault` where the reader fails. With `Memory` it wasn't asked.
+    /// Makes one read of at most `most` bytes. There is never room for more than `room` bytes in all. Returns how many
+    /// were read; none only at the end of the input.
+    ///
+    /// # Errors
+    /// `Fault` if the reader fails. `Memory` if an allocation fails; then the reader wasn't called.
     pub(crate) fn read(&mut self, most: usize, room: usize) -> Result<usize, ReadFailure>
         requires some { 0 < most }
         requires few { length self.old.bytes + most ≤ room }

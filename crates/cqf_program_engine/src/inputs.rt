@@ -12,13 +12,13 @@ use cqf_press::{FAULT, REFUSED, Stop};
 use cqf_program_words::ask_for_large;
 use std::alloc::Global;
 
-/// The most bytes that the program reads where no large plants are asked for.
+/// The most bytes that the program reads without `--large`.
 pub const MOST_BYTES: usize = 67_108_864;
 
-/// The most where they are.
+/// The most bytes that it reads with `--large`.
 pub const MOST_BYTES_OF_LARGE: usize = 536_870_912;
 
-/// The most bytes that the program reads, by the words that are given.
+/// Returns the most bytes that the program reads, for the given words.
 pub fn most_bytes(words: &[&str]) -> usize
     ensures value { result ≡ most_bytes (map (λ word. word.now) words.now) }
     ensures small { result < 2 ^ 63 }
@@ -30,7 +30,7 @@ pub fn most_bytes(words: &[&str]) -> usize
     }
 }
 
-/// The end of a read that was broken off.
+/// Returns the stop of a read that failed.
 pub(crate) fn stop_of(alloc: Global, cause: ReadFailure) -> Stop
     ensures { EndsRead cause result }
 {
@@ -40,15 +40,18 @@ pub(crate) fn stop_of(alloc: Global, cause: ReadFailure) -> Stop
     }
 }
 
-/// The end of an input that is too long.
+/// Returns the stop of an input that is too long.
 pub(crate) fn stop_of_length(alloc: Global) -> Stop
     ensures { EndsWith 1 (line_of (codes "cqf: input too long")) result }
 {
     Stop::with_line(alloc, REFUSED, "cqf: input too long\n")
 }
 
-/// Takes all that the reader gives. `Err` with status 4 where the reader fails, with status 1 where it gives more than so many
-/// bytes, and with status 3 for want of memory. It has then given what was taken so far, at most one byte more than that.
+/// Reads all of the input. Afterwards `input` has the bytes that were read: at most one more than `most`.
+///
+/// # Errors
+/// With status 4 if the reader fails, with status 1 if the input has more than `most` bytes, and with status 3 if an
+/// allocation fails.
 pub fn read_input<R: Source>(alloc: Global, most: usize, input: &mut Heard<R>) -> Result<(), Stop>
     requires small { most < 2 ^ 63 }
     requires unheard { IsUnheard input.old }

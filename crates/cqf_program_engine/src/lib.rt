@@ -1,18 +1,22 @@
 //! A run of the program, from its words and its input to its output, over any reader and any writers.
 //!
-//! - [`engine`] runs it, and gives the exit status. [`tell`] ends a run before it has begun. `VERSION` is the program's version.
-//! - [`Heard`] is a reader that remembers what it gave and whether it failed, [`Told`] a writer that remembers whether it
-//!   refused anything. The engine runs over these, so that its caller knows why a run ended as it did.
-//! - A [`Source`] is a reader of which is known for which kinds of error it may fail, a [`Sink`] a writer of which is known for which it may
-//!   refuse. `fault_is_of_threads` says what status 4 comes of where they never do.
-//! - [`read_input`] reads all that a reader gives, [`most_bytes`] at most, and [`answer`] is the output of a job for an input that is read
-//!   within some limits, unless that is a run on threads: the parts of a run.
-//! - [`Texts`] are the texts of several readers, bounded together.
-//! - `PreparedOutput` is what an output is told from. All memory is had before its first byte is told.
+//! - [`engine`] runs it, and returns the exit status. [`tell`] ends a run before it has begun. `VERSION` is the
+//!   program's version.
+//! - [`Heard`] is a reader that remembers what was read and whether a read failed. [`Told`] is a writer that remembers
+//!   whether it refused anything. The engine runs over these, so its caller knows why a run ended.
+//! - A [`Source`] is a reader with the kinds of error with which it may fail; a [`Sink`] is a writer with the kinds
+//!   with which it may refuse. `fault_is_of_threads` gives the cause of status 4 if there are none.
+//! - [`read_input`], [`most_bytes`] and [`answer`] are the parts of a run: reading all of a reader's bytes, the most
+//!   bytes that are read, and the output of a job, other than a run on threads, for an input that is read within given
+//!   limits.
+//! - [`Texts`] are the texts of several readers, with one bound for all together.
+//! - `PreparedOutput` is the data from which an output is written. All its memory is allocated before its first byte is
+//!   written.
 //!
-//! `specs/Edge.antt` says what a reader gave (`Reading`), and that of `cqf_press` what became of a writer (`Writing`, `HasTold`).
-//! `specs/Prepared.antt` says which text an output tells (`IsTextOf`). `specs/Run.antt` says what a run comes to (`IsDone`,
-//! `IsRefusedRun`, `IsMisuse`, `IsFailedRun`), and what the engine leaves, by its status (`Ends`).
+//! `specs/Edge.antt` defines what was read (`Reading`), and that of `cqf_press` what was written (`Writing`,
+//! `HasTold`). `specs/Prepared.antt` defines the text of an output (`IsTextOf`). `specs/Run.antt` defines the results
+//! of a run (`IsDone`, `IsRefusedRun`, `IsMisuse`, `IsFailedRun`), and what holds after the engine has run, by its
+//! status (`Ends`).
 //!
 //! ```text
 //! let mut input = Heard::new(alloc, b"links = []\n".as_slice());

@@ -1,4 +1,4 @@
-//! An output, before it is told.
+//! An output, before it is written.
 ghost use Rattle.std.specs.Prelude.{ℕ, List};
 ghost use Rattle.cqf_program_engine.specs.Prepared.{IsTextOf};
 ghost use Rattle.cqf_press.specs.Edge.{HasTold, writing};
@@ -11,7 +11,7 @@ use cqf_program_summary::{HopsOutput, SummaryOutput};
 use cqf_program_tc::{EnvOutput, TcOutput};
 use cqf_program_threads::ThreadsOutput;
 
-/// What an output is told from, with all the memory that its telling needs.
+/// The data from which an output is written, with all the memory that this needs.
 #[derive(Drop)]
 pub enum PreparedOutput {
     /// The output itself.
@@ -38,14 +38,14 @@ pub enum PreparedOutput {
     Account(ThreadsOutput),
     /// That of `deliveries`: what becomes of each offer at each listener.
     Deliveries(DeliveriesOutput),
-    /// That of `summary`: how frames fare, counted.
+    /// That of `summary`: counts of what becomes of frames.
     Summary(SummaryOutput),
-    /// That of `hops`: what a book tells of frames.
+    /// That of `hops`: frames' starts and drops.
     Hops(HopsOutput),
 }
 
 impl PreparedOutput {
-    /// Tells the output: all of it, unless the writer refuses a part, and then a front of it. It asks for no memory.
+    /// Writes the output: all of it or, if the writer refuses a part, its beginning. Allocates no memory.
     pub fn tell<W: Sink>(self, told: &mut Told<W>)
         ensures { (text : List ℕ) → IsTextOf self text → HasTold (writing W.contents told.old told.new) text }
     {

@@ -1,5 +1,6 @@
-//! Reads that a signal interrupts (EINTR) are made again, as `cqf_press` makes writes again. Any other failure stands, that of a reader
-//! which would have to wait (EAGAIN) among them. What is interrupted each of 2^64 - 1 times has failed too.
+//! Reads that a signal interrupts (EINTR) are made again, as `cqf_press` repeats writes. Any other failure is final,
+//! including that of a reader that would have to wait (EAGAIN). A read that is interrupted 2^64 - 1 times has failed
+//! too.
 ghost use Rattle.std.specs.Prelude.{◌≡◌, ◌≢◌, IfOk, IfErr, OnErr, length, take};
 ghost use Rattle.std.specs.IoError.{error_kind};
 ghost use Rattle.std.specs.Io.{ReadsAtMost};
@@ -10,7 +11,7 @@ use crate::sources::Source;
 use std::io;
 use std::io::ErrorKind;
 
-/// One read, made again where a signal interrupts it.
+/// Makes one read, and repeats it if a signal interrupts it.
 pub(crate) fn read_again<R: Source>(reader: &mut R, buffer: &mut [u8]) -> io::Result<usize>
     ensures bound { ReadsAtMost result buffer.new }
     ensures ok { IfOk result (λ count. Consumes (R.remaining reader.old) (R.remaining reader.new) (take count buffer.new)) }

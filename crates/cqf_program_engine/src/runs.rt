@@ -43,7 +43,8 @@ use std::alloc::Global;
 use std::sync::Wait;
 use std::thread::Threads;
 
-/// The output of `compile --format env` for the bridge of a name, ready to be told. `Err` as [`prepare`] has it.
+/// Returns the output of `compile --format env` for the bridge with a name, ready to be written. Errors are those of
+/// [`prepare`].
 fn prepare_variables(
     alloc: Global,
     limits: Limits,
@@ -56,7 +57,8 @@ fn prepare_variables(
     Ok(PreparedOutput::Variables(env_output(alloc, limits, bridge.as_str(), input)?))
 }
 
-/// The output of `compile` in a format, for an input that is read within some limits, ready to be told. `Err` as [`prepare`] has it.
+/// Returns the output of `compile` in a format, for an input that is read within given limits, ready to be written.
+/// Errors are those of [`prepare`].
 fn prepare_compiled(
     alloc: Global,
     limits: Limits,
@@ -76,7 +78,7 @@ fn prepare_compiled(
     }
 }
 
-/// The name, where there is one.
+/// Returns the name, if there is one.
 fn name_of(name: &Option<String>) -> Option<&str>
     ensures { option_map (λ text. text.now) result ≡ option_map string_bytes name.now }
 {
@@ -86,8 +88,8 @@ fn name_of(name: &Option<String>) -> Option<&str>
     }
 }
 
-/// The output of `hops` over so many cycles, of the frames of a stream and of one frame alone where these are named, for an input that is
-/// read within some limits, ready to be told. `Err` as [`prepare`] has it.
+/// Returns the output of `hops` over `cycles` cycles, for an input that is read within given limits, ready to be
+/// written. If a stream or a frame is given, the output has only its frames. Errors are those of [`prepare`].
 fn prepare_hops(
     alloc: Global,
     limits: Limits,
@@ -107,7 +109,7 @@ fn prepare_hops(
     Ok(PreparedOutput::Hops(hops_output(alloc, limits, cycles, choice, input)?))
 }
 
-/// The candidates for the cycle time, where some are given.
+/// Returns the candidates for the cycle time, if some are given.
 fn times_of(alloc: Global, given: Option<Candidates>) -> Result<Option<Vec<u32>>, Memory>
     ensures times { IfOk result (λ times. option_map (λ cycles. cycles.items) times ≡ option_map times_of given) }
     ensures are { IfOk result (λ times. IfSome times (λ cycles. AreCandidates cycles.items)) }
@@ -121,8 +123,8 @@ fn times_of(alloc: Global, given: Option<Candidates>) -> Result<Option<Vec<u32>>
     }
 }
 
-/// The output of `plan`, on candidates for the cycle time where some are given, for an input that is read within some limits. `Err` as
-/// [`prepare`] has it.
+/// Returns the output of `plan` for an input that is read within given limits, with the given candidates for the cycle
+/// time, if any. Errors are those of [`prepare`].
 fn planned(
     alloc: Global,
     limits: Limits,
@@ -139,8 +141,11 @@ fn planned(
     }
 }
 
-/// The output of a job for its input, which is read within some limits, ready to be told, unless it is a run on threads; `rt` is for the
-/// threads of `report`. `Err` with status 1 and the line of the first fault of the input, and with status 3 for want of memory.
+/// Returns the output of a job other than a run on threads, for an input that is read within given limits, ready to be
+/// written. `rt` is for the threads of `report`.
+///
+/// # Errors
+/// With status 1 and the line of the first fault of the input. With status 3 if an allocation fails.
 fn prepare(
     rt: &(impl Threads + Sync),
     alloc: Global,
@@ -194,7 +199,7 @@ fn prepare(
     }
 }
 
-/// What an output tells, as one text. The error is want of memory.
+/// Returns the text of an output. Returns `Memory` if an allocation fails.
 fn text_told(alloc: Global, output: PreparedOutput) -> Result<Vec<u8>, Memory>
     ensures { IfOk result (λ told. (text : List ℕ) → IsTextOf output text → told.items ≡ text) }
 {
@@ -203,8 +208,11 @@ fn text_told(alloc: Global, output: PreparedOutput) -> Result<Vec<u8>, Memory>
     told_text(told)
 }
 
-/// The output of a job for its input, which is read within some limits, unless it is a run on threads; `rt` is for the threads of `report`.
-/// `Err` with status 1 and the line of the first fault of the input, and with status 3 for want of memory.
+/// Returns the output of a job other than a run on threads, for an input that is read within given limits. `rt` is for
+/// the threads of `report`.
+///
+/// # Errors
+/// With status 1 and the line of the first fault of the input. With status 3 if an allocation fails.
 pub fn answer(
     rt: &(impl Threads + Sync),
     alloc: Global,
@@ -224,7 +232,7 @@ pub fn answer(
     }
 }
 
-/// The number of cycles of a run on threads, if the job is one.
+/// Returns the number of cycles of a run on threads, if the job is one.
 fn threaded_cycles(job: &Job) -> Option<u32>
     ensures { MatchOption result (is_threaded job.now ≡ false) (λ cycles. job.now ≡ Job.Run cycles true) }
 {
@@ -237,7 +245,7 @@ fn threaded_cycles(job: &Job) -> Option<u32>
     }
 }
 
-/// The output of a run on threads, for an input that is read within some limits, ready to be told.
+/// Returns the output of a run on threads, for an input that is read within given limits, ready to be written.
 fn prepare_threads(
     rt: &(impl Threads + Wait + Sync),
     alloc: Global,
@@ -255,9 +263,12 @@ fn prepare_threads(
     }
 }
 
-/// The output of any job for its input, which is read within some limits, ready to be told; `rt` is for the threads of a run and of
-/// `report`. `Err` with status 1 and the line of the first fault of the input, with status 3 for want of memory, and with status 4 where
-/// a run on threads fails.
+/// Returns the output of any job, for an input that is read within given limits, ready to be written. `rt` is for the
+/// threads of a run and of `report`.
+///
+/// # Errors
+/// With status 1 and the line of the first fault of the input. With status 3 if an allocation fails. With status 4 if a
+/// run on threads fails.
 fn output_of(
     rt: &(impl Threads + Wait + Sync),
     alloc: Global,
@@ -275,13 +286,13 @@ fn output_of(
     }
 }
 
-/// The most octets of a first line that has words: it is split into words that are all kept.
+/// The most octets of a first line that has words. It is split into words, and all of them are kept.
 const MOST_LINE: usize = 65_536;
 
 /// The version of the program.
 pub const VERSION: &str = "1.0.0";
 
-/// Whether the word asks for the program's version.
+/// Whether the word requests the program's version.
 fn is_version_word(word: &str) -> bool
     ensures { IsVersionWord result word.now }
 {
@@ -291,7 +302,7 @@ fn is_version_word(word: &str) -> bool
     word == "-V"
 }
 
-/// Whether the words ask for the program's version, which one word alone does.
+/// Whether the words request the program's version. A single word does so.
 fn ask_for_version(words: &[&str]) -> bool
     ensures { IsAsking result (map (λ word. word.now) words.now) }
 {
@@ -301,14 +312,14 @@ fn ask_for_version(words: &[&str]) -> bool
     }
 }
 
-/// The end of a run that is asked for the program's version.
+/// Returns the stop of a run whose words request the program's version.
 fn stop_of_version(alloc: Global) -> Stop
     ensures { EndsWith 0 version_line result }
 {
     Stop::with_text(alloc, DONE, version_text(alloc))
 }
 
-/// The line of the program's version.
+/// Returns the line of the program's version.
 fn version_text(alloc: Global) -> Result<String, Memory>
     ensures { IfOk result (λ text. string_bytes text ≡ version_line) }
 {
@@ -316,7 +327,7 @@ fn version_text(alloc: Global) -> Result<String, Memory>
     Ok(text)
 }
 
-/// The words of a line, which single spaces divide.
+/// Returns the words of a line, which are separated by single spaces.
 fn split_words(alloc: Global, line: &str) -> Result<Vec<&str>, Memory>
     ensures { IfOk result (λ words. map (λ word. word.now) words.items ≡ slice_split is_space line.now) }
 {
@@ -327,7 +338,7 @@ fn split_words(alloc: Global, line: &str) -> Result<Vec<&str>, Memory>
     Ok(words)
 }
 
-/// The run of words that are given.
+/// Runs the given words.
 fn run_given<R: Source>(
     rt: &(impl Threads + Wait + Sync),
     alloc: Global,
@@ -354,7 +365,7 @@ fn run_given<R: Source>(
     output_of(rt, alloc, limits_of(words), &job, input.bytes())
 }
 
-/// The first line of the bytes, and what stands behind it.
+/// Returns the first line of the bytes, and what follows it.
 fn split_first_line(bytes: &[u8]) -> (&[u8], &[u8])
     ensures line { result.0.now ≡ first_line bytes.now }
     ensures rest { result.1.now ≡ behind_first_line bytes.now }
@@ -365,8 +376,8 @@ fn split_first_line(bytes: &[u8]) -> (&[u8], &[u8])
     }
 }
 
-/// The job that the words of a line mean. `Err` as [`read_words`] has it, but a long line, or one with unprintable characters, isn't
-/// echoed as it is.
+/// Returns the job of a line's words. Errors are those of [`read_words`], but a line that is long or has unprintable
+/// characters isn't echoed as it is.
 fn read_line(alloc: Global, line: &str, words: &[&str]) -> Result<Job, Stop>
     ensures ok { IfOk result (Mean (map (λ word. word.now) words.now)) }
     ensures err { IfErr result (EndsWords (map (λ word. word.now) words.now)) }
@@ -379,7 +390,7 @@ fn read_line(alloc: Global, line: &str, words: &[&str]) -> Result<Job, Stop>
     }
 }
 
-/// The run of the words in the first line.
+/// Runs the words of the first line.
 fn run_line(
     rt: &(impl Threads + Wait + Sync),
     alloc: Global,
@@ -406,7 +417,7 @@ fn run_line(
     output_of(rt, alloc, limits_of(words.as_slice()), &job, rest)
 }
 
-/// The run of words that the input begins with.
+/// Runs the words with which the input begins.
 fn run_taken<R: Source>(
     rt: &(impl Threads + Wait + Sync),
     alloc: Global,
@@ -423,7 +434,7 @@ fn run_taken<R: Source>(
     run_line(rt, alloc, input.bytes())
 }
 
-/// The run of words that are given, or where none are of those in the first line of the input.
+/// Runs the given words or, if there are none, those of the input's first line.
 fn run<R: Source>(
     rt: &(impl Threads + Wait + Sync),
     alloc: Global,
@@ -443,7 +454,8 @@ fn run<R: Source>(
     }
 }
 
-/// The status of an output that was told: 4 where it refused some of it, which is told on the writer of faults.
+/// Returns the status after an output was written: 4 if the output refused some of it. A line on the writer of faults
+/// says so.
 fn end_told<O: Sink, F: Sink>(output: &Told<O>, faults: &mut Told<F>) -> u8
     ensures { EndsTold output.now.refused (writing F.contents faults.old faults.new) result }
 {
@@ -454,7 +466,7 @@ fn end_told<O: Sink, F: Sink>(output: &Told<O>, faults: &mut Told<F>) -> u8
     DONE
 }
 
-/// Writes all of a text, and the status of that: 4 where the output refuses some of it.
+/// Writes all of a text. Returns the status: 4 if the output refuses some of it.
 fn hand_over<O: Sink, F: Sink>(text: &[u8], output: &mut Told<O>, faults: &mut Told<F>) -> u8
     ensures { HandsOver text.now (writing O.contents output.old output.new) (writing F.contents faults.old faults.new) result }
 {
@@ -462,7 +474,7 @@ fn hand_over<O: Sink, F: Sink>(text: &[u8], output: &mut Told<O>, faults: &mut T
     end_told(output, faults)
 }
 
-/// Tells all of an output, and the status of that: 4 where the writer refuses some of it.
+/// Writes all of an output. Returns the status: 4 if the writer refuses some of it.
 fn tell_output<O: Sink, F: Sink>(
     prepared: PreparedOutput,
     output: &mut Told<O>,
@@ -475,7 +487,8 @@ fn tell_output<O: Sink, F: Sink>(
     end_told(output, faults)
 }
 
-/// Tells the end: help on the output, and anything else on the writer of faults. The status of that.
+/// Writes the text of a stop: help or the version on the output, and anything else on the writer of faults. Returns the
+/// status.
 pub fn tell<O: Sink, F: Sink>(stop: &Stop, output: &mut Told<O>, faults: &mut Told<F>) -> u8
     requires { output.old.refused ≡ false }
     ensures { TellsStop stop.now (writing O.contents output.old output.new) (writing F.contents faults.old faults.new) result }
@@ -491,10 +504,17 @@ pub fn tell<O: Sink, F: Sink>(stop: &Stop, output: &mut Told<O>, faults: &mut To
     stop.status
 }
 
-/// Runs the program: the words without the program's name, and where there are none the words of the input's first
-/// line. `rt` is for threads. The exit status: 0 done, 1 refused input, 2 usage, 3 want of memory, 4 a read, a write or a run on
-/// threads failed. What is asked for goes to `output`, and the line of a fault to `faults`. A run on threads waits until all of
-/// them have ended.
+/// Runs the program. `words` are its arguments without the program's name; if there are none, its words are those of
+/// the input's first line. `rt` is for threads. The requested text goes to `output`, and the line of a fault to
+/// `faults`. A run on threads returns after all threads have ended.
+///
+/// Returns the exit status:
+///
+/// * 0: done;
+/// * 1: the input was refused;
+/// * 2: the words were wrong;
+/// * 3: an allocation failed;
+/// * 4: a read, a write or a run on threads failed.
 pub fn engine<R: Source, O: Sink, F: Sink>(
     rt: &(impl Threads + Wait + Sync),
     alloc: Global,

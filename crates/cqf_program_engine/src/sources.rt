@@ -1,4 +1,4 @@
-//! Readers, by what they may fail for.
+//! Readers, by the errors with which they may fail.
 ghost use Rattle.std.specs.Prelude.{IfErr, ⊤};
 ghost use Rattle.std.specs.IoError.{error_kind};
 ghost use Rattle.std.specs.Io.{ReadsAtMost};
@@ -9,12 +9,12 @@ use std::fs::File;
 use std::io;
 use std::io::{Read, Stdin};
 
-/// A reader of which is known for which kinds of error it may fail.
+/// A reader with the kinds of error with which it may fail.
 pub trait Source: Read {
-    // The kinds of error that a read may end with.
+    // The kinds of error with which a read may end.
     ghost fails: { ErrorKind → Type 0 };
 
-    /// One read, as [`Read::read`] makes it.
+    /// Makes one read, as [`Read::read`] does.
     fn read_some(&mut self, buffer: &mut [u8]) -> io::Result<usize>
         ensures bound { ReadsAtMost result buffer.new }
         ensures bytes { ReadConsumes (Self.remaining self.old) (Self.remaining self.new) result buffer.new }
@@ -30,7 +30,7 @@ impl Source for &[u8] {
     }
 }
 
-/// Standard input may fail for anything.
+/// Standard input may fail with any error.
 impl Source for Stdin {
     ghost fails = { λ _. ⊤ };
 
@@ -39,7 +39,7 @@ impl Source for Stdin {
     }
 }
 
-/// A file may fail for anything.
+/// A file may fail with any error.
 impl Source for File {
     ghost fails = { λ _. ⊤ };
 

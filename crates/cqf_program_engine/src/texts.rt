@@ -11,14 +11,14 @@ use cqf_press::Stop;
 use cqf_units::Memory;
 use std::alloc::Global;
 
-/// The texts of several readers, bounded together: of all of them at most one byte more is read than there may be.
+/// The texts of several readers, with one bound for all together: at most one byte more than the bound is read.
 #[derive(Drop)]
 pub struct Texts {
     bytes: Filled,
     ends: Vec<usize>,
 }
 
-/// The bytes from a place up to another, none where there are no such places.
+/// Returns the bytes from one index up to another; none if there are no such indexes.
 fn piece_of(bytes: &[u8], start: usize, end: usize) -> &[u8]
     ensures { result.now ≡ piece_of bytes.now start end }
 {
@@ -30,7 +30,7 @@ fn piece_of(bytes: &[u8], start: usize, end: usize) -> &[u8]
 }
 
 impl Texts {
-    /// None yet.
+    /// Makes an empty one.
     pub fn new(alloc: Global) -> Texts
         ensures bytes { result.bytes ≡ [] }
         ensures ends { result.ends.items ≡ [] }
@@ -41,8 +41,11 @@ impl Texts {
         }
     }
 
-    /// Takes all that the reader gives, as one text more. `Err` with status 4 where the reader fails, with status 1 where all texts come to
-    /// more than so many bytes, and with status 3 for want of memory.
+    /// Reads all bytes of a reader as one more text.
+    ///
+    /// # Errors
+    /// With status 4 if the reader fails, with status 1 if all texts together have more than `most` bytes, and with
+    /// status 3 if an allocation fails.
     pub fn read<R: Source>(
         &mut self,
         alloc: Global,
@@ -65,7 +68,7 @@ impl Texts {
         }
     }
 
-    /// Takes all that the reader gives.
+    /// Reads all bytes of a reader.
     fn fill<R: Source>(&mut self, alloc: Global, most: usize, reader: &mut R) -> Result<(), Stop>
         requires small { most < 2 ^ 63 }
         requires few { length self.old.bytes ≤ most }
@@ -86,7 +89,7 @@ impl Texts {
         Err(stop_of_length(alloc))
     }
 
-    /// The texts, in the order in which they were read. The error is want of memory.
+    /// Returns the texts, in the order in which they were read. Returns `Memory` if an allocation fails.
     pub fn texts(&self, alloc: Global) -> Result<Vec<&[u8]>, Memory>
         ensures { IfOk result (λ texts. map (λ text. text.now) texts.items ≡ pieces_of self.now.bytes 0 self.now.ends.items) }
     {

@@ -1,4 +1,4 @@
--- The deliveries that have come are the shift's frames on links to stations.
+-- The deliveries that have arrived are the shift's frames on links to stations.
 use Rattle.std.proofs.Common.{◌≡◌, ◌∙◌, ◌<◌, ◌-◌, ◌==◌, ◌&&◌, [], ℕ, Bool, true, false, List, Option, Some, None}
 use Rattle.std.proofs.Common.{Contains, ap, arith, if◌then◌else◌, length, nat_lt, option_map, refl, subst, subst₂, sym}
 use Rattle.std.proofs.lemmas.Bool.{false≢true}
@@ -30,7 +30,7 @@ use Rattle.cqf_program_runs.specs.Deliveries.{whole_instant, whole_on}
 use Rattle.cqf_program_runs.proofs.Fates.{first_passes, second_passes}
 use Rattle.cqf_program_runs.proofs.Well.{of_covered, of_uncovered}
 
--- what is whole has come, whatever its deadline is
+-- a frame that is whole has arrived, regardless of its deadline
 pub come_by : (at : ℕ) (whole : Nanos) (deadline : Option ℕ) → has_come (arrival_at_listener at whole deadline) ≡ true
 come_by at whole None = refl
 come_by at whole (Some deadline) = either (nat_lt deadline (whole.0 - at))
@@ -52,7 +52,7 @@ at_start starts frame link start is =
     (member.0, own, on)
 
 module _ (run : Run) (streams : List PlannedText) (book : Contents) (says : SaysTheShift run book) where
-  -- what is known of a frame's way
+  -- the delivery of a frame to the end of a hop, given its start there
   abbrev way : Offered → Hop → Option Started → Delivery
   way x hop start = delivery_of run.domain x (passage.Goes (record {
     listener = name_of_end run.domain hop.link;
@@ -65,7 +65,7 @@ module _ (run : Run) (streams : List PlannedText) (book : Contents) (says : Says
       InShift run (length run.tables) x.frame hop.link start.cycle.0
   shifted x hop start at = subst₂ (λ (frame link : ℕ). InShift run (length run.tables) frame link start.cycle.0) at.1 at.2 (says.only start at.0)
 
-  -- a delivery to a listener, where the frame starts on the link there
+  -- a delivery to a listener, if the frame starts on the link there
   abbrev by_start : (x : Offered) (row : Row) (hop : Hop) (delivery : Delivery) → IsCovered run x row → Contains (listeners_of run.domain row) hop →
       way x hop (start_on book.starts x.frame hop.link) ≡ delivery → (start : Started) → start_on book.starts x.frame hop.link ≡ Some start →
       IsArrivalOfOffer run streams book delivery
@@ -81,7 +81,7 @@ module _ (run : Run) (streams : List PlannedText) (book : Contents) (says : Says
     is = sym is ∙ ap (way x hop) e;
   }
 
-  -- one that has come
+  -- a delivery to a listener that has arrived
   to_listener : (x : Offered) (row : Row) (hop : Hop) (delivery : Delivery) → IsCovered run x row → Contains (listeners_of run.domain row) hop →
       way x hop (start_on book.starts x.frame hop.link) ≡ delivery → has_come (fate_of delivery) ≡ true →
       (found : Option Started) → start_on book.starts x.frame hop.link ≡ found → IsArrivalOfOffer run streams book delivery
@@ -118,7 +118,7 @@ module _ (run : Run) (streams : List PlannedText) (book : Contents) (says : Says
   of_offer x delivery inside own come false e = absurd (contains_none delivery (
       subst (λ (b : Bool). Contains (if b then deliveries_unless run streams book x (drop_of book.drops x.frame) else []) delivery) e own))
 
-  -- and each of the shift's has come
+  -- and each frame of the shift has arrived
   each_arrives : (frame link cycle : ℕ) → InShift run (length run.tables) frame link cycle → is_station (end_of run.domain link) ≡ true →
       HasArrived run streams book frame link
   each_arrives frame link cycle shift station =

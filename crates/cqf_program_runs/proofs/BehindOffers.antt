@@ -1,4 +1,4 @@
--- Each start of a book is of a cycle behind its offer's, and no deeper behind it than its row's tree.
+-- Each start of a book is of a cycle after its offer's, by at most the depth of its row's tree.
 use Rattle.std.proofs.Common.{◌≡◌, ◌∙◌, ◌+◌, ◌<◌, ◌≤◌, ℕ, List, Option, Some, None, Contains, All, ap, arith, length, refl, sym}
 use Rattle.std.specs.Prelude.{slice_get}
 use Rattle.cqf_lists.proofs.Members.{all_from_members, contains_at}
@@ -43,7 +43,7 @@ queued_row rows cycle (Dropped reason) row e = absurd (cc)
 
 module _ (run : Run) (book : Contents) (says : SaysTheShift run book) (orderly : AreOrderly run.domain run.tables) (rows : List Row)
     (edge_verdicts : List EdgeVerdict) (decided : AreDecided run (verdict_at run.domain rows edge_verdicts)) (depth : ℕ) (deep : NoneIsDeeper rows depth) where
-  -- a row that covers an offer is no deeper
+  -- a row that covers an offer is at most that deep
   covers_within : (x : Offered) (row : Row) → IsCovered run x row → offer_cycle run.domain x < length run.tables → residence row ≤ depth
   covers_within x row covered inside = by (verdict_at run.domain rows edge_verdicts x) refl (decided x covered.offered inside)
     where

@@ -36,7 +36,7 @@ one_reason run x a b one two =
     cc
 
 module _ (run : Run) (book : Contents) (says : SaysTheShift run book) (x : Offered) (inside : Contains (numbered run.offers) x) where
-  -- a drop of its number is its own
+  -- a drop with its number is its own
   pub drop_is : (dropped : Dropped) → drop_of book.drops x.frame ≡ Some dropped → IsUncovered run x dropped.reason
   drop_is dropped is =
       let member = find_member (λ (z : Dropped). z.frame == x.frame) book.drops dropped is in
@@ -45,16 +45,16 @@ module _ (run : Run) (book : Contents) (says : SaysTheShift run book) (x : Offer
       let same : of_it.x ≡ x = one_number run.offers of_it.x x of_it.uncovered.offered inside (sym of_it.frame ∙ number) in
       subst (λ (z : Offered). IsUncovered run z dropped.reason) same of_it.uncovered
 
-  -- where it is covered there is none
+  -- a covered offer has no drop
   pub covered_no_drop : (row : Row) → IsCovered run x row → drop_of book.drops x.frame ≡ None
   covered_no_drop row covered = by (drop_of book.drops x.frame) refl
     where
-      -- whatever is found
+      -- for any result of the search
       by : (found : Option Dropped) → drop_of book.drops x.frame ≡ found → found ≡ None
       by None is = refl
       by (Some dropped) is = absurd (not_both run x row dropped.reason covered (drop_is dropped is))
 
-  -- and else there is one, with its reason
+  -- an uncovered offer has a drop, with its reason
   pub uncovered_drop : (reason : Reason) → offer_cycle run.domain x < length run.tables → IsUncovered run x reason →
       (dropped : Dropped) × (drop_of book.drops x.frame ≡ Some dropped) × (dropped.reason ≡ reason)
   uncovered_drop reason within uncovered =

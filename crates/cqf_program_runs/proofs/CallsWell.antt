@@ -1,4 +1,4 @@
--- No call of a history is refused just where a check finds none, and then it tells what is told of the frames.
+-- No call of a history is refused if and only if a check finds none; then the check's result is that of the frames.
 use Rattle.std.proofs.Common.{◌≡◌, ◌∙◌, ◌+◌, ℕ, Bool, true, false, not, List, Option, Some, None, Result, Ok, ap, filter, refl, sym}
 use Rattle.std.proofs.lemmas.Bool.{false≢true}
 use Rattle.cqf_lists.specs.Results.{refuse}
@@ -38,7 +38,7 @@ module _ (entries : List Recorded) where
   abbrev is_call : Recorded → Bool
   is_call e = not (is_seal e.act)
 
-  -- where none is found, none is refused
+  -- if none is found, none is refused
   pub none_is_refused : first_refused entries ≡ None → NoneIsRefused entries
   none_is_refused none e fault among call is =
       let own = contains_filter is_call entries e among (is_false (is_seal e.act) call) in
@@ -46,7 +46,7 @@ module _ (entries : List Recorded) where
       let listed = enum_there 1 place.0 (1 + place.0) (filter is_call entries) e refl place.1 in
       false≢true (sym (none_passes refused (numbered_calls entries) none (1 + place.0, e) listed) ∙ ap is_refused is)
 
-  -- and the other way
+  -- and conversely
   pub none_refused : NoneIsRefused entries → first_refused entries ≡ None
   none_refused none = none_found refused (numbered_calls entries) (λ call among.
       let at = enum_at 1 (filter is_call entries) call among in

@@ -1,4 +1,4 @@
--- Deliveries counted, and looked at for the first bad one, offer by offer.
+-- Deliveries, counted and searched for the first bad one, offer by offer.
 use Rattle.std.proofs.Common.{◌≡◌, ◌∙◌, ◌+◌, ◌<◌, ◌++◌, ◌&&◌, ℕ, Bool, List, None, Option, Some, ap, count_by, drop, filter, find, length, sym, take}
 use Rattle.std.specs.Option.{option_or}
 use Rattle.std.specs.Prelude.{slice_get}
@@ -63,18 +63,18 @@ ends_it delivery = is_bad (fate_of delivery)
 module _ (over : Over) (place : ℕ) (here : List Delivery) (within : place < length over.offers)
     (are : (x : Offered) → slice_get (numbered over.offers) place ≡ Some x → here ≡ deliveries_at over x)
     (well : NoneBad (deliveries_among over (take place (numbered over.offers)))) where
-  -- what is found of the offers up to it is found of it
+  -- the result of the search in its deliveries is that of the search in the deliveries up to it
   found_here : (found : Option Delivery) → find ends_it here ≡ found → find ends_it (deliveries_among over (take (place + 1) (numbered over.offers))) ≡ found
   found_here found is =
       ap (find ends_it) (sym (among_more over place here within are))
       ∙ find-append ends_it (deliveries_among over (take place (numbered over.offers))) here
       ∙ (λ i. option_or (well i) (is i))
 
-  -- none is bad where none of it is
+  -- no delivery so far is bad if none of this offer is
   pub none_bad_more : find ends_it here ≡ None → NoneBad (deliveries_among over (take (place + 1) (numbered over.offers)))
   none_bad_more is = found_here None is
 
-  -- and else the first of it is the first of all
+  -- otherwise its first bad delivery is the first of all
   pub first_bad_of_all : (bad : Delivery) → find ends_it here ≡ Some bad → find ends_it (deliveries_over over) ≡ Some bad
   first_bad_of_all bad is =
       let front = take (place + 1) (numbered over.offers) in

@@ -1,4 +1,4 @@
--- A run that is followed goes on by an offer.
+-- A run that is followed advances by an offer.
 use Rattle.std.proofs.Common.{[], ◌≡◌, ◌∙◌, ◌+◌, ◌<◌, ◌≤◌, ℕ, Option, Some, None, Contains, ap, arith, get_or, length, subst, sym}
 use Rattle.std.specs.Prelude.{slice_get}
 use Rattle.std.proofs.lemmas.List.{length-map}
@@ -24,7 +24,7 @@ use Rattle.cqf_program_runs.proofs.InOrder.{in_order}
 use Rattle.cqf_program_runs.proofs.KeptSlots.{row_at_within, slots_next}
 use Rattle.cqf_program_runs.proofs.ToldStarts.{all_told, none_whole, told_in, told_later}
 
--- what is told is in time
+-- the starts that the pass returns are in time
 pub tells_in_time : (over : Over) (place : ℕ) (under_way : UnderWay) → IsFollowed over place under_way → TellsInTime over.domain under_way.pass.basis
 tells_in_time over place under_way followed =
     record { given = followed.given; is = followed.book.is; in_time = followed.book.in_time }
@@ -54,7 +54,7 @@ module _ (over : Over) (place : ℕ) (old told new : UnderWay) (offer : Offer) (
   some : 0 < length (slots_of told.slots.items)
   some = omega (arith, followed.some, tells.as_many, length-map told.slots.items (λ (slot : Vec (Option Nanos) Global). slot.items))
 
-  -- what is kept of the offer's frame tells when it is whole
+  -- what is kept of the offer's frame says when it is whole
   pub first_tells : TellsWhole over.domain (row_at over.rows over.edge_verdicts place) (get_or (slots_of told.slots.items) 0 []) (over.whole (place + 1))
   first_tells row link column found at_column =
       let here : place + 0 ≡ place = omega arith in
@@ -64,7 +64,7 @@ module _ (over : Over) (place : ℕ) (old told new : UnderWay) (offer : Offer) (
       omega (arith, tells.counted, tells.all s.cycle.0 ((behind s among).soon place offer at frame) (told_in given cycles s among)))
       ∙ sym (λ i. followed.book.whole i (place + 1) link)
 
-  -- and nothing is told of the frame behind the last one that is kept
+  -- and nothing is known of the frame after the last one that is kept
   none_behind : (row : Row) (link : ℕ) → row_at over.rows over.edge_verdicts (place + length (slots_of told.slots.items)) ≡ Some row →
       whole_on over.domain (starts_told given told.pass.told) (place + length (slots_of told.slots.items) + 1) link ≡ None
   none_behind row link found =
@@ -87,7 +87,7 @@ module _ (over : Over) (place : ℕ) (old told new : UnderWay) (offer : Offer) (
         deep,
       )))
 
-  -- so it is followed from the next one on
+  -- so the run is followed from the next offer on
   pub goes_on : GoesOn told new → IsFollowed over (place + 1) new
   goes_on on =
       let same_depth : new.depth ≡ old.depth = on.depth ∙ tells.depth in
@@ -117,7 +117,7 @@ module _ (over : Over) (place : ℕ) (old told new : UnderWay) (offer : Offer) (
             omega (arith, on.told, same_depth, most, rises);
       }
 
--- before anything is told it is followed from the first offer on
+-- before any start is returned, the run is followed from the first offer on
 pub followed_first : (over : Over) (under_way : UnderWay) (given : GivenRun) → IsOver over → StandInOrder over.offers → under_way.pass.told ≡ 0 →
     IsLaid over.domain over.rows over.offers under_way → IsBookBehind over under_way.depth under_way.pass.basis given → IsFollowed over 0 under_way
 followed_first over under_way given is_over ordered fresh laid book =

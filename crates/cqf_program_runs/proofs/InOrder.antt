@@ -1,4 +1,5 @@
--- Offers in order of instant are in order of cycle, and so many places behind one there is one of a cycle so deep behind its own.
+-- Offers in order of instant are in order of cycle; and from some distance on, an offer's cycle is at least `depth`
+-- cycles after that of the offer this far before it.
 use Rattle.std.proofs.Common.{◌≡◌, ◌∙◌, ◌+◌, ◌-◌, ◌/◌, ◌<◌, ◌≤◌, ℕ, List, Some, ap, arith, get_or, inl, inr, length, sym}
 use Rattle.std.specs.Prelude.{slice_get, suc, zero}
 use Rattle.std.proofs.lemmas.Bool.{cases_lt}
@@ -14,7 +15,7 @@ pub cycles_rise : (n s t : ℕ) → s ≤ t → s / n ≤ t / n
 cycles_rise zero s t order = omega (arith, div-zero s, div-zero t)
 cycles_rise (suc n) s t order = cycles_ordered (suc n) s t (omega arith) order
 
--- below a place, whatever stands so many places behind another is of a cycle so deep behind the other's
+-- below a place, an offer `frames` positions after another is of a cycle at least `depth` cycles after the other's
 abbrev pub EnoughBelow : ℕ → List Offer → ℕ → ℕ → ℕ → Type 0
 EnoughBelow n offers depth place frames = (p : ℕ) (early late : Offer) → p + frames < place → slice_get offers p ≡ Some early →
     slice_get offers (p + frames) ≡ Some late → cycle_at n early.at.0 + depth ≤ cycle_at n late.at.0
@@ -35,7 +36,7 @@ module _ (n : ℕ) (offers : List Offer) (ordered : StandInOrder offers) where
   ]
 
   module _ (depth place frames : ℕ) (below : EnoughBelow n offers depth place frames) where
-    -- where that holds of the last one too
+    -- if that holds for the last one too
     pub enough_same : ((p : ℕ) (early late : Offer) → p + frames ≡ place → slice_get offers p ≡ Some early → slice_get offers place ≡ Some late →
         cycle_at n early.at.0 + depth ≤ cycle_at n late.at.0) → EnoughBelow n offers depth (place + 1) frames
     enough_same last p early late inside at_early at_late = elim (cases_lt (p + frames) place) [
@@ -45,7 +46,7 @@ module _ (n : ℕ) (offers : List Offer) (ordered : StandInOrder offers) where
           last p early late here at_early (ap (slice_get offers) (sym here) ∙ at_late)
     ]
 
-    -- and else of one place more
+    -- otherwise for a distance of one position more
     pub enough_more : 0 < frames → EnoughBelow n offers depth (place + 1) (frames + 1)
     enough_more some p early late inside at_early at_late =
         let before : p + frames < length offers = omega (arith, slice_get_within offers (p + (frames + 1)) late at_late) in

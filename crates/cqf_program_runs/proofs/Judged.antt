@@ -39,7 +39,7 @@ use Rattle.cqf_program_runs.proofs.ByBook.{deliveries_judged}
 use Rattle.cqf_program_runs.specs.Deliveries.PlannedScenario.{run_of_scenario}
 use Rattle.cqf_program_runs.specs.Deliveries.Reading.{AreDeliveries, ArePlannedBeside}
 
--- what is found by a name, or nothing, has its deadline at its place
+-- what is found by a name, or nothing, has its deadline at its index
 due_at : (streams : List PlannedText) (k : ℕ) (found : Option PlannedText) → slice_get streams k ≡ found →
     get_or (map (λ (planned : PlannedText). planned.1) streams) k None ≡ option_and_then (λ (planned : PlannedText). planned.1) found
 due_at streams k (Some planned) at =
@@ -67,7 +67,7 @@ due_is streams requests deadlines planned name =
     ∙ ap (λ (ends : List (Option ℕ)). option_and_then (λ (k : ℕ). get_or ends k None) (position (named name) streams)) planned.ends
     ∙ by (position (named name) streams) refl
   where
-    -- the first request of it stands where the first stream does
+    -- the first request with the name has the index of the first such stream
     places : place_named requests name ≡ position (named name) streams
     places =
         sym (position-map (λ (asked : Asked). is_text asked.name name) asked_paced requests)
@@ -113,7 +113,7 @@ AreDeliveries-made law cycles s streams book rows edge_verdicts due deliveries i
     many : length (tables_of s.domain (history_of cycles s) cycles) ≡ cycles
     many = length-singles (table_at s.domain (history_of cycles s)) cycles
 
--- and so where they were made of the same things otherwise named
+-- and so if the same things were given under other names
 pub AreDeliveries-run : OffersAreJudged → (cycles : ℕ) (s : Scenario) (streams : List PlannedText) (book : Contents) (d : Domain) (entries : List Recorded)
     (offers : List Offer) (starts : List Started) (rows : List Row) (edge_verdicts : List EdgeVerdict) (due : List ℕ → Option ℕ) (deliveries : List Delivery) →
     IsBookOfScenario cycles s book → d ≡ s.domain → entries ≡ history_of cycles s → offers ≡ s.offers → starts ≡ book.starts →

@@ -26,7 +26,7 @@ use Rattle.cqf_program_plans.specs.Latency.Text.{is_station, listeners_of}
 use Rattle.cqf_program_runs.specs.Deliveries.{whole_instant, whole_on}
 use Rattle.cqf_program_runs.specs.Deliveries.UnderWay.{AreEmptySlots, AreSlots, KeepsFirst, KeepsInSlot, NotesAll, column_of, row_at, row_judged, slots_of}
 
--- what is made of the first of two
+-- the image of the first of two
 map_or : {X Y : Type 0} (f : X → Y) (a b : Option X) → option_map f (option_or a b) ≡ option_or (option_map f a) (option_map f b)
 map_or f None b = refl
 map_or f (Some x) b = refl
@@ -35,7 +35,7 @@ pub or_none : {X : Type 0} (a : Option X) → option_or a None ≡ a
 or_none None = refl
 or_none (Some x) = refl
 
--- two numbers that aren't both these
+-- two numbers that aren't both equal to a given pair
 pub not_these : (a b m n : ℕ) → (a ≡ m → b ≡ n → ⊥) → ((a == m) && (b == n)) ≡ false
 not_these a b m n never = by (a == m) (b == n) refl refl
   where
@@ -50,7 +50,7 @@ both_these a b m n one two =
     let second : (b == n) ≡ true = grind (arith, nat_tests) in
     λ i. first i && second i
 
--- when a frame is whole by one start more
+-- when a frame is whole, with one start more
 module _ (d : Domain) (starts : List Started) (s : Started) (frame link : ℕ) where
   by_both : (b : Bool) → ((s.frame == frame) && (s.link == link)) ≡ b →
       whole_on d (starts ++ s ∷ []) frame link ≡ option_or (whole_on d starts frame link) (option_map (whole_instant d) (cond b (Some s) None))
@@ -59,11 +59,11 @@ module _ (d : Domain) (starts : List Started) (s : Started) (frame link : ℕ) w
       ∙ map_or (whole_instant d) (find (λ (z : Started). (z.frame == frame) && (z.link == link)) starts) (cond ((s.frame == frame) && (s.link == link)) (Some s) None)
       ∙ ap (λ (c : Bool). option_or (whole_on d starts frame link) (option_map (whole_instant d) (cond c (Some s) None))) is
 
-  -- of another frame, or on another link, as before
+  -- a start of another frame, or on another link, changes nothing
   pub whole_as_before : (s.frame ≡ frame → s.link ≡ link → ⊥) → whole_on d (starts ++ s ∷ []) frame link ≡ whole_on d starts frame link
   whole_as_before never = by_both false (not_these s.frame s.link frame link never) ∙ or_none (whole_on d starts frame link)
 
-  -- and else by the first
+  -- otherwise the first start counts
   pub whole_at_first : s.frame ≡ frame → s.link ≡ link →
       whole_on d (starts ++ s ∷ []) frame link ≡ option_or (whole_on d starts frame link) (Some (whole_instant d s))
   whole_at_first one two = by_both true (both_these s.frame s.link frame link one two)
@@ -99,7 +99,7 @@ one_link d row a b column one two =
     let is_b : hop.link ≡ b = grind (arith, nat_tests) in
     sym is_a ∙ is_b
 
--- the row of which a column is found
+-- the row in which a column is found
 pub column_found : (d : Domain) (found : Option Row) (link column : ℕ) → option_and_then (λ (row : Row). column_of d row link) found ≡ Some column →
     (row : Row) × (found ≡ Some row) × (column_of d row link ≡ Some column)
 column_found d None link column is = absurd (cc)
@@ -124,7 +124,7 @@ column_of_station d row link column at =
     sym (ap (λ (l : ℕ). is_station (end_of d l)) same)
     ∙ (contains_from_filter (λ (h : Hop). is_station (end_of d h.link)) row.tree.items hop among).1
 
--- the slot at a place is set
+-- the slot at an index is set
 pub keeps_set : (slots : List (Vec (Option Nanos) Global)) (behind column : ℕ) (own old default : Vec (Option Nanos) Global) (whole : Nanos) →
     behind < length slots → old ≡ get_or slots behind default → KeepsFirst old.items own.items column whole →
     KeepsInSlot (slots_of slots) (slots_of (set slots behind own)) behind column whole
@@ -141,7 +141,7 @@ keeps_set slots behind column own old default whole below at keeps = record {
     items : Vec (Option Nanos) Global → List (Option Nanos)
     items v = v.items
 
-    -- the slot set is seen in its place
+    -- setting a slot sets its columns
     same : slots_of (set slots behind own) ≡ set (slots_of slots) behind own.items
     same = map-set (λ (v : Vec (Option Nanos) Global). v.items) slots behind own
 
@@ -150,7 +150,7 @@ keeps_set slots behind column own old default whole below at keeps = record {
         ap (λ (zs : List (List (Option Nanos))). get_or zs behind []) same
         ∙ get_or-set_same (slots_of slots) behind own.items [] (omega (arith, below, length-map slots items))
 
--- the first slot is set, and is the last one then
+-- the first slot is set and becomes the last
 pub turned : (slots : List (Vec (Option Nanos) Global)) (own : Vec (Option Nanos) Global) → 0 < length slots →
     slots_of (drop 1 (set slots 0 own) ++ take 1 (set slots 0 own)) ≡ drop 1 (slots_of slots) ++ own.items ∷ []
 turned [] own some = absurd (omega (arith, some))
@@ -257,7 +257,7 @@ module _ (d : Domain) (rows : List Row) (edge_verdicts : List EdgeVerdict) (plac
     noted = λ starts width are. subst (λ (ss : List Started). AreSlots d rows edge_verdicts ss place width slots) (sym (append-nil starts)) are;
   }
 
-  -- starts behind starts
+  -- starts after starts
   pub notes_then : (first second : List Started) (before between after : List (List (Option Nanos))) →
       NotesAll d rows edge_verdicts place first before between → NotesAll d rows edge_verdicts place second between after →
       NotesAll d rows edge_verdicts place (first ++ second) before after
@@ -269,7 +269,7 @@ module _ (d : Domain) (rows : List Row) (edge_verdicts : List EdgeVerdict) (plac
   }
 
   module _ (s : Started) where
-    -- a start that is of no frame that is kept, or comes to none of its listeners, is passed over
+    -- a start is skipped if it is of no frame that is kept, or reaches none of its listeners
     pub passed_over : (slots : List (List (Option Nanos))) →
         ((behind : ℕ) (row : Row) (column : ℕ) → behind < length slots → row_at rows edge_verdicts (place + behind) ≡ Some row →
         column_of d row s.link ≡ Some column → s.frame ≡ place + behind + 1 → ⊥) →
@@ -286,7 +286,7 @@ module _ (d : Domain) (rows : List Row) (edge_verdicts : List EdgeVerdict) (plac
       };
     }
 
-    -- and another is noted
+    -- and another start is noted
     module _ (before after : List (List (Option Nanos))) (row : Row) (behind column : ℕ) (own : s.frame ≡ place + behind + 1)
         (below : behind < length before) (found : row_at rows edge_verdicts (place + behind) ≡ Some row) (at : column_of d row s.link ≡ Some column)
         (keeps : KeepsInSlot before after behind column (whole_instant d s)) where
@@ -297,7 +297,7 @@ module _ (d : Domain) (rows : List Row) (edge_verdicts : List EdgeVerdict) (plac
         wide_then k inside (inr other) =
             ap (λ (slot : List (Option Nanos)). length slot) (keeps.others k other) ∙ are.wide k (omega (arith, inside, keeps.as_many))
 
-        -- in the very slot
+        -- in the same slot
         tell_there : (other : Row) (link c : ℕ) → row_at rows edge_verdicts (place + behind) ≡ Some other → column_of d other link ≡ Some c →
             (c ≡ column) ⊎ (c ≢ column) → get_or (get_or after behind []) c None ≡ whole_on d (starts ++ s ∷ []) (place + behind + 1) link
         tell_there other link c found_it at_it (inl same) =
@@ -339,7 +339,7 @@ module _ (d : Domain) (rows : List Row) (edge_verdicts : List EdgeVerdict) (plac
         };
       }
 
--- the first slot is emptied, and is then that of the frame behind the last one, of which nothing is told
+-- the first slot is emptied and becomes that of the frame after the last one; nothing is known of that frame
 module _ (d : Domain) (rows : List Row) (edge_verdicts : List EdgeVerdict) (starts : List Started) (place width : ℕ)
     (emptied : List (Option Nanos)) where
   slots_next_of : (first : List (Option Nanos)) (more : List (List (Option Nanos))) → AreSlots d rows edge_verdicts starts place width (first ∷ more) →

@@ -19,7 +19,7 @@ module _ (late : Offered → Bool) (offers : List Offer) (place : ℕ) (offer : 
   is : (b : Bool) → late x ≡ b → late (get_or (numbered offers) place x) ≡ b
   is b e = ap late (get_or_from_slice_get (numbered offers) place x x (numbered_at offers place offer at)) ∙ e
 
-  -- it is counted where it is late
+  -- it is counted if its cycle isn't run
   pub one_later : late x ≡ true → (so_far : ℕ) → so_far ≡ count_by late (take place (numbered offers)) →
       so_far + 1 ≡ count_by late (take (place + 1) (numbered offers))
   one_later e so_far counted = omega (arith, counted, count_by_more_yes late (numbered offers) place x inside (is true e))

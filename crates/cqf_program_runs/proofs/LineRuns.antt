@@ -7,7 +7,7 @@ use Rattle.cqf_program_scenario.specs.Closing.{MayBeRun}
 use Rattle.cqf_program_scenario.specs.Scenario.{Scenario}
 use Rattle.cqf_program_runs.specs.Line.{line_domain, line_scenario}
 
--- it has one call, which is no Seal, and the offers that were read
+-- it has one call, which isn't a Seal, and the offers that were read
 pub MayBeRun-line : (cycles : ℕ) (offers : List Offer) (s : Scenario) → s ≡ line_scenario offers → AreOffers line_domain offers →
     length offers ≤ 16777215 → StandInOrder offers → MayBeRun cycles s
 MayBeRun-line cycles offers s same good few ordered = subst (λ (t : Scenario). MayBeRun cycles t) (sym same) (record {

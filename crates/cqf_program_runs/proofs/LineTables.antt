@@ -13,7 +13,7 @@ use Rattle.cqf_laws_history.specs.StateLaws.{GrantedIsHeld, HistoryGoesOn, IsSta
 use Rattle.cqf_program_scenario.specs.Calls.{called_for, history_of, seals_by, with_call, with_calls}
 use Rattle.cqf_program_runs.specs.Line.{line_asked, line_domain, line_row, line_scenario, line_tables}
 
--- the laws about histories on which that stands
+-- the laws about histories on which this depends
 pub record TableLaws : Type 0 where
   pub goes_on : HistoryGoesOn
   pub counted : SealsAreCounted
@@ -22,7 +22,7 @@ pub record TableLaws : Type 0 where
   pub closes : SealClosesTable
   pub stays : ClosedTablesStay
 
--- behind these entries so many cycles are closed, and the stream is held in each of them and in the next
+-- after these entries `cycles` cycles are closed, and the stream is held in each of them and in the next
 record HasClosed (cycles : ℕ) (entries : List Recorded) : Type 0 where
   pub legal : IsLegalHistory line_domain entries
   pub state : IsState line_domain entries (line_row ∷ []) 1
@@ -63,7 +63,7 @@ closes_one laws cycles entries h few = record {
   ];
 }
 
--- and so many Seals so many
+-- and several Seals close as many cycles
 closes_all : TableLaws → (more cycles : ℕ) (entries : List Recorded) → HasClosed cycles entries → cycles + more ≤ 100000 →
     HasClosed (cycles + more) (with_calls line_domain entries (seals_by 1 more))
 closes_all laws zero cycles entries h few = let same : cycles ≡ cycles + 0 = omega arith in subst (λ (n : ℕ). HasClosed n entries) same h

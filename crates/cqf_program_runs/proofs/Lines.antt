@@ -2,7 +2,7 @@
 use Rattle.std.proofs.Common.{◌≡◌, ◌∙◌, ◌++◌, ◌∷◌, [], ℕ, List, append_assoc, ap, codes, sym}
 use Rattle.cqf_press.specs.Stops.{fault_line, line_of}
 
--- the line feed stands behind the last number
+-- the line feed comes after the last number
 pub unfinished_told : (under_way later : List ℕ) →
     codes "cqf: check: unfinished, under way " ++ (under_way ++ (codes ", not run " ++ (later ++ 10 ∷ [])))
     ≡ fault_line (codes "check") (codes "unfinished, under way " ++ (under_way ++ (codes ", not run " ++ later)))
@@ -23,7 +23,7 @@ well_told frames delivered timed =
     (sym (append_assoc frames (codes ", deliveries " ++ (delivered ++ last)) (10 ∷ [])
     ∙ ap (λ t. frames ++ (codes ", deliveries " ++ t)) (append_assoc delivered last (10 ∷ []))))
 
--- and behind what is said of a delivery
+-- and after the text about a delivery
 pub complaint_told : (frame stream bridge at complaint : List ℕ) →
     codes "cqf: check: frame "
     ++ (frame ++ (codes " of " ++ (stream ++ (codes ", offered to " ++ (bridge ++ (codes " at " ++ (at ++ (codes ": " ++ (complaint ++ 10 ∷ [])))))))))
@@ -41,7 +41,7 @@ complaint_told frame stream bridge at complaint =
     ∙ ap (λ t. stream ++ (codes ", offered to " ++ t)) (append_assoc bridge behind_bridge z
     ∙ ap (λ t. bridge ++ (codes " at " ++ t)) (append_assoc at behind_at z)))))
 
--- and behind why a call is refused
+-- and after the reason why a call is refused
 pub refused_told : (number call seat refused : List ℕ) →
     codes "cqf: check: call " ++ (number ++ (codes ", " ++ (call ++ (codes " by " ++ (seat ++ (codes ": refused " ++ (refused ++ 10 ∷ [])))))))
     ≡ fault_line (codes "check")

@@ -1,4 +1,4 @@
--- Listeners of one name are one.
+-- Listeners with the same name are the same.
 use Rattle.std.proofs.Common.{◌≡◌, ◌≢◌, ◌∙◌, ◌<◌, [], ℕ, true, List, Option, Some, None, inl, inr, arith, ap, sym, subst, refl, length}
 use Rattle.std.specs.Prelude.{option_map, slice_get, slice_index_or}
 use Rattle.std.specs.Option.{option_map_or}
@@ -22,7 +22,7 @@ station_inside d link station accepted is = by_link (slice_get d.links link) ref
     by_link None e h = absurd (cc)
     by_link (Some l) e h = subst (IsNode d) (same_Some l.to (Station station) h) (accepted.links_good link l e).to_node
 
--- stations of one name are one
+-- stations with the same name are the same
 one_station : (d : Domain) → IsDomain d → (a b : ℕ) → a < length d.stations → b < length d.stations →
     slice_index_or d.stations a [] ≡ slice_index_or d.stations b [] → a ≡ b
 one_station d domain a b low high same =
@@ -35,7 +35,7 @@ one_station d domain a b low high same =
       ]
     ]
 
--- so links that end in stations of one name end in one
+-- so links that end in stations with the same name end in the same station
 pub one_listener : (d : Domain) (link other : ℕ) → IsDomain d → is_station (end_of d link) ≡ true → is_station (end_of d other) ≡ true →
     name_of_end d link ≡ name_of_end d other → end_of d link ≡ end_of d other
 one_listener d link other domain first second same = by_ends (end_of d link) (end_of d other) refl refl first second same

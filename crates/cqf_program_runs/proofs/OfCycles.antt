@@ -9,7 +9,7 @@ use Rattle.cqf_instants.specs.Progress.{starts_of_cycle}
 use Rattle.cqf_model.specs.declared.frames.Started.{Started}
 use Rattle.cqf_model.specs.Book.{starts_in, starts_of}
 
--- so what holds of each of the run's holds of each of a cycle's
+-- so what holds for each start of the run holds for each start of a cycle
 pub of_cycle : (P : Started → Type 0) (given : Given) (cycles cycle : ℕ) → cycle < cycles →
     All P (starts_of given.run.domain cycles given.net.carried) → All P (starts_of_cycle given cycle)
 of_cycle P given cycles cycle within all =

@@ -1,4 +1,4 @@
--- Each offer is told of once for each of its listeners.
+-- Each offer has exactly one delivery for each of its listeners.
 use Rattle.std.proofs.Common.{◌≡◌, ◌≢◌, ◌∙◌, ◌∷◌, ◌<◌, ◌≤◌, ◌==◌, [], ℕ, AllPairs, Bool, true, false, cond, List, Option}
 use Rattle.std.proofs.Common.{Some, None, Contains, ap, ap₂, append-nil, arith, count_by, filter, get_or, if◌then◌else◌, inl, inr, length, nat_lt}
 use Rattle.std.proofs.Common.{refl, sum_by, sym}
@@ -36,7 +36,7 @@ use Rattle.cqf_program_runs.specs.Deliveries.{delivery_of, delivery_to, drop_of,
 use Rattle.cqf_program_runs.proofs.Listeners.{one_listener}
 use Rattle.cqf_program_runs.proofs.Well.{of_covered, of_uncovered}
 
--- where the members that pass exclude one another, one that passes is all that is kept
+-- if the members that pass exclude one another, one that passes is the only one that is kept
 not_passing : (b : Bool) → (b ≡ true → ⊥) → b ≡ false
 not_passing true no_pass = absurd (no_pass refl)
 not_passing false no_pass = refl
@@ -58,7 +58,7 @@ filter_alone {X} p (y ∷ xs) x apart inside passes =
     ]
 
 module _ (run : Run) (streams : List PlannedText) (book : Contents) where
-  -- the deliveries of an offer tell of its frame
+  -- the deliveries of an offer have its frame number
   frame_by : (y : Offered) (delivery : Delivery) (found : Option Row) →
       Contains (deliveries_by run.domain (whole_on run.domain book.starts y.frame) (deadline_named streams y.offer.stream) y found) delivery →
       delivery.frame ≡ y.frame
@@ -82,14 +82,14 @@ module _ (run : Run) (streams : List PlannedText) (book : Contents) where
   frame_of : (y : Offered) (delivery : Delivery) → Contains (deliveries_of_offer run streams book y) delivery → delivery.frame ≡ y.frame
   frame_of y delivery c = frame_within y delivery (nat_lt (offer_cycle run.domain y) (length run.tables)) c
 
-  -- so what tells of it is what there is of it
+  -- so the deliveries with its number are its deliveries
   module _ (x : Offered) (inside : Contains (numbered run.offers) x) where
     -- no other offer has its number
     apart : AllPairs (λ (a b : Offered). (a.frame == x.frame) ≡ true → (b.frame == x.frame) ≡ true → ⊥) (numbered run.offers)
     apart i j e l in_list =
         one_only (get_or (numbered run.offers) i e) (get_or (numbered run.offers) j e) (numbers_ascend run.offers i j e l in_list)
       where
-        -- neither of two
+        -- two offers don't both have the number
         one_only : (a b : Offered) → a.frame < b.frame → (a.frame == x.frame) ≡ true → (b.frame == x.frame) ≡ true → ⊥
         one_only a b less first second =
             let one : a.frame ≡ x.frame = grind (arith, nat_tests) in
@@ -110,7 +110,7 @@ module _ (run : Run) (streams : List PlannedText) (book : Contents) where
       as_dropped = λ reason uncovered. told_is_own ∙ of_uncovered run streams book says x inside within reason uncovered;
     }
 
-    -- and just one goes to each listener
+    -- and exactly one delivery goes to each listener
     module _ (domain : IsDomain run.domain) (orderly : AreOrderly run.domain run.tables) (says : SaysTheShift run book)
         (within : offer_cycle run.domain x < length run.tables) (row : Row) (covered : IsCovered run x row) (hop : Hop)
         (among : Contains (listeners_of run.domain row) hop) where

@@ -1,4 +1,4 @@
--- The deliveries of one offer stand behind those of the offers before it.
+-- The deliveries of one offer follow those of the offers before it.
 use Rattle.std.proofs.Common.{◌≡◌, ◌∙◌, ◌+◌, ◌<◌, ◌++◌, ℕ, List, Some, ap, arith, inl, inr, length, refl, take}
 use Rattle.std.specs.Prelude.{slice_get}
 use Rattle.std.proofs.lemmas.Option.{slice_get_cases}
@@ -16,7 +16,7 @@ pub among_more : (over : Over) (place : ℕ) (here : List Delivery) → place < 
     deliveries_among over (take place (numbered over.offers)) ++ here ≡ deliveries_among over (take (place + 1) (numbered over.offers))
 among_more over place here within are = one (there over.offers place within)
   where
-    -- the offer at a place
+    -- the offer at an index
     there : (offers : List Offer) (k : ℕ) → k < length offers → (offer : Offer) × (slice_get offers k ≡ Some offer)
     there offers k inside = elim (slice_get_cases offers k).1 [
       | inl here ↦ (here.0, here.2)

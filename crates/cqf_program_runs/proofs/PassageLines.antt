@@ -1,4 +1,4 @@
--- The line of a delivery's last fields, behind a field.
+-- The line of a delivery's last fields, after a field.
 use Rattle.std.proofs.Common.{◌∷◌, [], ℕ, List, Option}
 use Rattle.std.specs.declared.io.traits.Write as write
 use Rattle.cqf_press.specs.Press.{Puts}

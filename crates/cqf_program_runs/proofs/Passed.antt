@@ -25,7 +25,7 @@ module _ (d : Domain) (cycles : ℕ) (known : Known) (verdict : Offered → Verd
   abbrev x : Offered
   x = record { frame = place + 1; offer = offer }
 
-  -- its deliveries stand behind those of the offers before it
+  -- its deliveries follow those of the offers before it
   pub deliveries_more : (done : List Delivery) → done ≡ deliveries_of_all d cycles known verdict (take place (numbered offers)) →
       done ++ deliveries_within d cycles known verdict x ≡ deliveries_of_all d cycles known verdict (take (place + 1) (numbered offers))
   deliveries_more done so_far =
@@ -33,7 +33,7 @@ module _ (d : Domain) (cycles : ℕ) (known : Known) (verdict : Offered → Verd
       ∙ sym (flat_map_found (deliveries_within d cycles known verdict) (numbered offers) place (deliveries_within d cycles known verdict x)
       (ap (option_map (deliveries_within d cycles known verdict)) (numbered_at offers place offer at)))
 
--- the verdict on it is that of the verdict at its place
+-- the verdict on it is that at its index
 pub verdict_here : (d : Domain) (rows : List Row) (edge_verdicts : List EdgeVerdict) (place : ℕ) (offer : Offer) (other : EdgeVerdict) →
     place < length edge_verdicts →
     verdict_of rows (cycle_at d.cycle_time offer.at.0) (get_or edge_verdicts place other)

@@ -18,11 +18,11 @@ use Rattle.cqf_program_runs.specs.Deliveries.PlannedScenario.{planned_scenario_o
 
 module _ (limits : Limits) (cycles : ℕ) (texts : RunTexts) (d : Domain) (streams : List PlannedText)
     (domain : domain_within limits texts.domain ≡ Ok d) (read : planned_of_text texts.streams ≡ Ok streams) where
-  -- with the streams beside it
+  -- together with the streams
   abbrev with_scenario : List PlannedText → Scenario → Result (Scenario × List PlannedText) (List ℕ)
   with_scenario found scenario = Ok (scenario, found)
 
-  -- what stands behind the domain and the streams decides
+  -- what follows the domain and the streams decides
   planned_is : planned_scenario_of limits cycles texts ≡ and_then (scenario_behind cycles d (asked_in streams) texts) (with_scenario streams)
   planned_is =
       let with_streams : Domain → List PlannedText → Result (Scenario × List PlannedText) (List ℕ) =
@@ -30,14 +30,14 @@ module _ (limits : Limits) (cycles : ℕ) (texts : RunTexts) (d : Domain) (strea
       ap (λ found. and_then (or_line domain_line found) (λ d. and_then (or_line streams_line (planned_of_text texts.streams)) (with_streams d))) domain
       ∙ ap (λ found. and_then (or_line streams_line found) (with_streams d)) read
 
-  -- where that is read, all is
+  -- if that is read, all is
   pub planned-Ok : (requests : List PacedRequest) (s : Scenario) → map asked_paced requests ≡ asked_in streams →
       scenario_behind cycles d (map asked_paced requests) texts ≡ Ok s → planned_scenario_of limits cycles texts ≡ Ok (s, streams)
   planned-Ok requests s asked is =
       planned_is
       ∙ ap (λ found. and_then found (with_scenario streams)) (ap (λ (found : List Asked). scenario_behind cycles d found texts) (sym asked) ∙ is)
 
-  -- and where that is refused, all is
+  -- and if that is refused, all is
   pub planned-refused : (requests : List PacedRequest) (stop : Stop) → map asked_paced requests ≡ asked_in streams →
       IsRefused (scenario_behind cycles d (map asked_paced requests) texts) stop → IsRefused (planned_scenario_of limits cycles texts) stop
   planned-refused requests stop asked refused = record {

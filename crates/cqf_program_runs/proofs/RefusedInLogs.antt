@@ -1,4 +1,4 @@
--- The first refused call of a log is that of the history that the log stands for.
+-- The first refused call of a log is that of the log's history.
 use Rattle.std.proofs.Common.{◌≡◌, ◌∙◌, ◌+◌, ◌∷◌, ◌<◌, ◌≤◌, ℕ, Bool, true, false, not, List, [], Some, None, ap, drop, filter, find}
 use Rattle.std.proofs.Common.{Contains, get_or, length, map, option_map, refl, sym}
 use Rattle.std.specs.List.{enumerate_from}
@@ -30,7 +30,7 @@ module _ (requests : List Asked) (script : List ℕ) where
   abbrev with_entry : ℕ × Logged → ℕ × Recorded
   with_entry call = (call.0, entry call.1)
 
-  -- what is a call is no Seal
+  -- a call isn't a Seal
   call_is : (what : What) → not (is_seal (act_in requests script what)) ≡ is_call what
   call_is (Admit place) = refl
   call_is (Withdraw from octets) = refl
@@ -70,9 +70,9 @@ module _ (number : ℕ) (logged : Logged) (rest : List Logged) where
   pub call_found : is_call logged.what ≡ true → is_refused logged.reply ≡ true → refused_from number (logged ∷ rest) ≡ Some (number, logged)
   call_found call bad = as_call call ∙ cond-true (is_refused logged.reply) (Some (number, logged)) (refused_from (number + 1) rest) bad
 
--- from a place of a log on
+-- from an index of a log on
 module _ (log : List Logged) (index number : ℕ) (h : refused_from (number + 1) (drop index log) ≡ refused_from 1 log) where
-  -- the entry that stands there
+  -- the entry at that index
   module _ (d : Logged) (inside : index < length log) where
     abbrev logged : Logged
     logged = get_or log index d
@@ -90,11 +90,11 @@ module _ (log : List Logged) (index number : ℕ) (h : refused_from (number + 1)
     pub at_call : is_call logged.what ≡ true → is_refused logged.reply ≡ true → Some (number + 1, logged) ≡ refused_from 1 log
     at_call call bad = sym (call_found (number + 1) logged (drop (index + 1) log) call bad) ∙ from_it
 
-  -- none is left
+  -- past the end no call is left
   pub behind_all : length log ≤ index → None ≡ refused_from 1 log
   behind_all past = sym (ap (refused_from (number + 1)) (drop_all index log past)) ∙ h
 
--- what is found is an entry of the log, and refused
+-- the call that is found is an entry of the log, and refused
 pub found_refused : (log : List Logged) (call : ℕ × Logged) → refused_from 1 log ≡ Some call → Contains log call.1 × (is_refused call.1.reply ≡ true)
 found_refused log call is =
     let calls : List Logged = filter (λ (l : Logged). is_call l.what) log in

@@ -3,7 +3,7 @@ use Rattle.std.proofs.Common.{◌≡◌, ◌<◌, ◌≤◌, ℕ, Bool, List, ap
 use Rattle.std.proofs.lemmas.List.{length-map, length-take-le}
 use Rattle.std.proofs.lemmas.List.Sums.{count_by-le-length, length-filter}
 
--- what is listed of the first k of some is no longer than k
+-- a list of items made from the first k elements has at most k items
 pub few_listed : {X Y : Type 0} (p : X → Bool) (f : X → Y) (xs : List X) (k : ℕ) (listed : List Y) → k < length xs → length xs ≤ 200 →
     listed ≡ map f (filter p (take k xs)) → length listed < 200
 few_listed p f xs k listed within few is =

@@ -31,7 +31,7 @@ has_column d row hop among = by (column_of d row hop.link) refl
     by None is = absurd (false≢true (sym (ap is_some is) ∙ known))
     by (Some column) is = (column, is)
 
--- so the deliveries to them are those by when it is whole
+-- so the deliveries to them are those by the instants at which the frame is whole
 pub deliveries_kept : (d : Domain) (row : Row) (slot : List (Option Nanos)) (whole : ℕ → Option Nanos) (deadline : Option ℕ) (x : Offered) →
     TellsWhole d (Some row) slot whole → deliveries_to d (whole_in d row slot) deadline x row ≡ deliveries_to d whole deadline x row
 deliveries_kept d row slot whole deadline x tells =

@@ -1,4 +1,4 @@
--- What is told of the deliveries that were made is told of the input.
+-- The result for the deliveries that were made is the result for the input.
 use Rattle.std.proofs.Common.{◌≡◌, ◌∙◌, ℕ, List, Option, Some, None, Result, Err, ap, find, length, map, option_map, refl, subst, sym}
 use Rattle.cqf_lists.specs.Results.{refuse}
 use Rattle.cqf_lists.proofs.EachBelow.{length-singles}
@@ -48,7 +48,7 @@ IsDeliveriesOutput-made limits cycles input planned deliveries given are =
       written = ap text_of_deliveries made.are;
     }
 
--- what is told of them is told of the scenario
+-- their result is that for the scenario
 pub IsCheckedScenario-made : (cycles : ℕ) (s : Scenario) (streams : List PlannedText) (deliveries : List Delivery)
     (found : Result (List ℕ) (List ℕ)) → first_refused (history_of cycles s) ≡ None → AreDeliveries cycles s streams deliveries →
     checked_by deliveries (counts_of (offer_counts s.domain cycles (streams_of s.domain (history_of cycles s)) s.offers) deliveries) ≡ found →
@@ -67,7 +67,7 @@ IsCheckedScenario-made cycles s streams deliveries found granted made told =
           ∙ told;
     }
 
--- and of the input
+-- and for the input
 pub IsChecked-given : (limits : Limits) (cycles : ℕ) (input : List ℕ) (planned : PlannedGiven) (found : Result (List ℕ) (List ℕ)) → IsPlannedGiven limits cycles input planned →
     IsCheckedGiven cycles planned found → IsChecked limits cycles input found
 IsChecked-given limits cycles input planned found given told =
@@ -81,7 +81,7 @@ IsCheckRefusal-given limits cycles input planned stop given refused = record {
   memory = refused.memory;
 }
 
--- of an input that is refused it is the line of its first fault
+-- if an input is refused, the result is the line of its first fault
 pub IsCheckRefusal-read : (limits : Limits) (cycles : ℕ) (input : List ℕ) (stop : Stop) → IsRefused (planned_scenario limits cycles input) stop → IsCheckRefusal limits cycles input stop
 IsCheckRefusal-read limits cycles input stop refused = record {
   statuses = refused.statuses;
@@ -89,7 +89,7 @@ IsCheckRefusal-read limits cycles input stop refused = record {
   memory = refused.memory;
 }
 
--- what is told of deliveries where none is bad, and where one is
+-- the result for deliveries if none is bad, and if one is
 module _ (deliveries : List Delivery) (counts : CheckCounts) where
   pub checked_none : find (λ (delivery : Delivery). is_bad (fate_of delivery)) deliveries ≡ None → checked_by deliveries counts ≡ finished counts
   checked_none is = ap (λ (found : Option Delivery). refuse found complaint_line (finished counts)) is
@@ -98,7 +98,7 @@ module _ (deliveries : List Delivery) (counts : CheckCounts) where
       checked_by deliveries counts ≡ Err (complaint_line bad)
   checked_some bad is = ap (λ (found : Option Delivery). refuse found complaint_line (finished counts)) is
 
--- an end with a line, where that line is what was found
+-- a stop with a line that is the result
 pub IsRefused-line : {A : Type 0} (found : Result A (List ℕ)) (line : List ℕ) (stop : Stop) → found ≡ Err line → EndsWith 1 line stop → IsRefused found stop
 IsRefused-line found line stop is ends = record {
   statuses = ends.statuses;
@@ -106,7 +106,7 @@ IsRefused-line found line stop is ends = record {
   memory = ends.memory;
 }
 
--- what is told of the deliveries that were made is told of what was read
+-- the result for the deliveries that were made is the result for what was read
 module _ (cycles : ℕ) (planned : PlannedGiven) (deliveries : List Delivery) (counts : CheckCounts)
     (granted : first_refused (history_of cycles (scenario_given planned.given)) ≡ None) (are : AreDeliveriesOf cycles planned deliveries)
     (offers : OfferCounts) (are_offers : AreOffersCounted cycles planned offers) (counted : counts ≡ counts_of offers deliveries) where
@@ -130,7 +130,7 @@ refused_is cycles given outcome first comes is =
     ap first_refused (sym comes.entries) ∙ first_refused-log (map asked_paced given.requests.items) given.script.items outcome.entries.items
     ∙ ap (option_map (λ (call : ℕ × Logged). (call.0, recorded_in (map asked_paced given.requests.items) given.script.items call.1))) is
 
--- and its line is told of what was read
+-- and its line is the result for what was read
 pub IsRefusedGiven-call : (cycles : ℕ) (planned : PlannedGiven) (outcome : ScenarioOutcome) (book : Contents) (call : ℕ × Logged) (stop : Stop) →
     IsOutcomeOf cycles planned.given outcome → IsBookOfScenario cycles (scenario_given planned.given) book →
     refused_from 1 outcome.entries.items ≡ Some call →
@@ -149,6 +149,6 @@ IsRefusedGiven-call cycles planned outcome book call stop comes is_book is ends 
   memory = ends.memory;
 }
 
--- and what is the same is refused with it
+-- equal results are refused alike
 pub IsRefused-same : {A : Type 0} (found other : Result A (List ℕ)) (stop : Stop) → found ≡ other → IsRefused other stop → IsRefused found stop
 IsRefused-same {A} found other stop is refused = subst (λ (r : Result A (List ℕ)). IsRefused r stop) (sym is) refused

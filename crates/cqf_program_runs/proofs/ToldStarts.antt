@@ -16,14 +16,14 @@ use Rattle.cqf_program_runs.specs.Deliveries.UnderWay.{starts_told}
 use Rattle.cqf_program_runs.proofs.Fates.{none_found}
 use Rattle.cqf_program_runs.proofs.KeptSlots.{not_these, or_none}
 
--- what starts in a cycle has its number
+-- a start of a cycle has the cycle's number
 pub of_its_cycle : (given : GivenRun) (cycle : ℕ) (s : Started) → Contains (starts_of_cycle given cycle) s → s.cycle.0 ≡ cycle
 of_its_cycle given cycle s among =
     let on = contains_from_below (starts_in given.run.domain given.net.carried cycle) (length given.run.domain.links) s among in
     let sent = contains_from_map (started cycle on.0) (batch given.run.domain given.net.carried on.0 cycle) s on.2 in
     sym (ap (λ (z : Started). z.cycle.0) sent.2)
 
--- and what starts in the first cycles has a number below theirs, and starts in more of them
+-- a start of the first cycles has a lower number, and is among the starts of more cycles
 pub told_in : (given : GivenRun) (cycles : ℕ) (s : Started) → Contains (starts_told given cycles) s → s.cycle.0 < cycles
 told_in given cycles s among =
     let at = contains_from_below (starts_of_cycle given) cycles s among in
@@ -35,7 +35,7 @@ told_later given cycles more s fewer among =
     contains_below (starts_of_cycle given) more at.0 s (omega (arith, at.1, fewer)) at.2
 
 module _ (d : Domain) (starts : List Started) (frame link : ℕ) where
-  -- a frame of which nothing starts is whole nowhere
+  -- a frame without a start is whole nowhere
   pub none_starts : ((s : Started) → Contains starts s → s.frame ≡ frame → ⊥) → start_on starts frame link ≡ None
   none_starts none =
       none_found (λ (z : Started). (z.frame == frame) && (z.link == link)) starts (λ s c. not_these s.frame s.link frame link (λ own _. none s c own))
@@ -43,7 +43,7 @@ module _ (d : Domain) (starts : List Started) (frame link : ℕ) where
   pub none_whole : ((s : Started) → Contains starts s → s.frame ≡ frame → ⊥) → whole_on d starts frame link ≡ None
   none_whole none = ap (option_map (whole_instant d)) (none_starts none)
 
--- all starts of a frame are told where the last of them is
+-- all starts of a frame are returned if the last one is
 module _ (given : GivenRun) (d : Domain) (told frame link : ℕ) where
   by_more : (k : ℕ) → ((s : Started) → Contains (starts_told given (told + k)) s → s.frame ≡ frame → s.cycle.0 < told) →
       start_on (starts_told given (told + k)) frame link ≡ start_on (starts_told given told) frame link

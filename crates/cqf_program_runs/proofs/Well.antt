@@ -1,4 +1,4 @@
--- A check tells that all is well exactly where all goes well.
+-- A check reports that all is well if and only if all goes well.
 use Rattle.std.proofs.Common.{◌≡◌, ◌∙◌, ◌∷◌, ◌<◌, ◌==◌, ◌&&◌, [], ℕ, Bool, true, false, List, Option, Some, None}
 use Rattle.std.proofs.Common.{Result, Ok, Err, Contains, ap, arith, find, if◌then◌else◌, length, lt-ltb, nat_le}
 use Rattle.std.proofs.Common.{option_map, refl, subst, sym}
@@ -35,7 +35,7 @@ use Rattle.cqf_program_runs.proofs.ByBook.{covered_no_drop, uncovered_drop}
 use Rattle.cqf_program_runs.proofs.CallsWell.{by_refused, none_is_refused, none_refused}
 use Rattle.cqf_program_runs.proofs.Fates.{count_none, first_passes, is_there, none_counted, none_found, none_passes, second_passes}
 
--- whether all is finished, where something is offered
+-- the result of the counts if something is offered: whether all is finished
 abbrev rest : CheckCounts → Result (List ℕ) (List ℕ)
 rest counts = if is_finished counts then Ok (well_line counts) else Err (unfinished_line counts)
 
@@ -53,7 +53,7 @@ by_finish counts line is false e = absurd (
     let both : Err (unfinished_line counts) ≡ Ok line =
     sym (ap {B = Result (List ℕ) (List ℕ)} (λ (b : Bool). if b then Ok (well_line counts) else Err (unfinished_line counts)) e) ∙ is in cc)
 
--- a check that is well found none that is bad, and all is finished
+-- a check that is well found no bad delivery, and all is finished
 by_bad : (deliveries : List Delivery) (counts : CheckCounts) (line : List ℕ) → checked_by deliveries counts ≡ Ok line → (found : Option Delivery) →
     find (λ (delivery : Delivery). is_bad (fate_of delivery)) deliveries ≡ found → (found ≡ None) × (finished counts ≡ Ok line)
 by_bad deliveries counts line is None e =
@@ -70,7 +70,7 @@ module _ (run : Run) (streams : List PlannedText) (book : Contents) (says : Says
       ap (λ (b : Bool). if b then deliveries_unless run streams book x (drop_of book.drops x.frame) else [])
       (lt-ltb (offer_cycle run.domain x) (length run.tables) within)
 
-  -- the deliveries of one that is covered are those to the listeners of its row
+  -- the deliveries of a covered offer are those to the listeners of its row
   pub of_covered : (x : Offered) → Contains (numbered run.offers) x → offer_cycle run.domain x < length run.tables → (row : Row) → IsCovered run x row →
       deliveries_of_offer run streams book x
       ≡ deliveries_to run.domain (whole_on run.domain book.starts x.frame) (deadline_named streams x.offer.stream) x row
@@ -79,7 +79,7 @@ module _ (run : Run) (streams : List PlannedText) (book : Contents) (says : Says
       ∙ ap (deliveries_unless run streams book x) (covered_no_drop run book says x inside row covered)
       ∙ ap (deliveries_by run.domain (whole_on run.domain book.starts x.frame) (deadline_named streams x.offer.stream) x) covered.named
 
-  -- and of one that isn't there is its drop
+  -- and the delivery of an uncovered one is its drop
   pub of_uncovered : (x : Offered) → Contains (numbered run.offers) x → offer_cycle run.domain x < length run.tables → (reason : Reason) →
       IsUncovered run x reason → deliveries_of_offer run streams book x ≡ delivery_of run.domain x (passage.Dropped reason) ∷ []
   of_uncovered x inside within reason uncovered =
@@ -87,11 +87,11 @@ module _ (run : Run) (streams : List PlannedText) (book : Contents) (says : Says
       of_run x within ∙ ap (deliveries_unless run streams book x) drop.1
       ∙ ap (λ (r : Reason). delivery_of run.domain x (passage.Dropped r) ∷ []) drop.2
 
-  -- the deliveries, each of which is there
+  -- all deliveries
   abbrev all : List Delivery
   all = deliveries_of run streams book
 
-  -- where each is, an offer of a cycle that is run goes well
+  -- if each delivery has arrived in time, an offer of a cycle that is run goes well
   module _ (there : (delivery : Delivery) → Contains all delivery → fate_of delivery ≡ fate.Delivered)
       (within : (x : Offered) → Contains (numbered run.offers) x → offer_cycle run.domain x < length run.tables) where
     comes : (x : Offered) (hop : Hop) →
@@ -136,7 +136,7 @@ module _ (run : Run) (streams : List PlannedText) (book : Contents) (says : Says
     goes_well : AllOffersGoWell run streams book
     goes_well x inside = by_verdict x inside (judged run x) (is_decided run x inside)
 
-  -- where all goes well, each delivery is there
+  -- if all goes well, each delivery has arrived in time
   each_there : AllOffersGoWell run streams book → (delivery : Delivery) → Contains all delivery → fate_of delivery ≡ fate.Delivered
   each_there well delivery among =
       let from = contains_from_flat (deliveries_of_offer run streams book) (numbered run.offers) delivery among in
@@ -152,7 +152,7 @@ module _ (run : Run) (streams : List PlannedText) (book : Contents) (says : Says
       ∙ ap (λ (o : Option Started). end_of_journey x.offer.at.0 (option_map (whole_instant run.domain) o) deadline) comes.starts
       ∙ comes.in_time
 
-  -- what is counted, where the history granted some rows
+  -- the counts, if the history granted the given rows
   abbrev counted : List Row → CheckCounts
   counted rows = counts_of (run_offers rows run) all
 

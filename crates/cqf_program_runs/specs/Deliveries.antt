@@ -1,5 +1,5 @@
--- What becomes of the offers of a run, by its book: where one is dropped, and when it is whole at each listener of its stream
--- 
+-- What becomes of the offers of a run, by its book: the drop of an offer, or when its frame is whole at each listener
+-- of its stream.
 pub mod Output
 pub mod Text
 pub mod Reading
@@ -36,12 +36,12 @@ use Rattle.cqf_program_runs.specs.declared.deliveries.delivery.Delivery.{Deliver
 use Rattle.cqf_program_runs.specs.declared.deliveries.delivery.Fate.{Fate}
 use Rattle.cqf_program_runs.specs.declared.deliveries.delivery.Fate.TheVariants as fate
 
--- the deadline of the frames of a name: that of the first of some streams that has it
+-- the deadline of the frames of a name: that of the first stream with this name
 abbrev pub deadline_named : List PlannedText → List ℕ → Option ℕ
 deadline_named streams name =
     option_and_then (λ (planned : PlannedText). planned.1) (find (λ (planned : PlannedText). is_text planned.0.name name) streams)
 
--- how a book tells of a frame: its drop, and its start on a link
+-- a frame's drop and its start on a link, in a book
 abbrev pub drop_of : List Dropped → ℕ → Option Dropped
 drop_of drops frame = find (λ (dropped : Dropped). dropped.frame == frame) drops
 
@@ -63,49 +63,49 @@ delivery_of d x what = record {
   passage = what;
 }
 
--- when a frame is whole at the end of a link, where it starts there
+-- when a frame is whole at the end of a link, if it starts on that link
 abbrev pub whole_on : Domain → List Started → ℕ → ℕ → Option Nanos
 whole_on d starts frame link = option_map (whole_instant d) (start_on starts frame link)
 
--- on its way to the listener at the end of a hop of its stream: when it is whole there, and its deadline
+-- the delivery to the listener at the end of a hop: when the frame is whole there, and its deadline
 abbrev pub delivery_to : Domain → (ℕ → Option Nanos) → Option ℕ → Offered → Hop → Delivery
 delivery_to d whole deadline x hop =
     delivery_of d x (passage.Goes (record { listener = name_of_end d hop.link; whole = whole hop.link; deadline = deadline }))
 
--- to each listener of a row, in the order of its branches
+-- the deliveries to each listener of a row, in the order of its branches
 abbrev pub deliveries_to : Domain → (ℕ → Option Nanos) → Option ℕ → Offered → Row → List Delivery
 deliveries_to d whole deadline x row = map (delivery_to d whole deadline x) (listeners_of d row)
 
--- of the row that the offer names, where there is one
+-- the same for an optional row; none without a row
 abbrev pub deliveries_by : Domain → (ℕ → Option Nanos) → Option ℕ → Offered → Option Row → List Delivery
 deliveries_by d whole deadline x None = []
 deliveries_by d whole deadline x (Some row) = deliveries_to d whole deadline x row
 
--- where an offer is dropped, that; else each delivery
+-- the drop of an offer, if it is dropped; otherwise its delivery to each listener
 abbrev pub deliveries_unless : Run → List PlannedText → Contents → Offered → Option Dropped → List Delivery
 deliveries_unless run streams book x (Some dropped) = delivery_of run.domain x (passage.Dropped dropped.reason) ∷ []
 deliveries_unless run streams book x None =
     deliveries_by run.domain (whole_on run.domain book.starts x.frame) (deadline_named streams x.offer.stream) x (row_for run.domain run.tables x)
 
--- of an offer of a cycle that isn't run there is none
+-- the deliveries of an offer; none if its cycle isn't run
 abbrev pub deliveries_of_offer : Run → List PlannedText → Contents → Offered → List Delivery
 deliveries_of_offer run streams book x =
     if nat_lt (offer_cycle run.domain x) (length run.tables) then deliveries_unless run streams book x (drop_of book.drops x.frame) else []
 
--- those of all offers, by frame number
+-- the deliveries of all offers, by frame number
 abbrev pub deliveries_of : Run → List PlannedText → Contents → List Delivery
 deliveries_of run streams book = flat_map (deliveries_of_offer run streams book) (numbered run.offers)
 
--- how long a frame takes from its offer to its being whole
+-- how long a frame takes from its offer until it is whole
 abbrev pub latency_of : ℕ → Nanos → ℕ
 latency_of at whole = whole.0 - at
 
--- whether a frame is late that is whole by then
+-- whether a frame that is whole at an instant is delivered or late
 abbrev pub arrival_at_listener : ℕ → Nanos → Option ℕ → Fate
 arrival_at_listener at whole None = fate.Delivered
 arrival_at_listener at whole (Some deadline) = if nat_lt deadline (latency_of at whole) then fate.Late else fate.Delivered
 
--- where a frame is not whole within the run, it is under way
+-- a frame that isn't whole within the run is under way
 abbrev pub end_of_journey : ℕ → Option Nanos → Option ℕ → Fate
 end_of_journey at None deadline = fate.UnderWay
 end_of_journey at (Some whole) deadline = arrival_at_listener at whole deadline
@@ -114,6 +114,6 @@ abbrev pub end_of_passage : ℕ → Passage → Fate
 end_of_passage at (passage.Dropped reason) = fate.Dropped reason
 end_of_passage at (passage.Goes journey) = end_of_journey at journey.whole journey.deadline
 
--- what becomes of it
+-- what becomes of a delivery's frame
 abbrev pub fate_of : Delivery → Fate
 fate_of delivery = end_of_passage delivery.at.0 delivery.passage

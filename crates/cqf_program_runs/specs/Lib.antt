@@ -1,4 +1,4 @@
--- a folder a command
+-- one folder for each command
 pub mod Check
 pub mod Report
 pub mod Run

@@ -19,7 +19,7 @@ use Rattle.cqf_program_scenario.specs.Scenario.{Scenario}
 abbrev pub line_link : Link
 line_link = record { from = 0; to = Station 0; rate = Mb1000; delay = 500; least = 500; guard = None }
 
--- the domain: a cycle time of 125,000 ns and a guard time of 5,000 ns, and one clock
+-- the domain: a cycle time of 125,000 ns, a guard band of 5,000 ns, and one clock
 abbrev pub line_domain : Domain
 line_domain = record {
   limits = profile;
@@ -31,12 +31,12 @@ line_domain = record {
   links = line_link ∷ [];
 }
 
--- what is asked for: the stream x with 1,500 octets a cycle, from bridge a to station s
+-- the request: the stream x with 1,500 octets per cycle, from bridge a to station s
 abbrev pub line_asked : Asked
 line_asked = record { name = codes "x"; octets = 1500; every = 1; phase = 0; paths = (codes "a" ∷ codes "s" ∷ []) ∷ [] }
 
--- the scenario of some offers: seat 0 admits the stream before cycle 0, seat 1 closes the cycles, and there are no background
--- frames
+-- the scenario of some offers: seat 0 admits the stream before cycle 0, seat 1 closes the cycles, and there are no
+-- background frames
 abbrev pub line_scenario : List Offer → Scenario
 line_scenario offers = record { domain = line_domain; calls = (0, Admits line_asked) ∷ []; sealer = 1; offers = offers; background = [] }
 
@@ -44,10 +44,10 @@ line_scenario offers = record { domain = line_domain; calls = (0, Admits line_as
 abbrev pub line_hop : Hop
 line_hop = record { link = 0; depth = 1; from = None }
 
--- the stream's row: 1,500 octets a cycle on that link, live in every cycle
+-- the stream's row: 1,500 octets per cycle on that link, live in every cycle
 abbrev pub line_row : Row
 line_row = record { no = 0; name = codes "x"; octets = 1500; pace = each_cycle; tree = record { items = line_hop ∷ [] }; admitted = record { 0 = 0 }; withdrawn = None }
 
--- the tables of so many cycles: the stream is held in each of them, and no other
+-- the tables of the first cycles: the stream, and no other, is held in each
 abbrev pub line_tables : ℕ → List (List Row)
 line_tables cycles = each_below (λ _. (line_row ∷ []) ∷ []) cycles

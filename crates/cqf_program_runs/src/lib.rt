@@ -1,41 +1,43 @@
 //! The commands over a run on one thread: `line`, `run`, `report`, `deliveries` and `check`.
 //!
-//! Each has a function that gives its output for its input, or the end of the run with the line of the input's first fault. Where
-//! an output has a `tell`, this tells it, and asks for no memory.
+//! Each has a function that returns its output for its input, or the stop with the line of the input's first fault. If
+//! an output has a `tell`, this writes the output and allocates no memory.
 //!
 //! - [`line_output`]: the book of one bridge with one stream, by its offers ([`LineOutput`]).
 //! - [`run_output`]: the history and the book of a scenario ([`RunOutput`]).
 //! - [`report_output`]: the sums by link of a scenario's book, as a text.
-//! - [`deliveries_output`]: what becomes of the offers of a scenario, a row for each offer and listener ([`DeliveriesOutput`]).
-//! - [`check_output`]: the line that tells that all goes well, or the end of the run with the line that tells what doesn't.
+//! - [`deliveries_output`]: what becomes of the offers of a scenario, a row for each offer and listener
+//!   ([`DeliveriesOutput`]).
+//! - [`check_output`]: the line that says that all goes well, or the stop with the line that says what doesn't.
 //!
-//! No list of deliveries is kept: of the frames under way alone it is noted when they are whole at their listeners, while a pass tells the
-//! starts of the run, and deliveries are told, or looked at, offer by offer.
+//! No list of deliveries is kept. While a pass returns the starts of the run, the instants at which frames are whole at
+//! their listeners are kept for the frames under way only. Deliveries are written, or examined, offer by offer.
 //!
-//! - A [`Delivery`] is a frame on its way to one listener, or its drop; [`Delivery::fate`] is what becomes of it, a [`Fate`], by
-//!   the [`Deadlines`] of the streams' frames.
-//! - [`read_planned_given`] has the scenario of an input with its deadlines ([`PlannedGiven`]), [`noted_of_scenario`] what its deliveries are
-//!   told from (`Noted`, [`CompletedRun`]) with the frames under way ([`UnderWay`]), and [`put_those_of`] those of one offer ([`Few`]), for
-//!   other commands over deliveries.
+//! - A [`Delivery`] is a frame on its path to one listener, or its drop. [`Delivery::fate`] is what becomes of it, a
+//!   [`Fate`], by the [`Deadlines`] of the streams' frames.
+//! - For other commands over deliveries, [`read_planned_given`] returns the scenario of an input with its deadlines
+//!   ([`PlannedGiven`]), [`noted_of_scenario`] the notes about it (`Noted`, [`CompletedRun`]) and the frames under way
+//!   ([`UnderWay`]), and [`put_those_of`] puts the deliveries of one offer ([`Few`]).
 //! - `complaint_about`, `none_offered_line`, `unfinished_line` and `well_line` are the lines of a check.
-//! - [`verdicts_tell_deliveries`] is the law that ties deliveries by the verdicts on offers to those of a book.
-//!   [`arrivals_are_the_shift`] says which have come, [`each_is_told_once`] what is told of an offer, and
-//!   [`check_is_well_exactly`] when a check tells that all is well.
+//! - The law [`verdicts_tell_deliveries`] relates deliveries by the verdicts on offers to those of a book.
+//!   [`arrivals_are_the_shift`] says which have arrived, [`each_is_told_once`] which deliveries an offer has, and
+//!   [`check_is_well_exactly`] when a check reports that all is well.
 //!
-//! Each command is a folder, in `src/` and in `specs/`. There `Output` of each says what it is that a text is the output; `Line` has the
-//! network of `line`, `Deliveries` the deliveries of a run and its book, with their text (`Text`), and `Check/Checked` whether all goes well.
+//! Each command is a folder in `src/` and in `specs/`. The `Output` of each defines when a text is the output. `Line`
+//! has the network of `line`, `Deliveries` the deliveries of a run and its book, with their text (`Text`), and
+//! `Check/Checked` whether all goes well.
 //!
 //! ```text
 //! line_output(alloc, 3, b"at,bridge,stream,octets\n124999,a,x,64\n")
-//!     is Ok of an output that tells "what,cycle,where,frame,octets,detail\nstart,1,a>s,1,64,125000\n"
+//!     is Ok of an output that writes "what,cycle,where,frame,octets,detail\nstart,1,a>s,1,64,125000\n"
 //! run_output(alloc, 2, b"..\n%%\nstreams = [{ name = \"x\", .. }]\n%%\n0 admit x\n%%\nat,bridge,stream,octets\n0,a,x,64\n")
-//!     is Ok of an output that tells "0 admit x accepted 0 0\n1 seal\n1 seal\n%%\nwhat,cycle,where,frame,octets,detail\nstart,1,a>s,1,64,125000\n"
-//! report_output(rt, alloc, 2, ..), where a stream's frame of 64 octets starts in cycle 1 on the one link,
+//!     is Ok of an output that writes "0 admit x accepted 0 0\n1 seal\n1 seal\n%%\nwhat,cycle,where,frame,octets,detail\nstart,1,a>s,1,64,125000\n"
+//! report_output(rt, alloc, 2, ..), in whose run a stream's frame of 64 octets starts in cycle 1 on the one link,
 //!     is Ok(b"link,frames,octets,most\na>s,1,64,64\n")
-//! the deliveries, where x is offered to the bridge a at 0 and at 10, with 64 octets left, and frame 1 starts at 125,000 on the
+//! the deliveries, if x is offered to the bridge a at 0 and at 10, with 64 octets left, and frame 1 starts at 125,000 on the
 //! link to its listener s,
-//!     has 1 x 64 0 whole at 126076 in s: Delivered, and 2 x 64 10: Dropped(Octets)
-//! check_output(alloc, 6, ..), where x is offered to the bridge b, at which it doesn't begin,
+//!     are 1 x 64 0 whole at 126076 in s: Delivered, and 2 x 64 10: Dropped(Octets)
+//! check_output(alloc, 6, ..), in whose run x is offered to the bridge b, at which it doesn't begin,
 //!     ends with status 1 and the line "cqf: check: frame 2 of x, offered to b at 0: dropped, other-bridge"
 //! ```
 #![tactic(auto)]

@@ -1,4 +1,4 @@
--- No two ways of a stream lead to one listener.
+-- No two paths of a stream lead to one listener.
 use Rattle.std.proofs.Common.{◌≡◌, ◌≢◌, ◌∙◌, ℕ, Bool, true, false, Contains, List, Some, None, Option, ap, if◌then◌else◌, length, map, not, refl, sym}
 use Rattle.std.specs.Prelude.{◌&&◌, is_none, is_some, nat_le, nat_lt, position}
 use Rattle.std.specs.List.{flat_map, list_any}
@@ -41,7 +41,7 @@ use Rattle.cqf_program_summary.specs.Summary.Counting.{AreApart, leads_to, tally
 use Rattle.cqf_program_summary.specs.Summary.{listener_to, listeners_by, way_to, ways_of}
 use Rattle.cqf_program_summary.specs.Summary.Told.{row_of_stream, row_unless}
 
--- what branches have that aren't refused
+-- what branches have if they aren't refused
 record IsGoodTree (d : Domain) (paths : List Branch) : Type 0 where
   known : position (λ name. is_none (node_named d name)) (flat_map (λ branch. branch) paths) ≡ None
   whole : broken_place d paths ≡ None
@@ -101,7 +101,7 @@ good_branches d asked good =
     let sized = or_else_none (refused_if (not in_range) BadOctets) behind_octets named.1 in
     (or_else_none (refused_if (not (is_pace asked.every asked.phase)) BadPace) (tree_refusal d asked.paths) sized.1).1
 
--- two ways, or listeners, have no name in common
+-- two paths, or listeners, have no name in common
 abbrev apart_listeners : Option Listener → Option Listener → Type 0
 apart_listeners a b = (name : List ℕ) → leads_to name a ≡ true → leads_to name b ≡ true → ⊥
 
@@ -120,7 +120,7 @@ module _ (d : Domain) (domain : IsDomain d) (cost : ℕ → ℕ) (ds : List Deli
       differ (one_listener d a.link b.link domain one two
       (sym (is_text_same name (name_of_end d a.link) first) ∙ is_text_same name (name_of_end d b.link) second))
 
-  -- so the ways of a tree are apart
+  -- so the paths of a tree are apart
   row_apart : (row : Row) → IsTree d row.tree.items → AreApart (ways_of d cost ds (Some row))
   row_apart row tree =
       pairs_map apart_ways (way_to ds) (listeners_by d cost (Some row))
@@ -139,7 +139,7 @@ module _ (d : Domain) (domain : IsDomain d) (cost : ℕ → ℕ) (ds : List Deli
       by None good = row_apart (granted_row d 0 0 asked) (is_tree d asked.paths (good_tree d asked.paths (good_branches d asked good)))
       by (Some refused) bad = pairs_one apart_ways (way_to ds None)
 
--- a way leads where it led
+-- a path leads where it led before
 way_leads : (ending : Fate) (at : ℕ) (journey : Journey) (way : ListenerWay) → (way_with ending at journey way).to ≡ way.to
 way_leads ending at journey way = by (leads_to journey.listener way.to)
   where
@@ -147,7 +147,7 @@ way_leads ending at journey way = by (leads_to journey.listener way.to)
     by true = refl
     by false = refl
 
--- so ways stay apart
+-- so paths stay apart
 journey_apart : (ending : Fate) (at : ℕ) (journey : Journey) (ways : List ListenerWay) → AreApart ways →
     AreApart (map (way_with ending at journey) ways)
 journey_apart ending at journey ways apart =

@@ -1,4 +1,4 @@
--- What a book tells of frames is early enough to be told.
+-- A book's starts and drops are early enough to be written.
 use Rattle.std.proofs.Common.{◌<◌, ◌^◌, List, All, map}
 use Rattle.std.specs.List.Sorted.{IsPermutation}
 use Rattle.std.proofs.lemmas.List.Elements.{All-append, All-filter, All-map}
@@ -15,7 +15,7 @@ use Rattle.cqf_program_summary.specs.declared.hops.legs.Leg.TheVariants as leg
 use Rattle.cqf_program_summary.specs.Hops.Gathered.{IsLegInTime}
 use Rattle.cqf_program_summary.specs.Hops.Legs.{Wanted, frame_of, is_wanted, legs_of_book, wanted_legs}
 
--- so are all of them, where the starts are
+-- so are all of them if the starts are
 pub legs_in_time : (d : Domain) (offers : List Offer) (wanted : Wanted) (book : Contents) (legs : List Leg) → All (λ (s : Started). whole_of d s < 2 ^ 64) book.starts →
     IsPermutation (wanted_legs offers wanted book) legs → All (IsLegInTime d) legs
 legs_in_time d offers wanted book legs early same =

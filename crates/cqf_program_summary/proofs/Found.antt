@@ -1,4 +1,4 @@
--- Ways are put behind others.
+-- Paths are appended to others.
 use Rattle.std.proofs.Common.{◌≡◌, ◌∙◌, ◌+◌, ◌++◌, ◌<◌, [], ℕ, Bool, true, false, List, Some, None, Option, ap, filter, get_or, if◌then◌else◌, length, map, refl, sym, take}
 use Rattle.std.specs.Prelude.{option_map}
 use Rattle.std.proofs.lemmas.Simd.{map-map}
@@ -11,7 +11,7 @@ use Rattle.cqf_program_summary.specs.declared.summary.fares.Listener.{Listener}
 use Rattle.cqf_program_summary.specs.declared.summary.fares.ListenerWay.{ListenerWay}
 use Rattle.cqf_program_summary.specs.Summary.{listener_to, way_to}
 
--- the way to a listener that is found, on which no frame has gone
+-- the path to a listener that is found; no frame has taken it
 abbrev pub first_way : Listener → ListenerWay
 first_way listener = way_to [] (Some listener)
 

@@ -1,4 +1,4 @@
--- A round is gone through.
+-- A round is processed.
 use Rattle.std.proofs.Common.{ℕ, ◌≡◌, ◌∙◌, ◌+◌, ◌-◌, ◌<◌, ◌≤◌, ◌⊎◌, ◌++◌, List, ap, arith, drop, get_or, inl, inr, length, subst, sym, take}
 use Rattle.std.specs.Prelude.{min, vec_capacity}
 use Rattle.std.specs.Global.{Global}
@@ -63,7 +63,7 @@ round_behind d depth offers drops rounds index at are inside is =
     subst (λ (b : Round). IsLater b (get_or rounds index no_round)) (sym is)
     (record { cycles = next.cycles_later; frames = next.frames_later; drops = next.drops_later })
 
--- with its legs in order it stands as before
+-- with its legs in order it is as before
 pub stands_sorted : (starts : List Started) (source : Source) (mid new : LegsUnderWay) → StandsAt starts source mid → new.pass ≡ mid.pass → new.at ≡ mid.at →
     new.kept ≡ mid.kept → StandsAt starts source new
 stands_sorted starts source mid new stands pass at kept = record {
@@ -76,7 +76,7 @@ pub room_sorted : (old mid new : LegsUnderWay) → KeepsRoom old mid → new.kep
 room_sorted old mid new room kept here =
     record { kept = omega (arith, room.kept, ap (λ (v : Vec Leg Global). vec_capacity v) kept); here = omega (arith, room.here, here) }
 
--- there is room where it has room
+-- there is room if the round has room
 pub room_up_to : (starts : List Started) (source : Source) (round : Round) (old mid : LegsUnderWay) (kept : List Leg) (most : ℕ) → StandsAt starts source old →
     TellsKept source round.cycles old mid → HasRoom starts source old.at round most (vec_capacity old.here) → kept ≡ mid.kept.items →
     length (legs_up_to round.frames kept) ≤ vec_capacity mid.here

@@ -1,4 +1,4 @@
--- What is kept round by round, and told.
+-- The legs that are kept and written round by round.
 use Rattle.std.proofs.Common.{ℕ, ◌≡◌, ◌∙◌, ◌+◌, ◌-◌, ◌<◌, ◌≤◌, ◌++◌, ◌⊎◌, [], Bool, true, List, Contains, ap, arith, drop, filter, inl, inr, length, map, refl, subst, sym, take}
 use Rattle.std.specs.Prelude.{min, nat_le, nat_lt}
 use Rattle.std.proofs.lemmas.Bool.{cases_lt, le-ltb, lt-ltb}
@@ -42,7 +42,7 @@ pub kept_more : (source : Source) (round : Round) (xs ys : List Started) → kep
 kept_more source round xs ys =
     ap (legs_behind round.frames) (started_more source xs ys) ∙ behind_more round.frames (started_legs source xs) (started_legs source ys)
 
--- what is behind more frames
+-- the legs after more frames
 pub kept_next : (source : Source) (before round : Round) (starts : List Started) → before.frames ≤ round.frames →
     legs_behind round.frames (kept_in source before starts) ≡ kept_in source round starts
 kept_next source before round starts more =
@@ -103,7 +103,7 @@ tells_more starts source index basis are at before after told more is inside kep
     ∙ sym (kept_more source at (starts_before index starts) (starts_of_cycle are.given index))
     ∙ ap (kept_in source at) (sym (before_next are.given basis.cycles starts are.are index inside))
 
--- and have room where there is room for the starts of more cycles
+-- and there is room for them if there is room for the starts of more cycles
 pub room_to_tell : (starts : List Started) (source : Source) (index cycles : ℕ) (basis : Basis) (are : AreStartsOf basis starts) (at : Round) (before : List Leg)
     (told : ℕ) (more : List Started) (first now : ℕ) → told ≡ index → index < basis.cycles → index < cycles →
     before ≡ kept_in source at (starts_before index starts) → more ≡ starts_of_cycle are.given told →
@@ -121,11 +121,11 @@ room_to_tell starts source index cycles basis are at before told more first now 
       room,
     )
 
--- before the first cycle nothing is
+-- before the first cycle there are none
 pub none_before : (starts : List Started) → starts_before 0 starts ≡ []
 none_before starts = filter_none (λ (s : Started). nat_lt s.cycle.0 0) starts (λ s among. le-ltb s.cycle.0 0 (omega arith))
 
--- what is wanted of starts is of one of them, and of drops likewise
+-- whether a leg is wanted; a wanted leg of a list of starts is that of one of them, and so for drops
 abbrev wants : Source → Leg → Bool
 wants source x = is_wanted source.offers source.wanted (frame_of x)
 
@@ -153,7 +153,7 @@ pub dropped_to : (source : Source) (xs : List Dropped) (z : Dropped) (x : Leg) �
 dropped_to source xs z x among is passes =
     contains_filter (wants source) (map leg.Dropped xs) x (subst (λ (y : Leg). Contains (map leg.Dropped xs) y) is (contains_map leg.Dropped xs z among)) passes
 
--- what stands in a list from one place up to another
+-- the part of a list from one index up to another
 module _ {X : Type 0} (xs : List X) (a b : ℕ) (le : a ≤ b) (z : X) where
   abbrev between : List X
   between = take (b - a) (drop a xs)
@@ -182,7 +182,7 @@ module _ {X : Type 0} (xs : List X) (a b : ℕ) (le : a ≤ b) (z : X) where
             ]
       ]
 
--- what is told in a round is all that is told of a run of the frames between it and the one before it
+-- the legs that are written in a round are all legs of a run for the frames between this round and the one before it
 module _ (source : Source) (starts : List Started) (before round : Round) (frames_later : before.frames ≤ round.frames)
     (drops_later : before.drops ≤ round.drops)
     (not_yet : (z : Dropped) → Contains (drop before.drops source.drops) z → before.frames < z.frame)

@@ -1,4 +1,4 @@
--- What was read is the input's scenario, in which there is what is asked about.
+-- What was read is the input's scenario, which has the requested stream and frame.
 use Rattle.std.proofs.Common.{◌≡◌, ◌∙◌, ◌++◌, ◌∷◌, [], ℕ, Bool, false, List, Option, None, Some, Result, Ok, Err, ap, arith, codes, if◌then◌else◌, map, refl, subst, sym}
 use Rattle.std.specs.List.{list_any}
 use Rattle.std.specs.Prelude.{IfErr, IsErrAnd}
@@ -22,12 +22,12 @@ use Rattle.cqf_program_summary.specs.Hops.Known.{paced_scenario, paced_scenario_
 use Rattle.cqf_program_summary.specs.Hops.Legs.{Wanted}
 use Rattle.cqf_program_summary.specs.Hops.Reading.{EndsWithThat}
 
--- whether one of what is made of some passes
+-- whether one of the images passes
 pub any_map : {X Y : Type 0} (p : Y → Bool) (f : X → Y) (xs : List X) → list_any p (map f xs) ≡ list_any (λ (x : X). p (f x)) xs
 any_map p f [] = refl
 any_map p f (x ∷ xs) = grind (arith, any_map p f xs)
 
--- a word that has no form of a name isn't shown
+-- a word that doesn't have the form of a name isn't shown
 pub hidden : (name : List ℕ) → is_name name ≡ false → fault_line (codes "hops") (codes "UnknownStream") ≡ unknown_stream_line name
 hidden name is = ap (λ (b : Bool). fault_line (codes "hops") (codes "UnknownStream" ++ (if b then codes " " ++ name else []))) (sym is)
 
@@ -41,7 +41,7 @@ module _ (limits : Limits) (cycles : ℕ) (texts : RunTexts) (d : Domain) (reque
   abbrev with_scenario : List Asked → Scenario → Result (Scenario × List Asked) (List ℕ)
   with_scenario streams scenario = Ok (scenario, streams)
 
-  -- what stands behind the domain and the streams decides
+  -- what follows the domain and the streams decides
   paced_is : paced_scenario_of limits cycles texts
       ≡ and_then (scenario_behind cycles d (map asked_paced requests) texts) (with_scenario (map asked_paced requests))
   paced_is =
@@ -52,14 +52,14 @@ module _ (limits : Limits) (cycles : ℕ) (texts : RunTexts) (d : Domain) (reque
       ∙ ap (λ found. and_then (or_line streams_line found) (with_streams d)) read
       ∙ ap (with_asked d) (asked_texts requests)
 
-  -- where that is read, all is
+  -- if that is read, all is
   pub paced-Ok : (same : List PacedRequest) (s : Scenario) → same ≡ requests → scenario_behind cycles d (map asked_paced requests) texts ≡ Ok s →
       paced_scenario_of limits cycles texts ≡ Ok (s, map asked_paced same)
   paced-Ok same s are is =
       paced_is ∙ ap (λ found. and_then found (with_scenario (map asked_paced requests))) is
       ∙ ap {B = Result (Scenario × List Asked) (List ℕ)} (λ (rs : List PacedRequest). Ok (s, map asked_paced rs)) (sym are)
 
-  -- and where that is refused, all is
+  -- and if that is refused, all is
   pub paced-refused : (stop : Stop) → IsRefused (scenario_behind cycles d (map asked_paced requests) texts) stop →
       IsRefused (paced_scenario_of limits cycles texts) stop
   paced-refused stop refused = record {
@@ -68,7 +68,7 @@ module _ (limits : Limits) (cycles : ℕ) (texts : RunTexts) (d : Domain) (reque
     memory = refused.memory;
   }
 
--- what is asked about decides
+-- what is requested decides
 module _ (limits : Limits) (cycles : ℕ) (wanted : Wanted) (input : List ℕ) where
   wanted_is : (s : Scenario) (streams : List Asked) (refusal : Option (List ℕ)) → paced_scenario limits cycles input ≡ Ok (s, streams) →
       wanted_refusal streams s.offers wanted ≡ refusal → wanted_scenario limits cycles wanted input ≡ refuse refusal (λ line. line) (Ok s)
@@ -95,7 +95,7 @@ module _ (limits : Limits) (cycles : ℕ) (wanted : Wanted) (input : List ℕ) w
     memory = refused.memory;
   }
 
--- a stream that isn't there comes first
+-- a stream that doesn't exist comes first
 pub stream_first : (streams frames : Option (List ℕ)) (stop : Stop) → EndsWithThat streams stop → EndsWithThat (or_else streams frames) stop
 stream_first streams frames stop that =
     record { line = that.line; is = ap (λ (o : Option (List ℕ)). or_else o frames) that.is; ends = that.ends }

@@ -1,4 +1,4 @@
--- Rounds that are laid one behind the other.
+-- Rounds that are laid one after another.
 use Rattle.std.proofs.Common.{ℕ, ◌≡◌, ◌∙◌, ◌+◌, ◌-◌, ◌<◌, ◌≤◌, ◌^◌, ◌++◌, ◌∷◌, ◌⊎◌, [], List, AllPairs, Contains, Some, ap, arith, div-add-mod', drop, drop-cons, get_or, inl, inr, length, refl, subst, sym, take}
 use Rattle.std.specs.Prelude.{◌/◌, slice_get, suc, zero}
 use Rattle.std.proofs.lemmas.Bool.{cases_lt}
@@ -14,7 +14,7 @@ use Rattle.cqf_model.specs.Domain.{Domain}
 use Rattle.cqf_program_summary.specs.declared.hops.rounds.Round.{Round}
 use Rattle.cqf_program_summary.specs.Hops.Rounds.{AreRounds, GoesOnFrom, IsNextRound, no_round, round_before}
 
--- each goes on from the one before it, the last is this one, and it is soon
+-- each round follows the one before it, the last is the given one, and it is early
 pub record AreSoFar (d : Domain) (depth : ℕ) (offers : List Offer) (drops : List Dropped) (rounds : List Round) (last : Round) : Type 0 where
   pub first : GoesOnFrom d depth offers drops no_round
   pub each : (k : ℕ) → k < length rounds → IsNextRound d depth offers drops (round_before rounds k) (get_or rounds k no_round)
@@ -22,7 +22,7 @@ pub record AreSoFar (d : Domain) (depth : ℕ) (offers : List Offer) (drops : Li
   pub goes_on : GoesOnFrom d depth offers drops last
   pub soon : last.cycles ≤ 2 ^ 33
 
--- before the first nothing is told
+-- before the first round nothing is written
 pub nothing_told : (d : Domain) (depth : ℕ) (offers : List Offer) (drops : List Dropped) → ((x : Dropped) → Contains drops x → 0 < x.frame) →
     GoesOnFrom d depth offers drops no_round
 nothing_told d depth offers drops some = record {
@@ -105,7 +105,7 @@ one_more_of drops at frames d inside before here x among =
       | inr last ↦ omega (arith, here, ap (λ (y : Dropped). y.frame) (contains_one (get_or drops at d) x last))
     ]
 
--- from one on that isn't, none is
+-- if a drop isn't of the first frames, no later one is
 pub behind_rises : (drops : List Dropped) (at frames : ℕ) (d : Dropped) → at < length drops → AllPairs (λ (a b : Dropped). a.frame < b.frame) drops →
     frames < (get_or drops at d).frame → (x : Dropped) → Contains (drop at drops) x → frames < x.frame
 behind_rises drops at frames d inside rise here x among =

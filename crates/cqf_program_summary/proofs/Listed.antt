@@ -55,14 +55,14 @@ none_listed d listing names streams none = record {
   bounded = λ l cycle low. omega (arith, none.none l cycle);
 }
 
--- what a row's stream costs of a link in a cycle is bounded
+-- the cost of a row's stream on a link in a cycle is bounded
 short : (row : Row) (l cycle : ℕ) → row.octets ≤ most_reserved → cost_on row l cycle ≤ 2000000
 short row l cycle few = elim (cases_Bool (uses row.tree.items row.pace l cycle)) [
   | inl goes ↦ omega (arith, few, ap {B = ℕ} (λ (b : Bool). if b then cost_of row.octets else 0) goes)
   | inr stays ↦ omega (arith, ap {B = ℕ} (λ (b : Bool). if b then cost_of row.octets else 0) stays)
 ]
 
--- so it has room beside costs that are bounded
+-- so there is room for it in addition to costs that are bounded
 pub room_bounded : (costs : Turned) (row : Row) → costs.links ≡ 4096 → AreBounded costs → row.octets ≤ most_reserved →
     HasRoomFor costs row.tree.items row.pace (cost_of row.octets)
 room_bounded costs row all bounded few l cycle low = omega (arith, short row l cycle few, bounded l cycle (omega (arith, low, all)))
@@ -104,7 +104,7 @@ pub most_told : (costs : Turned) (row : Row) (hop : Hop) → IsSummable 4096 row
 most_told costs row hop summable there =
     most_of_uses costs row.tree.items row.pace hop (sum_on costs hop.link) summable.countable.apart there (λ cycle below. refl)
 
--- the comparison of names by which one is found
+-- a name is found by the same comparison of names
 pub known_by_name : (d : Domain) (streams : List Asked) (listing : SummaryListing) → IsListing d streams listing → (name : List ℕ) →
     is_among name listing.names.keys ≡ list_any (λ (a : Asked). is_text a.name name) (told_streams streams)
 known_by_name d streams listing is name =
@@ -122,7 +122,7 @@ module _ (before : List Asked) (asked : Asked) where
       ap (fold (keep same_name) []) (filter-append has_name before (asked ∷ []))
       ∙ fold-append (keep same_name) [] (filter has_name before) (filter has_name (asked ∷ []))
 
-  -- a stream whose name is none, and one whose name is known, isn't told of
+  -- a stream isn't in the summary if its name hasn't the form of one, or is known
   pub told_unnamed : is_name asked.name ≡ false → told_streams (before ++ asked ∷ []) ≡ told_streams before
   told_unnamed unnamed = told_more ∙ ap (λ (b : Bool). fold (keep same_name) (told_streams before) (if b then asked ∷ [] else [])) unnamed
 
@@ -132,14 +132,14 @@ module _ (before : List Asked) (asked : Asked) where
       told_more ∙ ap (λ (b : Bool). fold (keep same_name) (told_streams before) (if b then asked ∷ [] else [])) named
       ∙ ap (λ (b : Bool). if b then told_streams before else told_streams before ++ asked ∷ []) known
 
-  -- and else it is
+  -- otherwise it is
   pub told_new : is_name asked.name ≡ true → list_any (λ (a : Asked). is_text a.name asked.name) (told_streams before) ≡ false →
       told_streams (before ++ asked ∷ []) ≡ told_streams before ++ asked ∷ []
   told_new named new =
       told_more ∙ ap (λ (b : Bool). fold (keep same_name) (told_streams before) (if b then asked ∷ [] else [])) named
       ∙ ap (λ (b : Bool). if b then told_streams before else told_streams before ++ asked ∷ []) new
 
--- where nothing more is told of, the listing stays
+-- if no stream is added, the listing stays
 pub listing_stays : (d : Domain) (before : List Asked) (asked : Asked) (listing : SummaryListing) → told_streams (before ++ asked ∷ []) ≡ told_streams before →
     IsListing d before listing → IsListing d (before ++ asked ∷ []) listing
 listing_stays d before asked listing same is = record {
@@ -151,7 +151,7 @@ listing_stays d before asked listing same is = record {
   bounded = λ l cycle low. omega (arith, is.bounded l cycle low, ap (λ (them : List Asked). length them) same);
 }
 
--- what a stream more costs
+-- the cost of one stream more
 module _ (d : Domain) (told : List Asked) (asked : Asked) (l cycle : ℕ) where
   abbrev cost_more : Option Refused → ℕ
   cost_more o = if is_none o then cost_on (granted_row d 0 0 asked) l cycle else 0
@@ -169,7 +169,7 @@ module _ (d : Domain) (told : List Asked) (asked : Asked) (l cycle : ℕ) where
           let none : cost_of_good d told l cycle ≡ cost_of_good d told l cycle + 0 = omega arith in
           ap summed (append-nil (filter (is_good d) told)) ∙ none
 
-  -- is what its row adds, which is bounded
+  -- is what its row adds, and is bounded
   pub costs_more : (costs after : Turned) → l < costs.links → sum_on costs l cycle ≡ cost_of_good d told l cycle → CostsWith costs (row_of_stream d asked) after →
       MayBeSummed (row_of_stream d asked) →
       (sum_on after l cycle ≡ cost_of_good d (told ++ asked ∷ []) l cycle) × (sum_on after l cycle ≤ sum_on costs l cycle + 2000000)
@@ -186,7 +186,7 @@ module _ (d : Domain) (told : List Asked) (asked : Asked) (l cycle : ℕ) where
           let stays = ap (λ (costs : Turned). sum_on costs l cycle) same in
           (omega (arith, stays, whole, are), omega (arith, stays))
 
--- one for each link
+-- there is one for each link
 costs_all : (before after : Turned) (row : Option Row) → before.links ≡ 4096 → CostsWith before row after → after.links ≡ 4096
 costs_all before after None all same = ap (λ (costs : Turned). costs.links) same ∙ all
 costs_all before after (Some row) all adds = adds.links ∙ all
@@ -216,7 +216,7 @@ listing_more d before asked listing after is named new few summable adds =
       bounded = λ l cycle low. omega (arith, (cost l cycle low).1, is.bounded l cycle low, longer);
     }
 
--- each that is listed is of a stream
+-- each that is listed is one of a stream
 pub listed_are : (d : Domain) (streams : List Asked) (listing : SummaryListing) → IsListing d streams listing →
     All (IsOfStream d) listing.streams.items
 listed_are d streams listing is =
@@ -232,14 +232,14 @@ station_link d link ends = by (slice_get d.links link) refl ends
     by None e ends = absurd cc
     by (Some l) e ends = slice_get_within d.links link l e
 
--- and behind these nobody listens
+-- and a later number has no listener
 pub none_behind : (d : Domain) (link : ℕ) (listener : Listener) → length d.links ≤ link →
     None ≡ (if is_station (end_of d link) then Some listener else None)
 none_behind d link listener behind =
     sym (ap (λ (b : Bool). if b then Some listener else None)
     (false_from_ne_true (is_station (end_of d link)) (λ ends. omega (arith, station_link d link ends, behind))))
 
--- so what is told of a stream's listeners is by the costs of its links in its cycles
+-- so the summary of a stream's listeners is by the costs of its links in its cycles
 module _ (d : Domain) (accepted : IsAccepted d) (streams : List Asked) (listing : SummaryListing) (is : IsListing d streams listing)
     (asked : Asked) where
   abbrev told : ℕ → ℕ
@@ -266,7 +266,7 @@ module _ (d : Domain) (accepted : IsAccepted d) (streams : List Asked) (listing 
       (listeners_of d (granted_row d 0 0 asked)) (λ hop c.
       ap (λ (cost : ℕ). Some (record { name = name_of_end d hop.link; bound = most_of d hop.link hop.depth cost })) (at_hop hop c))
 
-  -- of a stream of which nothing is offered
+  -- the summary of a stream without offers
   pub fare_first : (due : List ℕ → Option ℕ) →
       fare_named d listing.costs due (listed_of d asked) ≡ fare_of d (told_cost d (told_streams streams)) due [] [] asked
   fare_first due = λ i. record {
@@ -277,7 +277,7 @@ module _ (d : Domain) (accepted : IsAccepted d) (streams : List Asked) (listing 
     ways = map (way_to []) (listeners_same (form_refusal d asked) i);
   }
 
--- so what is told at first is a summary by no offers
+-- so the counts at first are a summary by no offers
 pub first_fares : (d : Domain) (streams : List Asked) (due : List ℕ → Option ℕ) (listing : SummaryListing) → IsAccepted d →
     IsListing d streams listing →
     map (fare_named d listing.costs due) listing.streams.items ≡ (summary_by d (told_streams streams) due [] []).fares

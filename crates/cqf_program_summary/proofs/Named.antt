@@ -7,7 +7,7 @@ use Rattle.cqf_program_runs.specs.declared.deliveries.delivery.Delivery.{Deliver
 use Rattle.cqf_program_summary.specs.Summary.Counting.{fare_with, fare_with_each, fare_with_offer}
 use Rattle.cqf_program_summary.specs.Summary.{Fare}
 
--- the place of a name is that of its stream
+-- the index of a name is that of its stream
 pub named_place : (name : List ℕ) (keys : List (List ℕ)) (fares : List Fare) → keys ≡ map (λ (f : Fare). f.name) fares →
     place_of name keys ≡ position (λ (f : Fare). is_text f.name name) fares
 named_place name keys fares are = ap (place_of name) are ∙ position-map (λ (other : List ℕ). is_text other name) (λ (f : Fare). f.name) fares

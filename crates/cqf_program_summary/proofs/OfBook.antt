@@ -1,4 +1,4 @@
--- What a book tells of frames, where it says the shift.
+-- The starts and drops of a book that says the shift.
 use Rattle.std.proofs.Common.{ℕ, ◌≡◌, ◌≢◌, ◌∙◌, ◌+◌, ◌<◌, ◌≤◌, ◌++◌, Bool, List, AllPairs, Contains, Some, ap, arith, filter, get_or, inl, inr, length, map, refl, subst, sym}
 use Rattle.std.specs.Prelude.{slice_get}
 use Rattle.std.specs.List.Sorted.{IsPermutation}
@@ -38,7 +38,7 @@ use Rattle.cqf_program_summary.specs.Hops.Prepared.{AreDropsByFrame}
 use Rattle.cqf_program_summary.specs.Hops.Rounds.{Source, legs_of_run}
 use Rattle.cqf_program_summary.proofs.InRounds.{dropped_from, dropped_to, started_from, started_to}
 
--- the place of an offer with a number
+-- the index of an offer with a number
 pub record HasPlace (offers : List Offer) (x : Offered) : Type 0 where
   pub place : ℕ
   pub within : place < length offers
@@ -72,7 +72,7 @@ module _ (run : Run) (book : Contents) (says : SaysTheShift run book) where
       one_number run.offers shift.x of.x shift.covered.offered of.uncovered.offered (sym shift.is_frame ∙ same ∙ of.frame) in
       not_both run of.x shift.row z.reason (subst (λ (x : Offered). IsCovered run x shift.row) one shift.covered) of.uncovered
 
-  -- so no two tell of one frame at one instant on one link, whatever the order of the drops
+  -- so no two are of the same frame at the same instant on the same link, in any order of the drops
   module _ (drops : List Dropped) (own : (z : Dropped) → Contains drops z → Contains book.drops z)
       (distinct : AllPairs (λ (a b : Dropped). a.frame ≢ b.frame) drops) where
     pub all_apart : AllPairs AreApart (map leg.Started book.starts ++ map leg.Dropped drops)
@@ -89,7 +89,7 @@ module _ (run : Run) (book : Contents) (says : SaysTheShift run book) where
         let b = contains_from_map leg.Dropped drops y cy in
         start_or_drop a.0 b.0 a.1 (own b.0 b.1) (ap frame_of a.2 ∙ frames ∙ sym (ap frame_of b.2)))
 
-  -- an offer of each start, no deeper before it than trees are
+  -- each start has an offer, at most the depth of a tree before it
   module _ (orderly : AreOrderly run.domain run.tables) (rows : List Row) (edge_verdicts : List EdgeVerdict)
       (decided : AreDecided run (verdict_at run.domain rows edge_verdicts)) (depth : ℕ) (deep : NoneIsDeeper rows depth) where
     pub starts_soon : (s : Started) → Contains book.starts s →
@@ -110,7 +110,7 @@ module _ (run : Run) (book : Contents) (says : SaysTheShift run book) where
       let place = has_place run.offers of.x of.uncovered.offered in
       (omega (arith, of.frame, place.number), omega (arith, of.frame, place.number, place.within))
 
--- what is wanted of a book is what is told of its starts and its drops by frame
+-- the wanted legs of a book are those of its starts and of its drops by frame
 module _ (offers : List Offer) (wanted : Wanted) (book : Contents) (drops : List Dropped) (by : AreDropsByFrame book drops) where
   abbrev source : Source
   source = record { offers = offers; wanted = wanted; drops = drops }

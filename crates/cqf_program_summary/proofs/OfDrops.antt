@@ -12,7 +12,7 @@ use Rattle.cqf_program_scenario.specs.declared.given.RunInput.{RunInput}
 use Rattle.cqf_program_scenario.specs.declared.outcomes.ScenarioOutcome.{ScenarioOutcome}
 use Rattle.cqf_program_scenario.specs.Outcomes.{IsOutcomeOf}
 
--- what was found of its outcome is what the book has
+-- the drops that were found by its outcome are those of the book
 pub drops_are : (cycles : ℕ) (given : RunInput) (outcome : ScenarioOutcome) (offers : List Offer) (edge_verdicts : List EdgeVerdict) (drops : List Dropped) →
     MayBeRun cycles (scenario_given given) → IsOutcomeOf cycles given outcome → offers ≡ given.offers.items → edge_verdicts ≡ outcome.edge_verdicts.items →
     AreDropsBy given.domain offers cycles edge_verdicts drops → (book : Contents) → IsBookOfScenario cycles (scenario_given given) book → drops ≡ book.drops

@@ -1,4 +1,4 @@
--- What was prepared for the frames of a scenario tells what the book has of them.
+-- What was prepared for the frames of a scenario yields the book's starts and drops of them.
 use Rattle.std.proofs.Common.{ℕ, ◌≡◌, ◌∙◌, ◌<◌, ◌≤◌, List, AllPairs, Contains, ap, arith, length, refl, subst, sym}
 use Rattle.std.specs.Prelude.{slice_get}
 use Rattle.std.proofs.lemmas.List.Kept.{AllPairs-filter}
@@ -73,7 +73,7 @@ module _ (cycles : ℕ) (s : Scenario) (wanted : Wanted) (prepared : Prepared) (
         };
       }
 
--- what was found of a scenario can be told
+-- what was prepared can be written
 pub can_be_told : (cycles : ℕ) (s : Scenario) (source : Source) (book : Contents) (pass : Progress) (rows : List Row) (edge_verdicts : List EdgeVerdict)
     (depth kept here : ℕ) (rounds : List Round) → IsBookOfScenario cycles s book → AreStartsOf pass.basis book.starts → pass.told ≡ 0 →
     source.offers ≡ s.offers → AreDropsByFrame book source.drops →
@@ -104,7 +104,7 @@ can_be_told cycles s source book pass rows edge_verdicts depth kept here rounds 
       room = room;
     }
 
--- that each drop is of an offer
+-- each drop is of an offer
 pub drops_in_number : (cycles : ℕ) (s : Scenario) (book : Contents) (drops : List Dropped) → IsBookOfScenario cycles s book → AreDropsByFrame book drops →
     (z : Dropped) → Contains drops z → (0 < z.frame) × (z.frame ≤ length s.offers)
 drops_in_number cycles s book drops is_book by z among =

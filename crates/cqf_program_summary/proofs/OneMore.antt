@@ -41,7 +41,7 @@ pub not_true : (b : Bool) → (b ≡ true → ⊥) → b ≡ false
 not_true true never = absurd (never refl)
 not_true false never = refl
 
--- two texts are compared alike in either order
+-- two texts are compared with the same result in either order
 flip_true : (a b : List ℕ) → is_text a b ≡ true → is_text b a ≡ true
 flip_true a b same = subst (λ (c : List ℕ). is_text c a ≡ true) (is_text_same a b same) (is_text_itself a)
 
@@ -57,7 +57,7 @@ count_joined p xs ys =
     sym (length-filter p (xs ++ ys)) ∙ ap length (filter-append p xs ys) ∙ length-append (filter p xs) (filter p ys)
     ∙ (λ i. length-filter p xs i + length-filter p ys i)
 
--- by a test that agrees on them
+-- and by a test that agrees on them
 count_same : {X : Type 0} (p q : X → Bool) (xs : List X) → ((x : X) → Contains xs x → p x ≡ q x) → count_by p xs ≡ count_by q xs
 count_same {X} p q xs same =
     fold_same (λ (n : ℕ) (x : X). n + cond (p x) 1 0) (λ (n : ℕ) (x : X). n + cond (q x) 1 0) 0 xs (λ n x c. ap (λ (b : Bool). n + cond b 1 0) (same x c))
@@ -65,7 +65,7 @@ count_same {X} p q xs same =
 count_none : {X : Type 0} (p : X → Bool) (xs : List X) → ((x : X) → Contains xs x → p x ≡ false) → count_by p xs ≡ 0
 count_none p xs none = sym (length-filter p xs) ∙ ap length (filter_none p xs none)
 
--- what stands past the end of some streams
+-- the default past the end of a list of streams
 abbrev nobody : Asked
 nobody = record { name = []; octets = 0; every = 0; phase = 0; paths = [] }
 
@@ -77,7 +77,7 @@ module _ (d : Domain) (told : List Asked) (due : List ℕ → Option ℕ) (apart
   abbrev n : List ℕ
   n = x.offer.stream
 
-  -- a stream of the name has an offer more
+  -- a stream with the name has one offer more
   fare_own : (a : Asked) → is_text a.name n ≡ true → fare_with_offer here (fare_of d cost due offers ds a) ≡ fare_of d cost due (offers ++ x ∷ []) (ds ++ here) a
   fare_own a own =
       sym (fare_more_offer d cost due a (offers_named a.name offers) here (deliveries_named a.name ds))
@@ -95,7 +95,7 @@ module _ (d : Domain) (told : List Asked) (due : List ℕ → Option ℕ) (apart
           (filter_each (λ (y : Delivery). is_text y.stream a.name) here
           (λ y c. ap (λ (m : List ℕ). is_text m a.name) (named y c) ∙ flip_true a.name n own))
 
-  -- and another none
+  -- and another stream none
   fare_other : (a : Asked) → is_text a.name n ≡ false → fare_of d cost due offers ds a ≡ fare_of d cost due (offers ++ x ∷ []) (ds ++ here) a
   fare_other a differ = λ i. fare_by d cost due (sym no_more i) (sym none_here i) a
     where
@@ -113,7 +113,7 @@ module _ (d : Domain) (told : List Asked) (due : List ℕ → Option ℕ) (apart
           (λ y c. ap (λ (m : List ℕ). is_text m a.name) (named y c) ∙ flip_false a.name n differ))
           ∙ append-nil (deliveries_named a.name ds)
 
-  -- offers of other names, where this is one and where it isn't
+  -- offers of other names, if this is one and if it isn't
   others_more : is_other told n ≡ true → others_of told (offers ++ x ∷ []) (ds ++ here) ≡ others_with here (others_of told offers ds)
   others_more other = λ i. record { offered = one_more i; dropped = drops i }
     where
@@ -144,7 +144,7 @@ module _ (d : Domain) (told : List Asked) (due : List ℕ → Option ℕ) (apart
           (λ y c. ap (λ (b : Bool). b && is_dropped (fate_of y)) (ap (is_other told) (named y c) ∙ known)) in
           omega (arith, none, count_joined (λ (y : Delivery). is_other told y.stream && is_dropped (fate_of y)) ds here)
 
-  -- the place of the stream of the name
+  -- the index of the stream with the name
   abbrev place_of_name : Option ℕ
   place_of_name = position (λ (a : Asked). is_text a.name n) told
 
@@ -202,7 +202,7 @@ module _ (d : Domain) (told : List Asked) (due : List ℕ → Option ℕ) (apart
       changed = changed_map (fare_of d cost due offers ds) (fare_of d cost due (offers ++ x ∷ []) (ds ++ here)) (fare_with_offer here) told place (get_or told place nobody)
           (slice_get-get_or told place nobody here_it_is.0) (fare_own (get_or told place nobody) here_it_is.1) (λ b k at differ. fare_other b (only b k at differ))
 
-  -- so the summary by it is that before it, with it
+  -- so the summary with it is the summary before it, with it added
   pub summary_more : summary_with n here (summary_by d told due offers ds) ≡ summary_by d told due (offers ++ x ∷ []) (ds ++ here)
   summary_more =
       ap (λ (o : Option ℕ). summary_at here o (summary_by d told due offers ds))
@@ -213,7 +213,7 @@ module _ (d : Domain) (told : List Asked) (due : List ℕ → Option ℕ) (apart
       by None none = at_none none
       by (Some place) found = at_some place found
 
--- streams of which is told have names apart
+-- the streams of a summary have different names
 pub told_apart : (streams : List Asked) → AllPairs (λ (a b : Asked). is_text a.name b.name ≡ false) (told_streams streams)
 told_apart streams = once_apart (λ (a b : Asked). is_text a.name b.name) (filter (λ (a : Asked). is_name a.name) streams)
 
@@ -236,7 +236,7 @@ module _ (over : Over) (x : Offered) where
       by true k = named_for (verdict_at over.domain over.rows over.edge_verdicts x) y k
       by false k = absurd (contains_none y k)
 
--- the summary by the offers of a run that is over up to a place, and by one more
+-- the summary by the offers of a run up to an index, and by one more
 module _ (over : Over) (streams : List Asked) (due : List ℕ → Option ℕ) (place : ℕ) (x : Offered) (at : slice_get (numbered over.offers) place ≡ Some x)
     (here : List Delivery) (is_here : here ≡ deliveries_at over x) (inside : place < length over.offers)
     (are : (y : Offered) → slice_get (numbered over.offers) place ≡ Some y → here ≡ deliveries_at over y) (summary : Summary) where
@@ -264,7 +264,7 @@ module _ (over : Over) (streams : List Asked) (due : List ℕ → Option ℕ) (p
       ∙ filter-append (λ (y : Offered). nat_lt (offer_cycle over.domain y) over.cycles) front (x ∷ [])
       ∙ ap (λ (c : Bool). offers_within over.domain over.cycles front ++ (if c then x ∷ [] else [])) run
 
-  -- where its cycle is run
+  -- if its cycle is run
   pub is_run_more : nat_lt (offer_cycle over.domain x) over.cycles ≡ true → summary ≡ by_front →
       summary_with x.offer.stream here summary ≡ by_longer
   is_run_more run so_far =
@@ -273,7 +273,7 @@ module _ (over : Over) (streams : List Asked) (due : List ℕ → Option ℕ) (p
       (λ y c. named_here over x y (subst (λ (ys : List Delivery). Contains ys y) is_here c))
       ∙ (λ i. summary_by over.domain (told_streams streams) due (sym (within_more true run) i) (among_more over place here inside are i))
 
-  -- and where it isn't
+  -- and if it isn't
   pub not_run_more : nat_lt (offer_cycle over.domain x) over.cycles ≡ false → summary ≡ by_front → summary ≡ by_longer
   not_run_more run so_far =
       so_far

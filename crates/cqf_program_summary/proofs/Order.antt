@@ -42,7 +42,7 @@ not_itself a b c p = elim p [
   | inr same ↦ elim same.1 [ inl lt ↦ omega (arith, lt) | inr more ↦ omega (arith, more.1) ]
 ]
 
--- of three numbers and three that aren't the same, one comes first
+-- of two triples of numbers that aren't the same, one is before the other
 either : (a b c d e f : ℕ) → (a ≡ d → b ≡ e → c ≡ f → ⊥) → Before a b c d e f ⊎ Before d e f a b c
 either a b c d e f differ = elim (cases_order a d) [
   | inl same ↦ elim (cases_order b e) [
@@ -66,7 +66,7 @@ leg_one_way x y p q = not_itself (frame_of x) (instant_of x) (link_of x) (leg_th
 leg_either : (x y : Leg) → AreApart x y → IsBefore x y ⊎ IsBefore y x
 leg_either x y apart = either (frame_of x) (instant_of x) (link_of x) (frame_of y) (instant_of y) (link_of y) apart
 
--- two lists in order with the same members are one
+-- two lists in order with the same members are the same
 pub one_order : (xs ys : List Leg) → AllPairs IsBefore xs → AllPairs IsBefore ys → ((z : Leg) → Contains xs z → Contains ys z) →
     ((z : Leg) → Contains ys z → Contains xs z) → xs ≡ ys
 one_order xs ys first second to from = same_ordered IsBefore leg_one_way xs ys first second to from
@@ -101,7 +101,7 @@ insert x (y ∷ ys) in_order apart = elim (leg_either x y (apart y (contains_her
       )
 ]
 
--- legs of which no two tie can be put in order
+-- legs can be put in order if no two tie
 pub in_some_order : (xs : List Leg) → AllPairs AreApart xs → (zs : List Leg) × AreByFrame xs zs
 in_some_order [] apart = ([], record { same = IsPermutation-refl []; in_order = pairs_none IsBefore })
 in_some_order (x ∷ xs) apart =

@@ -1,4 +1,4 @@
--- The way on which a frame goes is found.
+-- The path that a frame takes is found.
 use Rattle.std.proofs.Common.{◌≡◌, ◌≢◌, ◌∙◌, ℕ, Bool, true, false, List, Some, None, Option, ap, arith, get_or, if◌then◌else◌, inl, inr, map, position, set, sym, refl}
 use Rattle.std.specs.Prelude.{slice_get}
 use Rattle.std.proofs.lemmas.Bool.{cases_Bool, cases_lt}
@@ -11,7 +11,7 @@ use Rattle.cqf_program_summary.specs.declared.summary.fares.ListenerWay.{Listene
 use Rattle.cqf_program_summary.specs.Summary.Counting.{AreApart, leads_there, leads_to, place_by, tally_with, way_with}
 use Rattle.cqf_program_summary.proofs.Changed.{map_keeps, set_maps}
 
--- a way that is there leads there
+-- a path at the expected index leads there
 there_leads : (name : List ℕ) (ways : List ListenerWay) (place : ℕ) → leads_there name (slice_get ways place) ≡ true →
     (way : ListenerWay) × (slice_get ways place ≡ Some way) × (leads_to name way.to ≡ true)
 there_leads name ways place there = by (slice_get ways place) refl there
@@ -21,7 +21,7 @@ there_leads name ways place there = by (slice_get ways place) refl there
     by (Some way) e leads = (way, e, leads)
 
 module _ (ways : List ListenerWay) (expected : ℕ) (name : List ℕ) where
-  -- the place that is found is one of a way that leads there
+  -- the index that is found is that of a path that leads there
   pub found_leads : (place : ℕ) → place_by ways expected name ≡ Some place → (way : ListenerWay) × (slice_get ways place ≡ Some way) × (leads_to name way.to ≡ true)
   found_leads place found = elim (cases_Bool (leads_there name (slice_get ways expected))) [
     | inl there ↦ (let same : expected ≡ place = same_Some expected place
@@ -37,7 +37,7 @@ module _ (ways : List ListenerWay) (expected : ℕ) (name : List ℕ) where
           let at = position-Some (λ (way : ListenerWay). leads_to name way.to) ways place none e in
           (get_or ways place none, slice_get-get_or ways place none at.0, at.1)
 
-  -- where none is found none leads there
+  -- if none is found, none leads there
   pub none_leads : place_by ways expected name ≡ None → (way : ListenerWay) (k : ℕ) → slice_get ways k ≡ Some way → leads_to name way.to ≡ false
   none_leads none way k at = elim (cases_Bool (leads_there name (slice_get ways expected))) [
     | inl there ↦ absurd (some_is_none expected
@@ -49,7 +49,7 @@ module _ (ways : List ListenerWay) (expected : ℕ) (name : List ℕ) where
       some_is_none : (k : ℕ) → Some k ≡ None → ⊥
       some_is_none k e = absurd cc
 
--- of ways that are apart no other leads there
+-- if paths lead to different listeners, no other leads there
 module _ (ways : List ListenerWay) (apart : AreApart ways) (name : List ℕ) (place : ℕ) (way : ListenerWay) (at : slice_get ways place ≡ Some way)
     (leads : leads_to name way.to ≡ true) where
   none_else : (other : ListenerWay) (k : ℕ) → slice_get ways k ≡ Some other → k ≢ place → leads_to name other.to ≡ true → ⊥
@@ -75,7 +75,7 @@ module _ (ways : List ListenerWay) (apart : AreApart ways) (name : List ℕ) (pl
       not_true true never = absurd (never refl)
       not_true false never = refl
 
--- so to count the frame at the place that is found is to count it on each way that leads there
+-- so counting the frame at the index that is found is counting it on each path that leads there
 pub way_counted : (ways : List ListenerWay) (expected : ℕ) (ending : Fate) (instant : ℕ) (journey : Journey) (place : ℕ) (before after : ListenerWay) → AreApart ways →
     place_by ways expected journey.listener ≡ Some place → slice_get ways place ≡ Some before →
     after ≡ record before { tally = tally_with ending instant journey.whole before.tally } →

@@ -1,4 +1,4 @@
--- What is pushed leg by leg has room where all of it has.
+-- Legs that are pushed one by one have room if all of them together have room.
 use Rattle.std.proofs.Common.{ℕ, ◌≡◌, ◌∙◌, ◌+◌, ◌<◌, ◌≤◌, ◌++◌, ◌∷◌, [], Bool, true, false, List, Contains, ap, append_assoc, arith, drop, filter, get_or, length, map, refl, subst, sym, take}
 use Rattle.std.specs.Prelude.{nat_le, nat_lt}
 use Rattle.std.proofs.lemmas.Bool.Decides.{nat_tests}
@@ -35,7 +35,7 @@ room_for_drop source drops i d before legs first now inside is fits more =
       more,
     )
 
--- of starts, of frames behind some
+-- starts of frames after the first ones
 behind_starts : (source : Source) (frames : ℕ) (xs ys : List Started) →
     legs_behind frames (started_legs source (xs ++ ys)) ≡ legs_behind frames (started_legs source xs) ++ legs_behind frames (started_legs source ys)
 behind_starts source frames xs ys =

@@ -1,4 +1,4 @@
--- A sort by three keys puts legs of which no two tie in order.
+-- A sort by three keys puts legs in order if no two tie.
 use Rattle.std.proofs.Common.{ℕ, ◌≡◌, ◌≢◌, ◌∙◌, ◌+◌, ◌<◌, ◌≤◌, ◌⊎◌, ◌==◌, ◌&&◌, Bool, true, false, List, AllPairs, ap, arith, get_or, if◌then◌else◌, inl, inr, length, refl, sum_by, sym, eq-eqb, eqb-true}
 use Rattle.std.specs.List.Sorted.{IsNonDecreasingBy, IsPermutation, IsSortedBy}
 use Rattle.std.specs.Cmp.{IsStrictWeakOrder}
@@ -15,7 +15,7 @@ use Rattle.cqf_model.specs.declared.frames.Dropped.{Dropped}
 use Rattle.cqf_program_summary.specs.declared.hops.legs.Leg.{Leg}
 use Rattle.cqf_program_summary.specs.Hops.Legs.{AreApart, AreByFrame, IsBefore, frame_of, instant_of, link_of}
 
--- what passes a test once at most does so in any order
+-- if at most one element passes a test, that is so in any order
 pub once_after : {X : Type 0} (p : X → Bool) (xs ys : List X) → AllPairs (λ (a b : X). p a ≡ true → p b ≡ true → ⊥) xs → IsPermutation xs ys →
     (i j : ℕ) (d : X) → i < j → j < length ys → p (get_or ys i d) ≡ true → p (get_or ys j d) ≡ true → ⊥
 once_after {X} p xs ys once moved i j d less within first second =
@@ -36,7 +36,7 @@ same_cmp a b same = rw (le-ltb a b (omega (arith, same)), eq-eqb a b same) refl
 abbrev later : Ordering → Ordering → Ordering → Bool
 later o p q = is_lt (ordering_then (ordering_then o p) q)
 
--- what isn't behind three numbers is before them, or they are the same, but for the last
+-- a triple that isn't after another is before it, or equals it in all but the last
 not_behind : (a b c d e f : ℕ) → later (nat_cmp d a) (nat_cmp e b) (nat_cmp f c) ≡ false →
     (a < d) ⊎ ((a ≡ d) × ((b < e) ⊎ ((b ≡ e) × (c ≤ f))))
 not_behind a b c d e f up = elim (cases_order a d) [
@@ -112,7 +112,7 @@ sorted_strictly before after apart moved sorted i j d less within =
     (sorted_far (goes_before frame_of instant_of link_of) orders after sorted i j d (omega (arith, less)) within)
     (no_tie before after apart moved i j d less within (get_or after i d) (get_or after j d) refl refl)
 
--- drops of which no two are of one frame, in order of frame
+-- drops of different frames, sorted by frame
 pub rising : (before after : List Dropped) → AllPairs (λ (a b : Dropped). a.frame ≢ b.frame) before → IsPermutation before after →
     IsNonDecreasingBy (λ (x : Dropped). x.frame) after → AllPairs (λ (a b : Dropped). a.frame < b.frame) after
 rising before after differ moved up i j d less within =

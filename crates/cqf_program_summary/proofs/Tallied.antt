@@ -27,11 +27,11 @@ use Rattle.cqf_program_summary.specs.Summary.{fare_by, listeners_by, name_of_lis
 use Rattle.cqf_program_summary.specs.Summary.Tallies.{count_to, is_dropped, is_late, latencies_to, latency_by, latency_on, reaches, taken_of, tally_to}
 use Rattle.cqf_program_summary.specs.Summary.Told.{row_of_stream}
 
--- one more counts where it passes
+-- one more counts if it passes
 pub count_push : {X : Type 0} (p : X → Bool) (xs : List X) (x : X) → count_by p (xs ++ x ∷ []) ≡ count_by p xs + (if p x then 1 else 0)
 count_push {X} p xs x = fold-append (λ (n : ℕ) (y : X). n + cond (p y) 1 0) 0 xs (x ∷ [])
 
--- what one more makes of those before it
+-- and the list for one more element
 pub flat_push : {X Y : Type 0} (f : X → List Y) (xs : List X) (x : X) → flat_map f (xs ++ x ∷ []) ≡ flat_map f xs ++ f x
 flat_push {X} {Y} f xs x = flat_map-append f xs (x ∷ []) ∙ ap (λ (ys : List Y). flat_map f xs ++ ys) (append-nil (f x))
 
@@ -58,12 +58,12 @@ taken_push (m ∷ ns) n = λ i. Some (record {
     longer : length (ns ++ n ∷ []) ≡ length ns + 1
     longer = length_push ns n
 
--- what stands behind some, where it may be nothing
+-- with an optional instant more
 latencies_with : (ns : List ℕ) (at : ℕ) (whole : Option Nanos) → taken_of (ns ++ latency_by at whole) ≡ taken_with at whole (taken_of ns)
 latencies_with ns at None = ap taken_of (append-nil ns)
 latencies_with ns at (Some whole) = taken_push ns (latency_of at whole)
 
--- a tally with a frame more of this fate
+-- a tally with a frame more with this fate
 tally_by : (ending : Fate) (at : ℕ) (whole : Option Nanos) (t : Tally) (d l u : ℕ) (k : Option LatencySummary) →
     d ≡ t.delivered + (if is_delivered ending then 1 else 0) → l ≡ t.late + (if is_late ending then 1 else 0) →
     u ≡ t.under_way + (if is_under_way ending then 1 else 0) → k ≡ taken_with at whole t.taken →
@@ -130,14 +130,14 @@ journey_reaches : (to : Option Listener) (journey : Journey) → reaches (name_o
 journey_reaches None journey = refl
 journey_reaches (Some listener) journey = refl
 
--- a way with a journey more, where it is told whether that leads there
+-- a path with a journey more, by whether it leads there
 way_by : (ending : Fate) (at : ℕ) (journey : Journey) (way : ListenerWay) (b : Bool) → leads_to journey.listener way.to ≡ b →
     (if b then record way { tally = tally_with ending at journey.whole way.tally } else way) ≡ way_with ending at journey way
 way_by ending at journey way b e =
     ap (λ (c : Bool). if c then record way { tally = tally_with ending at journey.whole way.tally } else way) (sym e)
 
 module _ (ds : List Delivery) (x : Delivery) where
-  -- a way with one delivery more
+  -- a path with one delivery more
   way_more : (to : Option Listener) (journey : Journey) → x.passage ≡ passage.Goes journey →
       way_to (ds ++ x ∷ []) to ≡ way_with (fate_of x) x.at.0 journey (way_to ds to)
   way_more to journey goes = elim (cases_Bool (leads_to journey.listener to)) [
@@ -150,7 +150,7 @@ module _ (ds : List Delivery) (x : Delivery) where
       leads : reaches (name_of_listener to) x.passage ≡ leads_to journey.listener to
       leads = ap (reaches (name_of_listener to)) goes ∙ journey_reaches to journey
 
-  -- all ways with one more
+  -- all paths with one more
   ways_more : (p : Passage) → x.passage ≡ p → (tos : List (Option Listener)) →
       map (way_to (ds ++ x ∷ [])) tos ≡ ways_with (fate_of x) x.at.0 p (map (way_to ds) tos)
   ways_more (passage.Dropped reason) e [] = refl
@@ -162,7 +162,7 @@ module _ (ds : List Delivery) (x : Delivery) where
   ways_more (passage.Goes journey) e (to ∷ tos) =
       ap₂ (λ (w : ListenerWay) (ws : List ListenerWay). w ∷ ws) (way_more to journey e) (ways_more (passage.Goes journey) e tos)
 
--- what is told of a stream, with one delivery more of a frame of it
+-- the summary of a stream, with one delivery more of its frames
 module _ (d : Domain) (cost : Asked → ℕ → ℕ) (due : List ℕ → Option ℕ) (asked : Asked) where
   fare_more : (n : ℕ) (ds : List Delivery) (x : Delivery) → fare_by d cost due n (ds ++ x ∷ []) asked ≡ fare_with (fare_by d cost due n ds asked) x
   fare_more n ds x = λ i. record {

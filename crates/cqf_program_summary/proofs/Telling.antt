@@ -1,4 +1,4 @@
--- Rounds that are told one behind the other tell all in order.
+-- Rounds that are written one after another write all legs in order.
 use Rattle.std.proofs.Common.{ℕ, ◌≡◌, ◌≢◌, ◌∙◌, ◌-◌, ◌<◌, ◌≤◌, ◌++◌, ◌+◌, All, List, AllPairs, Contains, ap, append_assoc, arith, drop, get_or, inl, inr, length, map, subst, sym, take}
 use Rattle.std.specs.Prelude.{nat_le, nat_lt, slice_get, suc, vec_capacity, zero}
 use Rattle.std.proofs.lemmas.Bool.{cases_lt}
@@ -40,7 +40,7 @@ pairs_slice {X} R xs a n all =
     pairs_second R (take a xs) (drop a xs) (subst (λ (zs : List X). AllPairs R zs) (sym (take-append-drop a xs)) all) in
     pairs_first R (take n (drop a xs)) (drop n (drop a xs)) (subst (λ (zs : List X). AllPairs R zs) (sym (take-append-drop n (drop a xs))) behind)
 
--- so many rounds are told: what is told of the frames up to the last of them, in order
+-- the first k rounds are written: the legs of the frames up to the last of them, in order
 pub record AreToldSoFar (starts : List Started) (told : ToldHops) (k : ℕ) (under_way : LegsUnderWay) (IsPut : List ℕ → Type 0) : Type 0 where
   pub stands : StandsAt starts told.source under_way
   pub at : under_way.at ≡ round_before told.rounds k
@@ -52,7 +52,7 @@ pub record AreToldSoFar (starts : List Started) (told : ToldHops) (k : ℕ) (und
   pub each : (x : Leg) → Contains (legs_of_run told.source starts) x → frame_of x ≤ under_way.at.frames → Contains legs x
   pub put : IsPut (line_of_fields hops_header ++ lines_of_legs told.domain told.source.offers legs)
 
--- the round before each goes on as well
+-- the round before each also has the property of rounds
 module _ (starts : List Started) (told : ToldHops) (can : CanBeTold starts told) where
   abbrev Goes : Round → Type 0
   Goes = GoesOnFrom told.domain can.depth told.source.offers told.source.drops
@@ -61,13 +61,13 @@ module _ (starts : List Started) (told : ToldHops) (can : CanBeTold starts told)
   goes_before zero le = can.rounds.first
   goes_before (suc k) le = (can.rounds.each k (omega (arith, le))).goes_on
 
-  -- starts of its frames are told in time
+  -- starts of its frames are returned in time
   in_time_of : (round : Round) → Goes round → (s : Started) → Contains starts s → s.frame ≤ round.frames → s.cycle.0 < round.cycles
   in_time_of round goes s among upto =
       let found = can.soon s among in
       omega (arith, goes.whole found.0 found.1 (omega (arith, found.3, upto)) found.2, found.4)
 
-  -- all that is told of a run is of its offers, and in time
+  -- all legs of a run are of its offers, and in time
   pub leg_frame : (x : Leg) → Contains (legs_of_run told.source starts) x → (0 < frame_of x) × (frame_of x ≤ length told.source.offers)
   leg_frame x among = elim (Contains-append_cases (started_legs told.source starts) (dropped_legs told.source told.source.drops) x among) [
     | inl started ↦
@@ -152,7 +152,7 @@ module _ (starts : List Started) (told : ToldHops) (can : CanBeTold starts told)
     pub in_time_here : All (IsLegInTime told.domain) here
     in_time_here = all_from_members (IsLegInTime told.domain) here (λ x among. leg_in_time x (only_here x among).0)
 
-  -- all is told behind the last
+  -- after the last round all is written
   pub told_all : (legs sorted : List Leg) (frames : ℕ) → frames ≡ length told.source.offers → AllPairs IsBefore legs →
       ((x : Leg) → Contains legs x → Contains (legs_of_run told.source starts) x × (frame_of x ≤ frames)) →
       ((x : Leg) → Contains (legs_of_run told.source starts) x → frame_of x ≤ frames → Contains legs x) → AreToldLegs starts told sorted → legs ≡ sorted
@@ -160,7 +160,7 @@ module _ (starts : List Started) (told : ToldHops) (can : CanBeTold starts told)
       one_order legs sorted in_order are.in_order (λ x among. are.each x (only x among).0)
       (λ x among. let member = are.only x among in each x member (omega (arith, all, (leg_frame x member).1)))
 
--- a round more is told
+-- one round more is written
 module _ (starts : List Started) (told : ToldHops) (can : CanBeTold starts told) (k : ℕ) (inside : k < length told.rounds)
     (old new : LegsUnderWay) (First More All_ : List ℕ → Type 0) (so_far : AreToldSoFar starts told k old First) where
   abbrev own : Round

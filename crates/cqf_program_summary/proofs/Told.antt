@@ -22,7 +22,7 @@ use Rattle.cqf_program_summary.specs.Summary.Output.{IsSummaryOutput}
 use Rattle.cqf_program_summary.specs.Summary.Text.{text_of_summary}
 use Rattle.cqf_program_summary.specs.Summary.Told.{told_streams}
 
--- by what is noted of a scenario
+-- by the notes about a scenario
 pub IsSummaryOf-noted : (cycles : ℕ) (planned : PlannedGiven) (noted : Noted) (under_way : UnderWay) (summary : Summary)
     (is : IsNotedOf cycles planned noted under_way) →
     summary ≡ summary_by planned.given.domain (told_streams (map asked_paced planned.given.requests.items))

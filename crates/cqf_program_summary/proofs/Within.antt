@@ -1,4 +1,4 @@
--- No more is counted than there is room for.
+-- No count exceeds its room.
 use Rattle.std.proofs.Common.{◌≡◌, ◌+◌, [], ℕ, All, List, Some, None, Option, arith, map, set, subst, sym}
 use Rattle.std.proofs.lemmas.List.Elements.{All-contains, All-set}
 use Rattle.cqf_lists.proofs.Members.{all_from_members, contains_from_map}
@@ -15,7 +15,7 @@ use Rattle.cqf_program_summary.specs.Summary.Counting.{counted, FareWithin, Othe
 use Rattle.cqf_program_summary.specs.Summary.{Fare, Summary, fare_of, listeners_by, summary_by, way_to, ways_of}
 use Rattle.cqf_program_summary.specs.Summary.Told.{row_of_stream, told_cost}
 
--- what is within some is within more
+-- a bound may be raised
 taken_later : (many more : ℕ) (t : Option LatencySummary) → TakenWithin many t → TakenWithin (many + more) t
 taken_later many more None is = tt
 taken_later many more (Some t) is = (omega (arith, is.0), omega (arith, is.1))
@@ -51,7 +51,7 @@ pub summary_later : (many more : ℕ) (summary : Summary) → SummaryWithin many
 summary_later many more summary is =
     record { fares = fares_later many more summary.fares is.fares; others = others_later many more summary.others is.others }
 
--- with an end more
+-- with one more end
 counted_within : (many : ℕ) (ending : Fate) (t : Tally) → TallyWithin many t → TallyWithin (many + 1) (counted ending t)
 counted_within many fate.Delivered t is = record {
   delivered = omega (arith, is.delivered);
@@ -79,7 +79,7 @@ counted_taken many fate.Late t is = is
 counted_taken many fate.UnderWay t is = is
 counted_taken many (fate.Dropped reason) t is = is
 
--- and what it took
+-- and with its latency
 pub with_within : (many : ℕ) (ending : Fate) (before mid : Tally) (k : Option LatencySummary) → mid ≡ counted ending before →
     TallyWithin many before →
     ((m : ℕ) → TakenWithin m mid.taken → TakenWithin (m + 1) k) → TallyWithin (many + 1) (record mid { taken = k })
@@ -92,7 +92,7 @@ with_within many ending before mid k same is more =
       taken = more many (subst (λ (t : Tally). TakenWithin many t.taken) (sym same) (counted_taken many ending before is.taken));
     }
 
--- with one way counted once more
+-- with one path counted once more
 pub way_within : (many : ℕ) (ways : List ListenerWay) (place : ℕ) (after : ListenerWay) → TallyWithin (many + 1) after.tally → WaysWithin many ways →
     WaysWithin (many + 1) (set ways place after)
 way_within many ways place after more are = All-set (λ (way : ListenerWay). TallyWithin (many + 1) way.tally) ways place after more (ways_later many 1 ways are)

@@ -1,3 +1,3 @@
--- a folder a command
+-- one folder for each command
 pub mod Hops
 pub mod Summary

@@ -1,4 +1,4 @@
--- How the frames of streams fare to their listeners in a run, by its book.
+-- What becomes of the frames of streams on the paths to their listeners in a run, by its book.
 pub mod Output
 pub mod Text
 pub mod Told
@@ -29,8 +29,8 @@ use Rattle.cqf_program_summary.specs.declared.summary.fares.ListenerWay.{Listene
 use Rattle.cqf_program_summary.specs.Summary.Tallies.{is_dropped, tally_to}
 use Rattle.cqf_program_summary.specs.Summary.Told.{is_other, row_of_stream, told_cost, told_streams}
 
--- what is told of a stream: its name and its deadline, how many offers claim the name, how many of these are dropped, and the ways
--- to its listeners; of a stream whose octets, pace or path are refused one way to none
+-- the summary of a stream: its name and its deadline, how many offers claim the name, how many of these are dropped,
+-- and the paths to its listeners. A stream whose octets, pace or path are refused has one path without a listener
 pub record Fare : Type 0 where
   pub name : List ℕ
   pub deadline : Option ℕ
@@ -43,11 +43,12 @@ pub record Summary : Type 0 where
   pub fares : List Fare
   pub others : Others
 
--- the listener at the end of a hop, with the most that a frame can take to it, where the streams cost so much of each link
+-- the listener at the end of a hop, with the longest time that a frame can take to it, if streams cost `cost` of each
+-- link
 abbrev pub listener_to : Domain → (ℕ → ℕ) → Hop → Listener
 listener_to d cost hop = record { name = name_of_end d hop.link; bound = most_of d hop.link hop.depth (cost hop.link) }
 
--- a way to a listener, where there is one, by the deliveries of a stream's frames
+-- the path to an optional listener, by the deliveries of a stream's frames
 abbrev pub name_of_listener : Option Listener → Option (List ℕ)
 name_of_listener to = option_map (λ (listener : Listener). listener.name) to
 
@@ -62,14 +63,15 @@ listeners_by d cost (Some row) = map (λ (hop : Hop). Some (listener_to d cost h
 abbrev pub ways_of : Domain → (ℕ → ℕ) → List Delivery → Option Row → List ListenerWay
 ways_of d cost deliveries row = map (way_to deliveries) (listeners_by d cost row)
 
--- how many of some offers claim a name, and what becomes of them
+-- how many of the offers claim a name, and their deliveries
 abbrev pub offers_named : List ℕ → List Offered → ℕ
 offers_named name offers = count_by (λ (x : Offered). is_text x.offer.stream name) offers
 
 abbrev pub deliveries_named : List ℕ → List Delivery → List Delivery
 deliveries_named name deliveries = filter (λ (x : Delivery). is_text x.stream name) deliveries
 
--- that of a stream, by its number of offers and the deliveries of its frames, where streams cost so much of each link beside it
+-- the summary of a stream, by its number of offers and the deliveries of its frames, if streams cost `cost` of each
+-- link in its cycles
 abbrev pub fare_by : Domain → (Asked → ℕ → ℕ) → (List ℕ → Option ℕ) → ℕ → List Delivery → Asked → Fare
 fare_by d cost due offered deliveries asked = record {
   name = asked.name;
@@ -83,14 +85,14 @@ abbrev pub fare_of : Domain → (Asked → ℕ → ℕ) → (List ℕ → Option
 fare_of d cost due offers deliveries asked =
     fare_by d cost due (offers_named asked.name offers) (deliveries_named asked.name deliveries) asked
 
--- those of names that none of the streams has
+-- the counts of the names that none of the streams has
 abbrev pub others_of : List Asked → List Offered → List Delivery → Others
 others_of told offers deliveries = record {
   offered = count_by (λ (x : Offered). is_other told x.offer.stream) offers;
   dropped = count_by (λ (x : Delivery). is_other told x.stream && is_dropped (fate_of x)) deliveries;
 }
 
--- the summary of some streams, where names have these deadlines, by some offers and what becomes of them
+-- the summary of streams with these deadlines by name, by offers and their deliveries
 abbrev pub summary_by : Domain → List Asked → (List ℕ → Option ℕ) → List Offered → List Delivery → Summary
 summary_by d told due offers deliveries = record {
   fares = map (fare_of d (told_cost d told) due offers deliveries) told;
@@ -101,7 +103,7 @@ summary_by d told due offers deliveries = record {
 abbrev pub offers_within : Domain → ℕ → List Offered → List Offered
 offers_within d cycles offers = filter (λ (x : Offered). nat_lt (offer_cycle d x) cycles) offers
 
--- that of a run over some streams, by its book
+-- the summary of a run's streams, by its book
 abbrev pub summary_of : Run → List PlannedText → Contents → Summary
 summary_of run streams book =
     summary_by run.domain (told_streams (asked_in streams)) (deadline_named streams)

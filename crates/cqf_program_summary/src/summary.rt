@@ -1,4 +1,4 @@
-//! The command `summary`: how frames fare, by stream and listener.
+//! The command `summary`: what becomes of frames, by stream and listener.
 
 pub(crate) mod command;
 pub(crate) mod fares;

@@ -29,11 +29,11 @@ use Rattle.cqf_worker.specs.declared.account.TapedAccount.{TapedAccount}
 use Rattle.cqf_worker.specs.declared.faults.ConductFault.{ConductFault}
 use Rattle.cqf_worker.specs.declared.faults.ConductFault.TheVariants.{Memory, Bridge, DeskDisagrees, BookDisagrees, ChannelLost, Spawn}
 
--- each administrator's commands, of the vectors of them
+-- each administrator's commands, from their vectors
 abbrev pub commands_in : List (Vec Command Global) → List (List Command)
 commands_in lists = map (λ (commands : Vec Command Global). commands.items) lists
 
--- what they call for is what the vectors do
+-- their calls are those of the vectors
 asked_of : (lists : List (Vec Command Global)) → acts_of_each lists ≡ all_asked (commands_in lists)
 asked_of lists = sym (map-map acts_asked (λ (commands : Vec Command Global). commands.items) lists)
 
@@ -59,7 +59,7 @@ IsAccountOfInput-opened limits cycles input made account offers frames opened sa
           (same_offers ∙ o.offers) (same_frames ∙ o.background) of_opening;
     }
 
--- a fault that a run of what was opened of an input may tell is one of the input's scenario
+-- a possible fault of a run of what was opened of an input is one of the input's scenario
 pub IsFaultOfInput-opened : (limits : Limits) (cycles : ℕ) (input : List ℕ) (made : Opened) (fault : ConductFault) (d : Domain) (entries : List Recorded)
     (offers : List Offer) (frames : List Background) → IsOpenedInput limits cycles input made → d ≡ made.domain → entries ≡ made.admission.entries
     → offers ≡ made.offers.items → frames ≡ made.background.items
@@ -82,17 +82,17 @@ IsFaultOfInput-opened limits cycles input made fault d entries offers frames ope
       };
     }
 
--- the tapes of such an account tell its book
+-- the tapes of such an account yield its book
 module _ (limits : Limits) (cycles : ℕ) (input : List ℕ) (d : Domain) (account : TapedAccount)
     (of : IsAccountOfInput limits cycles input d account) (law : TapesTellTheBook) (accepted : IsAccepted d) where
   tells : TapesTell d cycles account.tapes of.is_account.book
   tells = law d cycles account.tapes of.is_account.book accepted of.is_account.some of.is_account.its_tapes
 
-  -- with nothing to be sorted
+  -- without any sorting
   pub may_be_told : MayBeTold d account.tapes
   may_be_told = tells.may
 
-  -- the text of its history and of the book that they tell is the output
+  -- the text of its history and of the book of its tapes is the output
   pub IsThreadsOutput-written : (text : List ℕ) → text ≡ run_text d (entries_of account.history) (told_from d cycles account.tapes) →
       IsThreadsOutput limits cycles input text
   IsThreadsOutput-written text written =
@@ -120,7 +120,7 @@ EndsThreads-refused limits cycles input stop h = record {
   memory = h.memory;
 }
 
--- want of memory ends it
+-- lack of memory ends it
 pub EndsThreads-memory : (limits : Limits) (cycles : ℕ) (input : List ℕ) (stop : Stop) → stop.status ≡ 3 → stop.text.items ≡ [] → EndsThreads limits cycles input stop
 EndsThreads-memory limits cycles input stop three none = record {
   statuses = inr (inl three);
@@ -129,7 +129,7 @@ EndsThreads-memory limits cycles input stop three none = record {
   memory = λ _. none;
 }
 
--- a fault of a run of the input's scenario ends it, where it isn't for memory
+-- a fault of a run of the input's scenario ends it, if it isn't for lack of memory
 EndsThreads-fault : (limits : Limits) (cycles : ℕ) (input : List ℕ) (fault : ConductFault) (stop : Stop) → IsFaultOfInput limits cycles input fault → fault ≢ Memory
     → EndsWith 4 (fault_line (codes "run") (conduct_fault_text fault)) stop → EndsThreads limits cycles input stop
 EndsThreads-fault limits cycles input fault stop may other e = record {
@@ -146,7 +146,7 @@ EndsThreads-fault limits cycles input fault stop may other e = record {
   memory = e.memory;
 }
 
--- a fault is want of memory, or another
+-- a fault is for lack of memory, or another one
 memory_or_not : (fault : ConductFault) → (fault ≡ Memory) ⊎ (fault ≢ Memory)
 memory_or_not Memory = inl refl
 memory_or_not (Bridge bridge fault) = inr (λ e. (cc))
@@ -155,7 +155,7 @@ memory_or_not BookDisagrees = inr (λ e. (cc))
 memory_or_not ChannelLost = inr (λ e. (cc))
 memory_or_not Spawn = inr (λ e. (cc))
 
--- whatever its fault, it ends
+-- it ends with any fault
 pub EndsThreads-stopped : (limits : Limits) (cycles : ℕ) (input : List ℕ) (fault : ConductFault) (stop : Stop) → IsFaultOfInput limits cycles input fault
     → (fault ≢ Memory → EndsWith 4 (fault_line (codes "run") (conduct_fault_text fault)) stop) → (fault ≡ Memory → EndsWith 3 [] stop)
     → EndsThreads limits cycles input stop

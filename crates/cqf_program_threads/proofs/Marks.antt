@@ -28,11 +28,11 @@ module _ (d : Domain) (cycle link : ℕ) where
         (sym (cond-false (is_in d cycle m) (m ∷ filter (is_in d cycle) marks) (filter (is_in d cycle) marks) apart))
   ]
 
-  -- they are told where they stand
+  -- they are found in their order
   pub told_of_own : (marks own : List Mark) → filter (is_in d cycle) marks ≡ own → map (started_in cycle link) own ≡ told_on d cycle link marks
   told_of_own marks own is = ap (map (started_in cycle link)) (sym is) ∙ sym (told_in_cycle marks)
 
--- the next one's line stands behind those before
+-- the next one's line comes after those before
 pub marks_more : (what : List ℕ) (d : Domain) (f : Mark → Started) (own : List Mark) (k : ℕ) (some : Mark) (started : Started) → k < length own
     → started ≡ f (get_or own k some)
     → lines_of_starts what d (map f (take k own)) ++ lines_of_starts what d (started ∷ []) ≡ lines_of_starts what d (map f (take (k + 1) own))

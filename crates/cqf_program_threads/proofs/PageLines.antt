@@ -12,7 +12,7 @@ use Rattle.cqf_report.specs.Written.{line_of_fields}
 next : (n : ℕ) → suc n ≡ n + 1
 next n = omega arith
 
--- with one list more, its lines stand behind those before
+-- with one list more, its lines come after those before
 pub starts_more : (what : List ℕ) (d same : Domain) (lists : ℕ → List Started) (n : ℕ) (starts : List Started) → same ≡ d → starts ≡ lists n →
     lines_of_starts what d (each_below lists n) ++ lines_of_starts what same starts ≡ lines_of_starts what d (each_below lists (n + 1))
 starts_more what d same lists n starts is here =

@@ -1,4 +1,4 @@
--- Of each of some tapes, a place that goes on cycle by cycle.
+-- Indexes in a list of tapes, one for each, that advance cycle by cycle.
 use Rattle.std.proofs.Common.{◌≡◌, ℕ, ◌+◌, ◌<◌, ◌≤◌, ◌∙◌, List, length, replicate, set, ap, arith, inl, inr, subst, sym}
 use Rattle.std.specs.Prelude.{slice_index}
 use Rattle.std.proofs.lemmas.Bool.{cases_eq}
@@ -11,14 +11,14 @@ use Rattle.cqf_tape.specs.declared.tapes.Tapes.{Tapes}
 use Rattle.cqf_tape.specs.Tapes.{IsDropsEndBefore, IsEndBefore, MayBeTold, StandByNumber, drops_at, first_links, link_of_tape, marks_at}
 use Rattle.cqf_tape.specs.Telling.{AreDropPlaces, ArePlaces}
 
--- of so many places those before one have gone on, and the others haven't
+-- of `count` indexes, those before one have advanced, and the others haven't
 pub record HaveGoneOn (before after : ℕ → ℕ → Type 0) (count at : ℕ) (places : List ℕ) : Type 0 where
   pub many : count ≤ length places
   pub gone : (k : ℕ) → k < at → after k (slice_index places k)
   pub rest : (k : ℕ) → at ≤ k → k < count → before k (slice_index places k)
 
 module _ (before after : ℕ → ℕ → Type 0) (count : ℕ) (places : List ℕ) where
-  -- at first none has
+  -- at first none has advanced
   pub none_gone : count ≤ length places → ((k : ℕ) → k < count → before k (slice_index places k)) → HaveGoneOn before after count 0 places
   none_gone many are = record {
     many = many;
@@ -26,7 +26,7 @@ module _ (before after : ℕ → ℕ → Type 0) (count : ℕ) (places : List �
     rest = λ k _ below. are k below;
   }
 
-  -- one more goes on
+  -- one more advances
   pub one_gone : (at end : ℕ) → at < count → HaveGoneOn before after count at places → after at end →
       HaveGoneOn before after count (at + 1) (set places at end)
   one_gone at end inside so_far is = record {
@@ -42,14 +42,14 @@ module _ (before after : ℕ → ℕ → Type 0) (count : ℕ) (places : List �
         subst (before k) (sym (get_or-set_other places at k end 0 (λ e. absurd (omega (arith, behind, e))))) (so_far.rest k (omega (arith, behind)) below);
   }
 
--- where a cycle's marks end by link, and its drops by bridge
+-- the indexes at which a cycle's marks end, by link, and its drops, by bridge
 abbrev pub ends_by_link : Domain → TransmissionKind → Tapes → ℕ → ℕ → ℕ → Type 0
 ends_by_link d kind tapes cycle link place = IsEndBefore d cycle (marks_at kind tapes link) place
 
 abbrev pub ends_by_bridge : Tapes → ℕ → ℕ → ℕ → Type 0
 ends_by_bridge tapes cycle bridge place = IsDropsEndBefore cycle (drops_at tapes bridge) place
 
--- of so many links, or bridges, the places are behind the cycle, and of the others before it
+-- the indexes of the first links, or bridges, are after the cycle, and those of the others before it
 abbrev pub AreBehindLinks : Domain → TransmissionKind → Tapes → ℕ → ℕ → List ℕ → Type 0
 AreBehindLinks d kind tapes cycle link places =
     HaveGoneOn (ends_by_link d kind tapes cycle) (ends_by_link d kind tapes (cycle + 1)) (length d.links) link places
@@ -59,7 +59,7 @@ AreBehindBridges d tapes cycle bridge places =
     HaveGoneOn (ends_by_bridge tapes cycle) (ends_by_bridge tapes (cycle + 1)) (length d.bridges) bridge places
 
 module _ (d : Domain) (kind : TransmissionKind) (tapes : Tapes) (places : List ℕ) where
-  -- before the first cycle nothing is told
+  -- before the first cycle nothing is written
   pub first_places : IsAccepted d → places ≡ replicate 4096 0 → ArePlaces d kind tapes 0 places
   first_places accepted are = record {
     many = omega (arith, few_links d accepted, ap length are, length-replicate {A = ℕ} 4096 0);
@@ -69,12 +69,12 @@ module _ (d : Domain) (kind : TransmissionKind) (tapes : Tapes) (places : List �
         (record { within = omega arith; before = λ k m _ below. absurd (omega (arith, below)); behind = λ k m _ _. omega arith });
   }
 
-  -- before a cycle no place has gone on
+  -- before a cycle no index has advanced
   pub links_begin : (cycle : ℕ) → ArePlaces d kind tapes cycle places → AreBehindLinks d kind tapes cycle 0 places
   links_begin cycle are = none_gone (ends_by_link d kind tapes cycle) (ends_by_link d kind tapes (cycle + 1)) (length d.links) places are.many are.ends
 
 module _ (d : Domain) (tapes : Tapes) (places : List ℕ) where
-  -- and no drop
+  -- and the same for drops
   pub first_drop_places : IsAccepted d → places ≡ replicate 1024 0 → AreDropPlaces d tapes 0 places
   first_drop_places accepted are = record {
     many = omega (arith, few_bridges d accepted, ap length are, length-replicate {A = ℕ} 1024 0);

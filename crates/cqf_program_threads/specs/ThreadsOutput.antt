@@ -1,4 +1,4 @@
--- What the command `run` with `--threads` gives for its input: the history and the book of an account of a scenario.
+-- What the command `run` with `--threads` returns for its input: the history and the book of an account of a scenario.
 use Rattle.cqf_model.specs.declared.limits.Limits.{Limits}
 use Rattle.std.specs.Prelude.{ℕ, ◌≡◌, ◌≢◌, ◌⊎◌, List, [], Result, Ok, Err, codes}
 use Rattle.cqf_model.specs.Book.{Contents}
@@ -19,14 +19,14 @@ use Rattle.cqf_worker.specs.declared.account.TapedAccount.{TapedAccount}
 use Rattle.cqf_worker.specs.declared.faults.ConductFault.{ConductFault}
 use Rattle.cqf_worker.specs.declared.faults.ConductFault.TheVariants.{Memory}
 
--- the entries and the book of an account of a scenario over so many cycles: of a run that begins with the history of the calls before the
--- first Seal, and in which each administrator makes what it calls for behind that Seal
+-- the entries and the book of an account of a scenario over some cycles. The run begins with the history of the calls
+-- before the first Seal, and in it each administrator makes the calls that it has after that Seal
 pub record IsAccountOfScenario (cycles : ℕ) (s : Scenario) (entries : List Recorded) (book : Contents) : Type 0 where
   pub commands : List (List Command)
   pub asked : AreCommandsBehind s.calls s.sealer (all_asked commands)
   pub is_account : IsAccountOf s.domain (opening_history s) s.offers s.background cycles (all_asked commands) entries book
 
--- an account by tapes of an input's scenario, and the domain of that
+-- an account, by tapes, of an input's scenario; and the scenario's domain
 pub record IsAccountOfInput (limits : Limits) (cycles : ℕ) (input : List ℕ) (d : Domain) (account : TapedAccount) : Type 0 where
   pub scenario : Scenario
   pub holds : scenario_input limits cycles input ≡ Ok scenario
@@ -35,13 +35,14 @@ pub record IsAccountOfInput (limits : Limits) (cycles : ℕ) (input : List ℕ) 
   pub asked : AreCommandsBehind scenario.calls scenario.sealer (all_asked commands)
   pub is_account : IsTapedAccount d (opening_history scenario) scenario.offers scenario.background cycles commands account
 
--- a fault that a run of a scenario over so many cycles may tell, which begins so and in which each administrator makes what it calls for
+-- a possible fault of a run of a scenario over some cycles that begins so and in which each administrator makes its
+-- calls
 pub record IsFaultOfScenario (cycles : ℕ) (s : Scenario) (fault : ConductFault) : Type 0 where
   pub commands : List (List Command)
   pub asked : AreCommandsBehind s.calls s.sealer (all_asked commands)
   pub may : IsConductFault s.domain (opening_history s) s.offers s.background cycles commands fault
 
--- one that a run of an input's scenario may tell
+-- a possible fault of a run of an input's scenario
 pub record IsFaultOfInput (limits : Limits) (cycles : ℕ) (input : List ℕ) (fault : ConductFault) : Type 0 where
   pub scenario : Scenario
   pub holds : scenario_input limits cycles input ≡ Ok scenario
@@ -56,8 +57,8 @@ pub record IsThreadsOutput (limits : Limits) (cycles : ℕ) (input output : List
   pub of_scenario : IsAccountOfScenario cycles scenario entries book
   pub written : output ≡ run_text scenario.domain entries book
 
--- the line tells a fault that a run over so many cycles may tell of the scenario that the input has; want of memory outside a bridge
--- isn't told so
+-- the line is that of a possible fault of a run of the input's scenario over some cycles. A failed allocation outside a
+-- bridge has no such line
 pub record TellsFault (cycles : ℕ) (found : Result Scenario (List ℕ)) (line : List ℕ) : Type 0 where
   pub scenario : Scenario
   pub holds : found ≡ Ok scenario
@@ -66,8 +67,8 @@ pub record TellsFault (cycles : ℕ) (found : Result Scenario (List ℕ)) (line 
   pub other : fault ≢ Memory
   pub tells : line ≡ fault_line (codes "run") (conduct_fault_text fault)
 
--- how it ends without an account: with status 1 and the line of the input's first fault, or with status 4 and the line of the run's
--- fault, or without memory
+-- how it ends without an account: with status 1 and the line of the input's first fault, with status 4 and the line of
+-- the run's fault, or with status 3 for lack of memory
 pub record EndsThreads (limits : Limits) (cycles : ℕ) (input : List ℕ) (stop : Stop) : Type 0 where
   pub statuses : (stop.status ≡ 1) ⊎ ((stop.status ≡ 3) ⊎ (stop.status ≡ 4))
   pub refused : stop.status ≡ 1 → scenario_input limits cycles input ≡ Err stop.text.items

@@ -1,4 +1,4 @@
-//! A book by its tapes.
+//! A book, given by its tapes.
 ghost use Rattle.std.specs.Prelude.{◌≡◌, ◌≤◌};
 ghost use Rattle.cqf_model.specs.Limits.{most_cycles};
 ghost use Rattle.cqf_tape.specs.Tapes.{MayBeTold};
@@ -7,7 +7,7 @@ use cqf_tape::Tapes;
 use cqf_topology::Domain;
 use std::marker::Model;
 
-/// A book of so many cycles of a domain by its tapes, on each of which the transmissions stand by instant.
+/// A book of some cycles of a domain, given by its tapes. On each tape the transmissions are in order of instant.
 #[derive(Drop)]
 pub struct PagedBook {
     domain: Domain,
@@ -29,7 +29,7 @@ impl Model for PagedBook {
 }
 
 impl PagedBook {
-    /// The book of so many cycles of the domain that these tapes tell.
+    /// Makes the book of `cycles` cycles of the domain with these tapes.
     pub fn new(domain: Domain, cycles: u32, tapes: Tapes) -> PagedBook
         requires few { cycles ≤ most_cycles }
         requires tapes { MayBeTold domain tapes }
@@ -42,14 +42,14 @@ impl PagedBook {
         }
     }
 
-    /// The domain.
+    /// Returns the domain.
     pub(crate) fn domain(&self) -> &Domain
         ensures { result.now ≡ self.now.domain }
     {
         &self.domain
     }
 
-    /// How many cycles there are.
+    /// Returns the number of cycles.
     pub(crate) fn cycles(&self) -> u32
         ensures value { result ≡ self.now.cycles }
         ensures few { result ≤ most_cycles }
@@ -57,7 +57,7 @@ impl PagedBook {
         self.cycles
     }
 
-    /// The tapes.
+    /// Returns the tapes.
     pub(crate) fn tapes(&self) -> &Tapes
         ensures value { result.now ≡ self.now.tapes }
         ensures may { MayBeTold self.now.domain result.now }

@@ -1,4 +1,4 @@
-//! A book that is put from its tapes: cycle by cycle and link by link, each transmission once.
+//! A book, written from its tapes: cycle by cycle and link by link, each transmission once.
 ghost use Rattle.std.specs.Prelude.{◌+◌, ◌<◌, length};
 ghost use Rattle.cqf_model.specs.Limits.{most_cycles};
 ghost use Rattle.cqf_press.specs.Press.{Puts};
@@ -15,7 +15,7 @@ use cqf_tape::{Mark, Tapes, TransmissionKind, drops_end_of, end_of, started_on};
 use cqf_topology::Domain;
 use cqf_units::Cycle;
 
-/// What is told: transmissions of a kind, which begin with a word, of the tapes of a domain.
+/// The transmissions to write: those of a kind, with their first word, on the tapes of a domain.
 #[derive(Clone, Copy)]
 struct ToldTransmissions<'w, 'd, 't> {
     what: &'w [u8],
@@ -24,7 +24,7 @@ struct ToldTransmissions<'w, 'd, 't> {
     tapes: &'t Tapes,
 }
 
-/// Puts a line for each mark of a cycle on a link's tape, and gives the place where they end.
+/// Puts a line for each mark of a cycle on a link's tape, and returns the index at which these marks end.
 fn put_on_link<W: Sink>(
     press: &mut Press<'_, W>,
     part: ToldTransmissions<'_, '_, '_>,
@@ -49,7 +49,8 @@ fn put_on_link<W: Sink>(
     end
 }
 
-/// Puts a line for each mark of a cycle, link by link. The places are those where the cycles before end.
+/// Puts a line for each mark of a cycle, link by link. `places` are the indexes at which the cycles before end, and
+/// afterwards those at which this cycle ends.
 fn put_cycle<W: Sink>(
     press: &mut Press<'_, W>,
     part: ToldTransmissions<'_, '_, '_>,
@@ -94,7 +95,8 @@ fn put_starts_of_kind<W: Sink>(
     }
 }
 
-/// Puts a line for each drop of a cycle, bridge by bridge. The places are those where the cycles before end.
+/// Puts a line for each drop of a cycle, bridge by bridge. `places` are the indexes at which the cycles before end, and
+/// afterwards those at which this cycle ends.
 fn put_drops_of_cycle<W: Sink>(
     press: &mut Press<'_, W>,
     domain: &Domain,
@@ -131,8 +133,9 @@ fn put_all_drops<W: Sink>(press: &mut Press<'_, W>, book: &PagedBook)
     }
 }
 
-/// Puts the text of the book that tapes tell, as `cqf_report::write_book` gives it: its header, the starts of streams' frames, those of
-/// background frames, and the drops. It asks for no memory. The time grows with the lines, and with the cycles times the links.
+/// Puts the text of the book of the tapes, as `cqf_report::write_book` writes it: its header, the starts of streams'
+/// frames, those of background frames, and the drops. Allocates no memory. The time grows with the lines, and with the
+/// cycles times the links.
 pub fn put_paged_book<W: Sink>(press: &mut Press<'_, W>, book: &PagedBook)
     ensures { Puts W.contents press.old press.new (text_of_book book.now.domain (contents_told book.now)) }
 {

@@ -27,7 +27,7 @@ use std::alloc::{AllocError, Global};
 use std::sync::Wait;
 use std::thread::Threads;
 
-/// The line of a run's fault.
+/// Returns the line of a run's fault.
 fn fault_line_of(alloc: Global, fault: ConductFault) -> Result<String, AllocError>
     ensures { IfOk result (λ line. string_bytes line ≡ fault_line (codes "run") (conduct_fault_text fault)) }
 {
@@ -36,7 +36,7 @@ fn fault_line_of(alloc: Global, fault: ConductFault) -> Result<String, AllocErro
     Ok(line)
 }
 
-/// The end of a run that has a fault.
+/// Returns the stop of a run that has a fault.
 fn fault_stop(alloc: Global, fault: ConductFault) -> Stop
     ensures told { fault ≢ ConductFault.Memory → EndsWith 4 (fault_line (codes "run") (conduct_fault_text fault)) result }
     ensures memory { fault ≡ ConductFault.Memory → EndsWith 3 [] result }
@@ -47,7 +47,7 @@ fn fault_stop(alloc: Global, fault: ConductFault) -> Stop
     }
 }
 
-/// The domain of what was opened of the input, and the account of its run, by tapes, or the run's fault.
+/// Runs what was opened of the input. Returns its domain and the account of the run, by tapes; or the run's fault.
 fn conduct_opened(
     rt: &(impl Threads + Wait + Sync),
     alloc: Global,
@@ -84,7 +84,7 @@ fn conduct_opened(
     }
 }
 
-/// Puts a line `%%`, and the text of the book that tapes tell behind it.
+/// Puts a line `%%`, followed by the text of the book of the tapes.
 fn put_rest<W: Sink>(press: &mut Press<'_, W>, book: &PagedBook)
     ensures { Puts W.contents press.old press.new (line_of (codes "%%") ++ text_of_book book.now.domain (contents_told book.now)) }
 {
@@ -92,7 +92,7 @@ fn put_rest<W: Sink>(press: &mut Press<'_, W>, book: &PagedBook)
     put_paged_book(press, book);
 }
 
-/// Puts the text of a history, and of the book that tapes tell, with a line `%%` between them.
+/// Puts the texts of a history and of the book of the tapes, separated by a line `%%`.
 fn put_account<W: Sink>(press: &mut Press<'_, W>, history: &[Entry], book: &PagedBook)
     ensures { Puts W.contents press.old press.new (run_text book.now.domain (map recorded_of history.now) (contents_told book.now)) }
 {
@@ -101,8 +101,8 @@ fn put_account<W: Sink>(press: &mut Press<'_, W>, history: &[Entry], book: &Page
 }
 
 impl ThreadsOutput {
-    /// Tells the output: a history of the input's scenario, a line `%%`, and the one-thread book of that history. It
-    /// asks for no memory, and sorts nothing.
+    /// Writes the output: a history of the input's scenario, a line `%%`, and the one-thread book of that history.
+    /// Allocates no memory and sorts nothing.
     pub fn tell<W: Sink>(self, told: &mut Told<W>)
         ensures { HasTold (writing W.contents told.old told.new) (text_of_account self) }
     {
@@ -118,15 +118,18 @@ impl ThreadsOutput {
     }
 }
 
-/// The output of `run --threads` over so many cycles, 0 to 100,000, for an input that is read within some limits, ready to be told. Each
-/// bridge of the domain and each administrator of the script runs on a thread of its own, and the calling thread closes the cycles. The
-/// calls of the script before its first Seal are made before; the later ones are made while the bridges run, each administrator's in
-/// order, and later Seals are passed over. It waits until all threads have ended.
+/// Returns the output of `run --threads` over `cycles` cycles, 0 to 100,000, for an input that is read within given
+/// limits, ready to be written.
+///
+/// Each bridge of the domain and each administrator of the script runs on its own thread, and the calling thread closes
+/// the cycles. The calls before the script's first Seal are made before the run. The later ones are made while the
+/// bridges run, each administrator's in order; later Seals are ignored. The function returns after all threads have
+/// ended.
 ///
 /// # Errors
-/// With status 1 and the line of the first fault of the input: of its parts, of the domain, the streams, the script, the
-/// offers, or the background frames; with status 4 and the line `cqf: run: FAULT` where the run has a fault, want of memory in
-/// a bridge among them; and with status 3 for want of memory elsewhere. Nothing is kept of the run then.
+/// With status 1 and the line of the first fault of the input: of its parts, the domain, the streams, the script, the
+/// offers, or the background frames. With status 4 and the line `cqf: run: FAULT` if the run has a fault; this includes
+/// a failed allocation in a bridge. With status 3 if an allocation fails elsewhere. Then nothing of the run is kept.
 pub fn threads_output(
     rt: &(impl Threads + Wait + Sync),
     alloc: Global,

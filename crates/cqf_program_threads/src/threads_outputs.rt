@@ -1,10 +1,11 @@
-//! The output of `run --threads`, before it is told.
+//! The output of `run --threads`, before it is written.
 
 use crate::PagedBook;
 use cqf_desk::History;
 use cqf_press::Sheet;
 
-/// What the output of `run --threads` is told from: the history of a run, its book by the tapes that the bridges kept, and a sheet.
+/// The data of the output of `run --threads`: the history of a run, its book by the tapes that the bridges kept, and a
+/// sheet.
 #[derive(Drop)]
 pub struct ThreadsOutput {
     pub(crate) history: History,

@@ -20,7 +20,7 @@ fn is_text(given: &Result<Vec<u8>, Stop>, text: &str) -> bool {
     }
 }
 
-/// A job is answered.
+/// Tries to answer a job.
 fn answered(rt: &(impl Threads + Sync), alloc: Global, job: &Job, input: &str, text: &str) -> Told
     requires within { IsWithin job.now }
     requires unthreaded { is_threaded job.now ≡ false }
@@ -76,7 +76,7 @@ pub(crate) const ALONG: &str =
     %%\n[[streams]]\nname = \"x\"\noctets = 1500\npath = [\"a\", \"b\", \"c\", \"s\"]\n\
     %%\n0 admit x\n%%\nat,bridge,stream,octets\n0,a,x,64\n";
 
-/// What is told of that.
+/// The output for that.
 pub(crate) const TOLD: &str = "0 admit x accepted 0 0\n1 seal\n1 seal\n1 seal\n1 seal\n1 seal\n%%\n\
     what,cycle,where,frame,octets,detail\n\
     start,1,a>b,1,64,125000\nstart,2,b>c,1,64,250000\nstart,3,c>s,1,64,375000\n";

@@ -1,4 +1,4 @@
-//! Whole runs of the program, over a reader and writers that have their room from the start.
+//! Complete runs of the program, over a reader and writers that have their room from the start.
 ghost use Rattle.std.specs.Prelude.{◌≡◌, IfOk, false};
 
 use crate::answers::{ALONG, TOLD};
@@ -12,7 +12,7 @@ use std::thread::Threads;
 /// The writers of a run.
 type BothWriters = (Written<Vec<u8>>, Written<Vec<u8>>);
 
-/// Writers with room for all that is told.
+/// Returns writers with room for everything that is written.
 fn writers(alloc: Global) -> Result<BothWriters, Memory>
     ensures { IfOk result (λ both. both.0.refused ≡ false) }
 {
@@ -25,12 +25,13 @@ fn has(writer: &Written<Vec<u8>>, text: &str) -> bool {
     writer.writer().as_slice() == text.as_bytes() && !writer.is_refused()
 }
 
-/// Whether a run told all.
+/// Whether a run wrote everything.
 fn is_done(status: u8, writers: &BothWriters) -> bool {
     status == 0 && has(&writers.0, TOLD) && has(&writers.1, "")
 }
 
-/// Whether a run ended for want of memory: in a bridge, or in a thread that wasn't started, only on threads.
+/// Whether a run ended for lack of memory. Only a run on threads may lack it in a bridge, or in a thread that wasn't
+/// started.
 fn is_wanting(status: u8, writers: &BothWriters, on_threads: bool) -> bool {
     if !has(&writers.0, "") {
         return false;
@@ -45,7 +46,7 @@ fn is_wanting(status: u8, writers: &BothWriters, on_threads: bool) -> bool {
     }
 }
 
-/// Whether a run of these words tells all.
+/// Whether a run of these words writes everything.
 fn is_done_again<R: Threads + Wait + Sync>(rt: &R, alloc: Global, words: &[&str]) -> bool {
     let mut input = Heard::new(alloc, ALONG.as_bytes());
     match writers(alloc) {
@@ -57,7 +58,7 @@ fn is_done_again<R: Threads + Wait + Sync>(rt: &R, alloc: Global, words: &[&str]
     }
 }
 
-/// The program is run with these words.
+/// Runs the program with these words.
 fn ran<R: Threads + Wait + Sync>(
     rt: &R,
     alloc: Global,

@@ -1,4 +1,4 @@
-//! Bytes that are read.
+//! Reading of bytes.
 ghost use Rattle.std.specs.Prelude.{⊤};
 
 use crate::program::is_wanting;
@@ -9,7 +9,7 @@ use std::alloc::Global;
 use std::io;
 use std::io::Read;
 
-/// A reader that gives so many bytes of value 1.
+/// A reader that returns a number of bytes of value 1.
 #[derive(Drop)]
 struct Ones {
     left: usize,
@@ -24,7 +24,7 @@ impl Read for Ones {
     }
 }
 
-/// It may fail for anything.
+/// It may fail with any error.
 impl Source for Ones {
     ghost fails = { λ _. ⊤ };
 
@@ -33,19 +33,19 @@ impl Source for Ones {
     }
 }
 
-/// Whether all of so many bytes were heard.
+/// Whether all of this number of bytes were read.
 fn is_heard(heard: &Heard<Ones>, read: &Result<(), Stop>, count: usize) -> bool {
     read.is_ok() && heard.bytes().len() == count && heard.bytes().iter().all(|byte| *byte == 1)
 }
 
-/// Whether a fresh reader's bytes are heard.
+/// Whether the bytes of a fresh reader are read.
 fn is_heard_again(alloc: Global, count: usize) -> bool {
     let mut input = Heard::new(alloc, Ones { left: count });
     let read = read_input(alloc, MOST_BYTES, &mut input);
     is_heard(&input, &read, count)
 }
 
-/// So many bytes are read. Where memory is wanted, some of them are kept.
+/// Tries to read this number of bytes. If memory is lacking, some of them are kept.
 fn heard(alloc: Global, count: usize) -> Told {
     let mut input = Heard::new(alloc, Ones { left: count });
     mark(alloc);

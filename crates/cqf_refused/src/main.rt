@@ -1,7 +1,9 @@
-//! Trials of all calls that may be refused for want of memory: each is made between two marks, and made again where it was refused.
+//! Trials of all calls that may be refused for lack of memory. Each call is made between two marks, and repeated if it
+//! was refused.
 //!
-//! `cqf_refused NAME` makes the trial of a name and writes what comes of it; without a name it makes all of them, a line for each. Whoever
-//! stands in front of the allocator refuses growths between the marks (bench/refused); where none is, each call is answered as it is to be.
+//! `cqf_refused NAME` makes the trial with a name and writes its result; without a name it makes all trials and writes
+//! a line for each. A program that intercepts allocations refuses those between the marks (bench/refused); without one,
+//! each call is answered as expected.
 #![tactic(auto)]
 
 mod answers;
@@ -17,7 +19,7 @@ use std::process::ExitCode;
 use std::sync::Wait;
 use std::thread::Threads;
 
-/// What comes of the trial of a name; none where there is no such trial, or what it needs couldn't be made ready.
+/// Makes the trial with a name. Returns `None` if there is no such trial, or what it needs couldn't be prepared.
 fn told_of<R: Threads + Wait + Sync>(rt: &R, alloc: Global, name: &str) -> Option<Told> {
     if let Some(told) = cqf_refused_values::told_of(alloc, name) {
         return Some(told);
@@ -28,8 +30,8 @@ fn told_of<R: Threads + Wait + Sync>(rt: &R, alloc: Global, name: &str) -> Optio
     program::told_of(rt, alloc, name)
 }
 
-/// Writes what comes of the trial of a name, and says whether there is one that came to what it is to. `threads` is for the threads of
-/// trials.
+/// Writes the result of the trial with a name, and returns whether there is such a trial and its result is the expected
+/// one. `threads` is for the threads of trials.
 fn tell<R: Threads + Wait + Sync>(rt: &HostRuntime, threads: &R, name: &str) -> bool {
     let told = told_of(threads, rt.alloc(), name);
     let is_written = match told {
@@ -39,7 +41,7 @@ fn tell<R: Threads + Wait + Sync>(rt: &HostRuntime, threads: &R, name: &str) -> 
     is_written && matches!(told, Some(Told::Row | Told::Memory))
 }
 
-/// Writes what comes of all of these trials.
+/// Writes the results of all of these trials.
 fn tell_all<R: Threads + Wait + Sync>(rt: &HostRuntime, threads: &R, names: &[&str]) -> bool {
     let mut is_well = true;
     for name in names {
@@ -51,7 +53,7 @@ fn tell_all<R: Threads + Wait + Sync>(rt: &HostRuntime, threads: &R, names: &[&s
 /// The most bytes of a name.
 const LONGEST: usize = 64;
 
-/// Does what the word behind the program's name says, or all where there is none.
+/// Makes the trial with the name after the program's name, or all trials if there is none.
 fn run<R: Threads + Wait + Sync>(rt: &HostRuntime, threads: &R) -> bool {
     let mut buffer = [0u8; LONGEST];
     let Ok(count) = rt.arg(1, &mut buffer) else {

@@ -1,12 +1,13 @@
-//! Trials of the program's own calls, over readers and writers in memory: each call is made between two marks, and made again where it was
-//! refused for want of memory. A reader that was read from is gone, so that a fresh one of the same bytes is read then.
+//! Trials of the program's own calls, over readers and writers in memory. Each call is made between two marks, and
+//! repeated if it was refused for lack of memory. A reader that was read can't be reused, so the repetition reads a
+//! fresh one with the same bytes.
 use cqf_press::{NO_MEMORY, Stop};
 use cqf_refused_values::{Told, names_of, told_by};
 use std::alloc::Global;
 use std::sync::Wait;
 use std::thread::Threads;
 
-/// Whether what was to be given ended for want of memory.
+/// Whether a result is a stop for lack of memory.
 pub(crate) fn is_wanting<T>(given: &Result<T, Stop>) -> bool {
     match given {
         Ok(_) => false,
@@ -39,7 +40,7 @@ macro_rules! trials {
 /// The names of the trials.
 pub const NAMES: &[&str] = trials!(names_of, name, rt, alloc);
 
-/// What comes of the trial of a name; none where there is no such trial here, or what it needs couldn't be made ready.
+/// Makes the trial with a name. Returns `None` if there is no such trial here, or what it needs couldn't be prepared.
 pub fn told_of<R: Threads + Wait + Sync>(rt: &R, alloc: Global, name: &str) -> Option<Told> {
     trials!(told_by, name, rt, alloc)
 }

@@ -1,18 +1,18 @@
-//! Words that are read.
+//! Reading of words.
 use crate::program::is_wanting;
 use cqf_press::{DONE, Stop, USAGE};
 use cqf_program_words::{Job, read_words};
 use cqf_refused_values::{Told, mark, once, twice};
 use std::alloc::Global;
 
-/// What is to come of words: a job, or an end with this status whose text has this in it.
+/// The expected result for words: a job, or a stop with this status whose text contains this part.
 #[derive(Clone, Copy)]
 enum Wanted<'w> {
     Job(&'w Job),
     End(u8, &'static str),
 }
 
-/// Whether a text has another one in it.
+/// Whether a text contains another one.
 fn has(text: &[u8], part: &str) -> bool {
     match std::str::from_utf8(text) {
         Ok(text) => text.contains(part),
@@ -20,7 +20,7 @@ fn has(text: &[u8], part: &str) -> bool {
     }
 }
 
-/// Whether it comes.
+/// Whether the result is the expected one.
 fn is_wanted(read: &Result<Job, Stop>, wanted: Wanted<'_>) -> bool {
     match (read, wanted) {
         (Ok(job), Wanted::Job(other)) => *job == *other,
@@ -31,7 +31,7 @@ fn is_wanted(read: &Result<Job, Stop>, wanted: Wanted<'_>) -> bool {
     }
 }
 
-/// The words are read.
+/// Tries to read the words.
 fn read(alloc: Global, words: &[&str], wanted: Wanted<'_>) -> Told {
     mark(alloc);
     let first = read_words(alloc, words);

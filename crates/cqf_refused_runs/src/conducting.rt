@@ -1,4 +1,5 @@
-//! A run on threads over the line: the stream `x` is held from the beginning, and an administrator withdraws another one in vain.
+//! A run on threads over the line: the stream `x` is held from the beginning, and an administrator tries in vain to
+//! withdraw another one.
 use cqf_admission::{Call, Command, Entry};
 use cqf_model::{Book, Offer};
 use cqf_refused_values::{Told, X, domain_of, mark, once, twice, writes};
@@ -26,7 +27,7 @@ const STARTS: &[Begun] = &[
     (3, 2, 1, 64, 375_000),
 ];
 
-/// Whether a book has that, and nothing else.
+/// Whether a book has these starts, and nothing else.
 fn is_book(book: &Book) -> bool {
     are_begun(book.starts.as_slice(), STARTS) && book.background.is_empty() && book.drops.is_empty()
 }
@@ -54,7 +55,7 @@ fn is_account(alloc: Global, account: &Account) -> bool {
         && is_book(&account.book)
 }
 
-/// Whether an account was given.
+/// Whether an account was returned.
 fn is_given(alloc: Global, outcome: &Result<Account, ConductFault>) -> bool {
     match outcome {
         Ok(account) => is_account(alloc, account),
@@ -62,7 +63,8 @@ fn is_given(alloc: Global, outcome: &Result<Account, ConductFault>) -> bool {
     }
 }
 
-/// Whether a run may fail so where a growth is refused: a thread for which there is no memory isn't started.
+/// Whether a run can fail with this fault if an allocation is refused: a thread for which there is no memory isn't
+/// started.
 fn is_wanting(fault: ConductFault) -> bool {
     matches!(fault, ConductFault::Memory | ConductFault::Spawn)
 }
@@ -95,7 +97,7 @@ fn outcome<R: Threads + Wait + Sync>(
     Some(outcome)
 }
 
-/// Makes the run once more.
+/// Repeats the run.
 fn is_given_again<R: Threads + Wait + Sync>(
     rt: &R,
     alloc: Global,
@@ -124,7 +126,7 @@ fn is_given_again<R: Threads + Wait + Sync>(
     }
 }
 
-/// The run is made, and once more where it is refused.
+/// Makes the run, and repeats it if it fails.
 fn conducted<R: Threads + Wait + Sync>(
     rt: &R,
     alloc: Global,

@@ -10,7 +10,7 @@ use std::sync::Wait;
 /// A cycle book with its shares.
 type BookAndShares = (CycleBook, Vec<Share>);
 
-/// Whether a book has so many starts on link 1, each of 64 octets, and no whole cycle.
+/// Whether a book has this number of starts on link 1, each of 64 octets, and no complete cycle.
 fn has_frames<R: Wait>(rt: &R, book: &CycleBook, number: u128) -> bool {
     let totals = Totals {
         frames: number,
@@ -24,7 +24,7 @@ fn is_empty(book: &Book) -> bool {
     book.starts.is_empty() && book.background.is_empty() && book.drops.is_empty()
 }
 
-/// Whether a new cycle book with three shares was made, which closes to an empty book.
+/// Whether a new cycle book with three shares was made that closes to an empty book.
 fn is_new<R: Wait>(rt: &R, made: Result<BookAndShares, Memory>) -> bool {
     match made {
         Ok((book, shares)) => {
@@ -39,7 +39,7 @@ fn is_new<R: Wait>(rt: &R, made: Result<BookAndShares, Memory>) -> bool {
     }
 }
 
-/// Pages without a page, twice.
+/// Returns two collections of pages without a page.
 fn two_pages(alloc: Global) -> Result<(Pages, Pages), Memory> {
     let first = Pages::new(alloc, 3, 5)?;
     Ok((first, Pages::new(alloc, 3, 5)?))
@@ -58,7 +58,7 @@ pub(crate) fn new_told<R: Wait>(rt: &R, alloc: Global) -> Option<Told> {
     Some(twice(true, is_new(rt, CycleBook::new(alloc, twin))))
 }
 
-/// A new cycle book with its shares.
+/// Makes a new cycle book with its shares.
 fn made(alloc: Global) -> Result<BookAndShares, Memory> {
     CycleBook::new(alloc, Pages::new(alloc, 3, 5)?)
 }
@@ -72,7 +72,7 @@ fn has_posted(share: &Share, is_there: bool) -> bool {
     }
 }
 
-/// The page that came back is posted again.
+/// Posts again the page that was returned.
 fn posted_again<R: Wait>(rt: &R, book: &CycleBook, share: &mut Share, page: Page) -> Told {
     let stands = is_page(&page, 1) && has_frames(rt, book, 0) && has_posted(share, false);
     let is_ok = book.post(rt, share, page).is_ok();
@@ -82,7 +82,7 @@ fn posted_again<R: Wait>(rt: &R, book: &CycleBook, share: &mut Share, page: Page
     )
 }
 
-/// A page is posted by its bridge's share.
+/// Tries to post a page by its bridge's share.
 fn posted<R: Wait>(rt: &R, alloc: Global, book: &CycleBook, share: &mut Share, page: Page) -> Told {
     mark(alloc);
     let first = book.post(rt, share, page);
@@ -94,7 +94,7 @@ fn posted<R: Wait>(rt: &R, alloc: Global, book: &CycleBook, share: &mut Share, p
     }
 }
 
-/// It is, by the second of some shares.
+/// Tries the same by the second of the shares.
 fn posted_by_second<R: Wait>(
     rt: &R,
     alloc: Global,
@@ -110,7 +110,7 @@ pub(crate) fn post_told<R: Wait>(rt: &R, alloc: Global) -> Option<Told> {
     posted_by_second(rt, alloc, &book, shares.as_mut_slice())
 }
 
-/// Whether a page came back as one that was posted already.
+/// Whether a page was returned as one that was already posted.
 fn is_double(answer: &Result<(), (PageFault, Page)>) -> bool {
     match answer {
         Err((PageFault::DoublePage, page)) => is_page(page, 1),
@@ -118,7 +118,7 @@ fn is_double(answer: &Result<(), (PageFault, Page)>) -> bool {
     }
 }
 
-/// A page is posted that the book has.
+/// Tries to post a page that the book has.
 fn posted_twice<R: Wait>(
     rt: &R,
     alloc: Global,
@@ -137,13 +137,13 @@ fn posted_twice<R: Wait>(
     Some(once(is_double(&first) && has_frames(rt, book, 1) && has_posted(share, true)))
 }
 
-/// The page of the second bridge, twice.
+/// Returns the page of the second bridge, twice.
 fn two_of_second(alloc: Global) -> Result<(Page, Page), Memory> {
     let page = page_of(alloc, 1)?;
     Ok((page, page_of(alloc, 1)?))
 }
 
-/// It is, by the second of some shares.
+/// Tries the same by the second of the shares.
 fn posted_twice_by_second<R: Wait>(
     rt: &R,
     alloc: Global,
@@ -159,7 +159,7 @@ pub(crate) fn twice_told<R: Wait>(rt: &R, alloc: Global) -> Option<Told> {
     posted_twice_by_second(rt, alloc, &book, shares.as_mut_slice())
 }
 
-/// Whether the share of a bridge takes its page.
+/// Whether the share of a bridge accepts its page.
 fn takes<R: Wait>(rt: &R, alloc: Global, book: &CycleBook, share: &mut Share, bridge: u16) -> bool {
     match page_of(alloc, bridge) {
         Ok(page) => book.post(rt, share, page).is_ok(),
@@ -167,7 +167,7 @@ fn takes<R: Wait>(rt: &R, alloc: Global, book: &CycleBook, share: &mut Share, br
     }
 }
 
-/// Whether the shares of the last two bridges take their pages.
+/// Whether the shares of the last two bridges accept their pages.
 fn two_take<R: Wait>(rt: &R, alloc: Global, book: &CycleBook, shares: &mut [Share]) -> bool {
     match shares {
         [_, one, two] => takes(rt, alloc, book, two, 2) && takes(rt, alloc, book, one, 1),
@@ -175,7 +175,7 @@ fn two_take<R: Wait>(rt: &R, alloc: Global, book: &CycleBook, shares: &mut [Shar
     }
 }
 
-/// A cycle book with the pages of cycle 0 of two bridges.
+/// Returns a cycle book with the pages of cycle 0 of two bridges.
 fn filled<R: Wait>(rt: &R, alloc: Global) -> Option<BookAndShares> {
     let Ok((book, mut shares)) = made(alloc) else {
         return None;
@@ -187,7 +187,7 @@ fn filled<R: Wait>(rt: &R, alloc: Global) -> Option<BookAndShares> {
     }
 }
 
-/// Whether a book was closed with what stands on these two pages.
+/// Whether a book was closed with the contents of these two pages.
 fn is_closed(closed: &Result<Book, BookClose>) -> bool {
     match closed {
         Ok(book) => {
@@ -199,7 +199,7 @@ fn is_closed(closed: &Result<Book, BookClose>) -> bool {
     }
 }
 
-/// A book is closed, or else its twin.
+/// Tries to close a book; if that fails, closes its twin.
 fn closed(alloc: Global, made: BookAndShares, twin: BookAndShares) -> Told {
     let (book, shares) = made;
     let (other, others) = twin;

@@ -13,12 +13,12 @@ use std::sync::Wait;
 /// A desk with its seats.
 pub(crate) type DeskAndSeats = (Desk, Vec<Seat>);
 
-/// A desk with two seats over the line, at which streams are held.
+/// Returns a desk with two seats over the line, with these streams held.
 pub(crate) fn desk_with(alloc: Global, streams: &[Asked]) -> Option<DeskAndSeats> {
     Desk::new(alloc, line_with(alloc, streams)?, 2).ok()
 }
 
-/// Whether a history is this text, of which so many calls stood before.
+/// Whether a history is this text, with this number of calls before the desk was opened.
 pub(crate) fn is_history(
     alloc: Global,
     closed: &Result<History, CloseFault>,
@@ -33,7 +33,7 @@ pub(crate) fn is_history(
     }
 }
 
-/// Whether a desk with two seats was made, which closes to this.
+/// Whether a desk with two seats was made that closes to this history.
 fn is_new(alloc: Global, made: Result<DeskAndSeats, Memory>) -> bool {
     match made {
         Ok((desk, seats)) => {
@@ -44,7 +44,7 @@ fn is_new(alloc: Global, made: Result<DeskAndSeats, Memory>) -> bool {
     }
 }
 
-/// A desk is made over an admission, or else over its twin.
+/// Tries to make a desk over an admission; if that fails, makes it over its twin.
 fn made(alloc: Global, admission: Admission, twin: Admission) -> Told {
     mark(alloc);
     let first = Desk::new(alloc, admission, 2);
@@ -63,7 +63,7 @@ pub(crate) fn new_told(alloc: Global) -> Option<Told> {
     Some(made(alloc, admission, twin))
 }
 
-/// A stream for which there is room beside seven.
+/// A stream for which there is room in addition to seven.
 const Y: Asked = ("y", 980, PATH);
 
 /// The history of all eight.
@@ -71,8 +71,8 @@ const OF_EIGHT: &str = "0 admit n0 accepted 0 0\n0 admit n1 accepted 1 0\n0 admi
     0 admit n3 accepted 3 0\n0 admit n4 accepted 4 0\n0 admit n5 accepted 5 0\n\
     0 admit n6 accepted 6 0\n0 admit y accepted 7 0\n";
 
-/// What is told of a call, where the desk is closed with its seats behind it: it closes with this history, of which so many calls stood
-/// before, so a call that was refused for want of memory has left nothing.
+/// Closes the desk with its seats after a call, and returns the result of the call if the history is this one, with
+/// this number of calls before the desk was opened. Then a call that was refused for lack of memory has left nothing.
 pub(crate) fn closed_with(
     alloc: Global,
     made: DeskAndSeats,
@@ -89,7 +89,7 @@ pub(crate) fn closed_with(
     }
 }
 
-/// A stream is asked for by a seat.
+/// Tries to admit a stream by a seat.
 fn admitted<R: Wait>(
     rt: &R,
     alloc: Global,
@@ -113,7 +113,7 @@ pub(crate) fn admit_told<R: Wait>(rt: &R, alloc: Global) -> Option<Told> {
     Some(closed_with(alloc, (desk, seats), told, 7, OF_EIGHT))
 }
 
-/// A stream is withdrawn by a seat.
+/// Tries to withdraw a stream by a seat.
 fn withdrawn<R: Wait>(rt: &R, alloc: Global, desk: &Desk, seat: &mut Seat) -> Told {
     trial!(
         alloc,

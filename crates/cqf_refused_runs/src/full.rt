@@ -1,4 +1,4 @@
-//! Desks whose history holds no more: what is refused for that comes before want of memory.
+//! Desks whose history has no more room. A refusal for that reason comes before one for lack of memory.
 use cqf_admission::{Admission, Refused, SealFault};
 use cqf_desk::{Desk, Seat};
 use cqf_refused_values::{MOST_ENTRIES, Told, domain_of, fills, looked_at};
@@ -6,12 +6,12 @@ use cqf_test_fixtures::{admission_of, one_link};
 use std::alloc::Global;
 use std::sync::Wait;
 
-/// An admission over one link.
+/// Returns an admission over one link.
 fn new_admission(alloc: Global) -> Option<Admission> {
     admission_of(alloc, &domain_of(alloc, one_link())?, &[])
 }
 
-/// Whether so many cycles are closed.
+/// Whether this number of cycles can be closed.
 fn spends(admission: &mut Admission) -> bool {
     for _cycle in 0..MOST_ENTRIES {
         if admission.seal(0).is_err() {
@@ -21,7 +21,7 @@ fn spends(admission: &mut Admission) -> bool {
     true
 }
 
-/// A call more at a desk.
+/// Makes one call more at a desk.
 fn called<R: Wait>(rt: &R, alloc: Global, desk: &Desk, seats: &mut [Seat]) -> Option<Told> {
     let seat = seats.first_mut()?;
     Some(looked_at!(
@@ -39,7 +39,7 @@ pub(crate) fn full_told<R: Wait>(rt: &R, alloc: Global) -> Option<Told> {
     called(rt, alloc, &desk, seats.as_mut_slice())
 }
 
-/// A Seal more at a desk.
+/// Makes one Seal more at a desk.
 fn sealed<R: Wait>(rt: &R, alloc: Global, desk: &Desk, seats: &mut [Seat]) -> Option<Told> {
     let seat = seats.first_mut()?;
     Some(looked_at!(

@@ -1,8 +1,8 @@
-//! Trials of runs on one thread and of what is written of them, of what threads share, of worlds, of workers with their pipes, and of runs on
-//! threads. Only the program that makes them uses this crate.
+//! Trials of runs on one thread and their texts, of what threads share, of worlds, of workers with their pipes, and of
+//! runs on threads. Only the program that makes them uses this crate.
 //!
-//! A call is made between two marks, and made again where it was refused for want of memory. What is to come stands beside each, worked out by
-//! hand. [`told_of`] makes the trial of a name, and [`NAMES`] are all of them.
+//! A call is made between two marks, and repeated if it was refused for lack of memory. The expected result is given
+//! with each, worked out by hand. [`told_of`] makes the trial with a name, and [`NAMES`] are the names of all of them.
 #![tactic(auto)]
 
 mod conducting;

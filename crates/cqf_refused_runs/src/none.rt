@@ -1,4 +1,4 @@
-//! What is read of pages and books, which asks for no memory.
+//! Observations of pages and books, which allocate no memory.
 use crate::pages::{is_page, page_of};
 use cqf_book::{CycleBook, Pages, Share, Totals};
 use cqf_refused_values::{Told, looked_at};
@@ -12,7 +12,7 @@ const ONE: Totals = Totals {
     octets: 64,
 };
 
-/// Whether pages have that of the second bridge alone.
+/// Whether pages have only that of the second bridge.
 fn is_seen(pages: &Pages) -> bool {
     let is_there = match pages.page(1, Cycle(0)) {
         Some(page) => is_page(page, 1),
@@ -24,7 +24,7 @@ fn is_seen(pages: &Pages) -> bool {
         && pages.totals(1) == ONE
 }
 
-/// They are looked at.
+/// Observes pages.
 fn pages_seen(alloc: Global, pages: &Pages) -> Told {
     looked_at!(alloc, is_seen(pages))
 }
@@ -37,7 +37,7 @@ pub(crate) fn pages_told(alloc: Global) -> Option<Told> {
     Some(pages_seen(alloc, &pages))
 }
 
-/// A page is posted by the second share, and then the book is looked at.
+/// Posts a page by the second share, and then observes the book.
 fn book_seen<R: Wait>(
     rt: &R,
     alloc: Global,

@@ -5,7 +5,7 @@ use cqf_refused_values::{Told, mark, once, trial, twice};
 use cqf_units::{Cycle, Memory, Nanos};
 use std::alloc::Global;
 
-/// A start of 64 octets in cycle 0 on a link.
+/// Returns a start of 64 octets in cycle 0 on a link.
 pub(crate) fn start_on(link: u16) -> Started {
     Started {
         cycle: Cycle(0),
@@ -16,7 +16,7 @@ pub(crate) fn start_on(link: u16) -> Started {
     }
 }
 
-/// A drop of cycle 0 at the bridge.
+/// Returns a drop of cycle 0 at the bridge.
 pub(crate) fn drop_at(bridge: u16) -> Dropped {
     Dropped {
         cycle: Cycle(0),
@@ -27,7 +27,7 @@ pub(crate) fn drop_at(bridge: u16) -> Dropped {
     }
 }
 
-/// A page of cycle 0 with a start on link 1, a background start on link 2, and a drop.
+/// Returns a page of cycle 0 with a start on link 1, a background start on link 2, and a drop.
 pub(crate) fn page_of(alloc: Global, bridge: u16) -> Result<Page, Memory> {
     Ok(Page {
         bridge,
@@ -47,7 +47,8 @@ pub(crate) fn is_page(page: &Page, bridge: u16) -> bool {
         && page.drops.as_slice() == [drop_at(bridge)].as_slice()
 }
 
-/// Whether no page of the first bridges' first cycle was posted but the second bridge's, where that is to be there.
+/// Whether, for the first bridges' first cycle, only the second bridge's page was posted, or none if `is_there` is
+/// false.
 fn has_posted(pages: &Pages, is_there: bool) -> bool {
     let second = match pages.page(1, Cycle(0)) {
         Some(page) => is_there && is_page(page, 1),
@@ -71,7 +72,7 @@ fn has_posted(pages: &Pages, is_there: bool) -> bool {
         && pages.totals(1) == totals
 }
 
-/// Whether pages were made, of which none was posted.
+/// Whether pages were made, and none is posted.
 fn are_new(made: &Result<Pages, Memory>) -> bool {
     match made {
         Ok(pages) => has_posted(pages, false),
@@ -89,14 +90,14 @@ pub(crate) fn new_told(alloc: Global) -> Option<Told> {
     ))
 }
 
-/// The page that came back is posted again.
+/// Posts again the page that was returned.
 fn posted_again(pages: &mut Pages, page: Page) -> Told {
     let stands = is_page(&page, 1) && has_posted(pages, false);
     let is_ok = pages.post(page).is_ok();
     twice(stands, is_ok && has_posted(pages, true))
 }
 
-/// A page is posted.
+/// Tries to post a page.
 fn posted(alloc: Global, pages: &mut Pages, page: Page) -> Told {
     mark(alloc);
     let first = pages.post(page);

@@ -6,7 +6,7 @@ use cqf_worker_loops::{PipeIn, PipeOut, pipe};
 use std::alloc::Global;
 use std::sync::Wait;
 
-/// Whether the items 1, 2 and 3 go in.
+/// Whether the items 1, 2 and 3 are accepted.
 fn puts_three<R: Wait>(rt: &R, into: &mut PipeIn<u32>) -> bool
     requires { length into.old.items ≡ 0 }
     ensures { into.new.pipe ≡ into.old.pipe }
@@ -21,7 +21,7 @@ fn takes_two<R: Wait>(rt: &R, out: &mut PipeOut<u32>) -> bool
     out.take(rt) == Some(1) && out.take(rt) == Some(2)
 }
 
-/// Whether three items go in, and two come out in that order, and one is left.
+/// Whether three items are accepted, two are returned in order, and one is left.
 fn is_used<R: Wait>(rt: &R, mut into: PipeIn<u32>, mut out: PipeOut<u32>) -> bool
     requires new { length into.items ≡ 0 }
     requires pair { into.pipe ≡ out.pipe }
@@ -32,7 +32,7 @@ fn is_used<R: Wait>(rt: &R, mut into: PipeIn<u32>, mut out: PipeOut<u32>) -> boo
     put && taken && left == 1
 }
 
-/// Whether a pipe is made, and used so.
+/// Whether a pipe can be made and used in this way.
 fn is_made<R: Wait>(rt: &R, alloc: Global) -> bool {
     match pipe::<u32>(alloc) {
         Ok((into, out)) => is_used(rt, into, out),

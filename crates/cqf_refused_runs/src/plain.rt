@@ -14,7 +14,7 @@ use cqf_test_fixtures::{
 use cqf_units::{Cycle, Nanos};
 use std::alloc::Global;
 
-/// What a run is made of.
+/// The input of a run.
 #[derive(Drop)]
 pub(crate) struct Given {
     pub(crate) plan: Plan,
@@ -23,7 +23,7 @@ pub(crate) struct Given {
     pub(crate) background: Vec<Background>,
 }
 
-/// What a run of a domain's text is made of, with so many cycles.
+/// Returns the input of a run of a domain's text with `cycles` cycles.
 pub(crate) fn make_given(
     alloc: Global,
     text: &str,
@@ -45,7 +45,7 @@ pub(crate) fn make_given(
     }
 }
 
-/// Whether a run may be made of it.
+/// Whether a run may be made with it.
 pub(crate) fn may_run(given: &Given) -> bool
     ensures offers { result ≡ true → AreOffers given.now.plan given.now.offers.items }
     ensures few_offers { result ≡ true → length given.now.offers.items ≤ 1000000 }
@@ -59,7 +59,7 @@ pub(crate) fn may_run(given: &Given) -> bool
     are_offers(given.plan.domain(), offers) && are_background(given.plan.domain(), background)
 }
 
-/// Makes a run over five cycles, where it may be made.
+/// Makes a run over five cycles, if it may be made.
 fn run_of(alloc: Global, given: &Given) -> Result<Book, RunFault> {
     if !may_run(given) {
         return Err(RunFault::WrongTables);
@@ -74,7 +74,7 @@ fn run_of(alloc: Global, given: &Given) -> Result<Book, RunFault> {
     )
 }
 
-/// A frame goes along the line, another one is dropped, and a background frame goes alone.
+/// Whether a frame goes along the line, another one is dropped, and a background frame goes on its own.
 fn is_book(made: &Result<Book, RunFault>) -> bool {
     let starts = [
         (1, 0, 1, 64, 125_000),
@@ -106,7 +106,7 @@ fn is_made(made: &Result<Book, RunFault>, which: Which) -> bool {
     }
 }
 
-/// Makes a run, and again where it is refused for want of memory.
+/// Makes a run, and repeats it if it is refused for lack of memory.
 fn ran(alloc: Global, given: &Given, which: Which) -> Told {
     trial!(
         alloc,
@@ -120,7 +120,7 @@ fn ran(alloc: Global, given: &Given, which: Which) -> Told {
 /// What is offered along the line.
 const OFFERS: &[Offering] = &[(0, 0, "x", 64), (0, 1, "x", 64)];
 
-/// What the run along the line is made of.
+/// Returns the input of the run along the line.
 pub(crate) fn along(alloc: Global) -> Option<Given> {
     make_given(alloc, line(), &[X], 5, OFFERS, &[(0, 1, 0, 1522)])
 }
@@ -130,10 +130,11 @@ pub(crate) fn run_told(alloc: Global) -> Option<Told> {
     Some(ran(alloc, &given, Which::Along))
 }
 
-/// How many frames go along the line, more than are sorted without memory.
+/// The number of frames that go along the line, more than are sorted without an allocation.
 const MANY: usize = 22;
 
-/// Whether the starts of one link in one cycle are those of all of them, one behind the other: 84 octets of the wire take 672 ns.
+/// Whether the starts on one link in one cycle are those of all frames, one after the other: 84 octets on the wire take
+/// 672 ns.
 fn are_all(starts: &[Started], hop: u32) -> bool {
     let mut instant = u64::from(hop) * 125_000 + 125_000;
     let mut frame = 1u32;
@@ -158,7 +159,7 @@ fn go_along(starts: &[Started]) -> bool {
     are_all(first, 0) && are_all(second, 1) && are_all(third, 2)
 }
 
-/// Whether the book says so.
+/// Whether the book has them.
 fn is_of_many(made: &Result<Book, RunFault>) -> bool {
     match made {
         Ok(book) => go_along(book.starts.as_slice()) && book.drops.is_empty(),
@@ -166,7 +167,7 @@ fn is_of_many(made: &Result<Book, RunFault>) -> bool {
     }
 }
 
-/// What is offered of them.
+/// Their offers.
 const OF_MANY: &[Offering] = &[(0, 0, "x", 64); MANY];
 
 pub(crate) fn many_told(alloc: Global) -> Option<Told> {

@@ -1,6 +1,6 @@
-//! Trials of runs on one thread and of what is written of them, of what threads share, of worlds, of workers with their pipes, and of runs on
-//! threads: each call is made between two marks, and made again where it was refused for want of memory. What is to come stands beside
-//! each, worked out by hand.
+//! Trials of runs on one thread and their texts, of what threads share, of worlds, of workers with their pipes, and of
+//! runs on threads. Each call is made between two marks, and repeated if it was refused for lack of memory. The
+//! expected result is given with each, worked out by hand.
 use cqf_refused_values::{Told, names_of, told_by};
 use std::alloc::Global;
 use std::sync::Wait;
@@ -58,7 +58,7 @@ macro_rules! trials {
 /// The names of the trials.
 pub const NAMES: &[&str] = trials!(names_of, name, rt, alloc);
 
-/// What comes of the trial of a name; none where this crate has no such trial, or what it needs couldn't be made ready.
+/// Makes the trial with a name. Returns `None` if this crate has no such trial, or what it needs couldn't be prepared.
 pub fn told_of<R: Threads + Wait + Sync>(rt: &R, alloc: Global, name: &str) -> Option<Told> {
     trials!(told_by, name, rt, alloc)
 }

@@ -1,4 +1,4 @@
-//! Seals at a desk with two seats, of which the second seals, and the desk that is closed.
+//! Seals at a desk with two seats, made by the second, and closing the desk.
 use crate::desks::{DeskAndSeats, closed_with, desk_with, is_history};
 use cqf_admission::{SealFault, Table};
 use cqf_desk::{CloseFault, Desk, Seat};
@@ -7,10 +7,10 @@ use cqf_units::Cycle;
 use std::alloc::Global;
 use std::sync::Wait;
 
-/// How a seat stands: the cycle of its newest table and how many rows that has, where it has one.
+/// The state of a seat: the cycle of its newest table and the number of its rows, if it has one.
 type Standing = Option<(u32, usize)>;
 
-/// Whether a table is of the cycle, and has so many rows, of which the first is of `x`.
+/// Whether a table is of the cycle, and has this number of rows, the first being that of `x`.
 fn is_table(table: &Table, cycle: u32, rows: usize) -> bool {
     let is_x = match table.row_of(0) {
         Some(row) => row.name.as_str() == "x" && row.octets == 1500,
@@ -19,7 +19,7 @@ fn is_table(table: &Table, cycle: u32, rows: usize) -> bool {
     is_x && table.cycle() == Cycle(cycle) && table.rows().len() == rows
 }
 
-/// Whether a seat stands so.
+/// Whether a seat is in this state.
 fn stands(seat: &Seat, standing: Standing) -> bool {
     match (seat.last_table(), standing) {
         (None, None) => true,
@@ -28,10 +28,10 @@ fn stands(seat: &Seat, standing: Standing) -> bool {
     }
 }
 
-/// How a seat stands before and behind a Seal.
+/// The states of a seat before and after a Seal.
 type Sealing = (Standing, Standing);
 
-/// A cycle is closed, and again where memory is wanted. What is told of it leaves the history out.
+/// Closes a cycle, and repeats that if memory was lacking. The history isn't checked here.
 fn sealed<R: Wait>(rt: &R, alloc: Global, desk: &Desk, seat: &mut Seat, sealing: Sealing) -> Told {
     let (before, behind) = sealing;
     trial!(
@@ -51,7 +51,8 @@ pub(crate) fn seal_told<R: Wait>(rt: &R, alloc: Global) -> Option<Told> {
     Some(closed_with(alloc, (desk, seats), told, 1, text))
 }
 
-/// Whether the second seat seals a cycle, the first one withdraws `x`, and the second one seals another cycle.
+/// Whether the second seat can seal a cycle, the first one withdraw `x`, and the second one seal another cycle, and then
+/// another withdrawal of `x` is refused.
 fn goes_on<R: Wait>(rt: &R, desk: &Desk, seats: &mut [Seat]) -> bool {
     match seats {
         [asking, sealing] => {
@@ -64,7 +65,7 @@ fn goes_on<R: Wait>(rt: &R, desk: &Desk, seats: &mut [Seat]) -> bool {
     }
 }
 
-/// A desk at which they did.
+/// Returns a desk at which they did.
 fn worked<R: Wait>(rt: &R, alloc: Global) -> Option<DeskAndSeats> {
     let (desk, mut seats) = desk_with(alloc, &[X])?;
     if goes_on(rt, &desk, seats.as_mut_slice()) {
@@ -74,7 +75,7 @@ fn worked<R: Wait>(rt: &R, alloc: Global) -> Option<DeskAndSeats> {
     }
 }
 
-/// The history of that, and of a Seal more.
+/// The history after that; `LATER` has one Seal more.
 const WORKED: &str = "0 admit x accepted 0 0\n1 seal\n0 withdraw x accepted 0 1\n1 seal\n\
     0 withdraw x refused AlreadyWithdrawn\n";
 
@@ -88,7 +89,7 @@ pub(crate) fn later_told<R: Wait>(rt: &R, alloc: Global) -> Option<Told> {
     Some(closed_with(alloc, (desk, seats), told, 1, LATER))
 }
 
-/// A desk whose second seat followed the history is closed, which asks for no memory.
+/// Closes a desk whose second seat followed the history, which allocates no memory.
 pub(crate) fn followed_told<R: Wait>(rt: &R, alloc: Global) -> Option<Told> {
     let (desk, seats) = worked(rt, alloc)?;
     mark(alloc);
@@ -97,7 +98,7 @@ pub(crate) fn followed_told<R: Wait>(rt: &R, alloc: Global) -> Option<Told> {
     Some(once(is_history(alloc, &closed, 1, WORKED)))
 }
 
-/// Whether the first seat asks in vain for a withdrawal, and the second one seals a cycle.
+/// Whether the first seat requests a withdrawal in vain, and the second one seals a cycle.
 fn refused_and_sealed<R: Wait>(rt: &R, desk: &Desk, seats: &mut [Seat]) -> bool {
     match seats {
         [asking, sealing] => {
@@ -107,7 +108,7 @@ fn refused_and_sealed<R: Wait>(rt: &R, desk: &Desk, seats: &mut [Seat]) -> bool 
     }
 }
 
-/// The second seat of a desk, with which a cycle was sealed and nothing else was done.
+/// Returns the second seat of a desk at which only a cycle was sealed.
 fn sealed_alone<R: Wait>(rt: &R, alloc: Global) -> Option<Seat> {
     let (desk, mut seats) = desk_with(alloc, &[X])?;
     let mut seat = seats.pop()?;
@@ -118,8 +119,8 @@ fn sealed_alone<R: Wait>(rt: &R, alloc: Global) -> Option<Seat> {
     }
 }
 
-/// A desk, with such a seat of another one in place of its own second. That followed another history, so its table, which is the same, is
-/// compared as the desk is closed.
+/// Returns a desk with such a seat of another desk in place of its own second one. That seat followed another history,
+/// so its table, which is the same, is compared when the desk is closed.
 fn with_strange_seat<R: Wait>(rt: &R, alloc: Global) -> Option<DeskAndSeats> {
     let (desk, mut seats) = desk_with(alloc, &[X])?;
     if !refused_and_sealed(rt, &desk, seats.as_mut_slice()) {
@@ -133,10 +134,10 @@ fn with_strange_seat<R: Wait>(rt: &R, alloc: Global) -> Option<DeskAndSeats> {
     }
 }
 
-/// The history of that.
+/// The history after that.
 const IN_VAIN: &str = "0 admit x accepted 0 0\n0 withdraw y refused NotHeld\n1 seal\n";
 
-/// A desk is closed, or else its twin.
+/// Tries to close a desk; if that fails, closes its twin.
 fn closed(alloc: Global, made: DeskAndSeats, twin: DeskAndSeats) -> Told {
     let (desk, seats) = made;
     let (other, others) = twin;
@@ -169,7 +170,7 @@ fn has_table(seat: &Seat) -> bool {
     }
 }
 
-/// A seat seals, and then it is looked at, which asks for no memory.
+/// Seals by a seat, and then observes it, which allocates no memory.
 fn seat_seen<R: Wait>(rt: &R, alloc: Global, desk: &Desk, seats: &mut [Seat]) -> Option<Told> {
     let seat = seats.get_mut(1)?;
     if desk.seal(rt, seat).is_err() {

@@ -1,4 +1,4 @@
-//! What bridges do cycle by cycle, and workers with the pipes between them.
+//! Agendas of bridges, and workers with the pipes between them.
 ghost use Rattle.std.specs.Prelude.{◌≡◌, IfSome, map};
 ghost use Rattle.cqf_worker.specs.Wires.{AreWired, Wiring, pipe_of_tables, tables_pipe};
 
@@ -12,7 +12,7 @@ use cqf_units::{Cycle, Memory};
 use cqf_worker::{ClosingFault, Laid, close_pipes, lay};
 use std::alloc::Global;
 
-/// Whether an agenda of the first bridge has its one offer of cycle 1, the second of all.
+/// Whether an agenda of the first bridge has its one offer of cycle 1, the second of all offers.
 fn is_agenda(made: &Result<Agenda, Memory>) -> bool {
     match made {
         Ok(agenda) => match agenda.offers(Cycle(1)) {
@@ -27,7 +27,7 @@ fn is_agenda(made: &Result<Agenda, Memory>) -> bool {
     }
 }
 
-/// The first bridge's agenda is made.
+/// Tries to make the first bridge's agenda.
 fn agenda_made(alloc: Global, domain: &Domain, offers: &[Offer]) -> Option<Told> {
     if offers.len() > 1_000_000 {
         return None;
@@ -47,7 +47,7 @@ pub(crate) fn agenda_told(alloc: Global) -> Option<Told> {
     agenda_made(alloc, &domain, offers.as_slice())
 }
 
-/// Whether three workers were laid.
+/// Whether three workers were made.
 fn is_laid(laid: &Result<Laid, Memory>) -> bool {
     match laid {
         Ok(made) => made.workers.len() == 3 && made.tables.len() == 3,
@@ -55,7 +55,7 @@ fn is_laid(laid: &Result<Laid, Memory>) -> bool {
     }
 }
 
-/// Workers are laid, or else laid again.
+/// Tries to make workers, and repeats that if it fails.
 fn laid(alloc: Global, domain: &Domain, offers: &[Offer]) -> Option<Told> {
     if offers.len() > 1_000_000 || !are_offers(domain, offers) {
         return None;
@@ -75,7 +75,7 @@ pub(crate) fn lay_told(alloc: Global) -> Option<Told> {
     laid(alloc, &domain, offers.as_slice())
 }
 
-/// Workers without offers.
+/// Returns workers without offers.
 fn workers_of(alloc: Global, domain: &Domain) -> Option<Laid>
     ensures wired { IfSome result (λ laid. (wiring : Wiring) × AreWired wiring laid.workers.items) }
     ensures tables { IfSome result (λ laid. map pipe_of_tables laid.tables.items ≡ map tables_pipe laid.workers.items) }
@@ -86,7 +86,7 @@ fn workers_of(alloc: Global, domain: &Domain) -> Option<Laid>
     }
 }
 
-/// Whether three reels came back.
+/// Whether three reels were returned.
 fn is_shut(closed: &Result<Vec<Reel>, ClosingFault>) -> bool {
     match closed {
         Ok(reels) => reels.len() == 3 && reels.iter().all(|reel| reel.drops.is_empty()),
@@ -94,7 +94,7 @@ fn is_shut(closed: &Result<Vec<Reel>, ClosingFault>) -> bool {
     }
 }
 
-/// The pipes of workers are closed, or else those of their twins.
+/// Tries to close the pipes of workers; if that fails, closes those of their twins.
 fn shut(alloc: Global, laid: Laid, twin: Laid) -> Told
     requires wired { (wiring : Wiring) × AreWired wiring laid.workers.items }
     requires tables { map pipe_of_tables laid.tables.items ≡ map tables_pipe laid.workers.items }
@@ -121,7 +121,7 @@ fn shut(alloc: Global, laid: Laid, twin: Laid) -> Told
     )
 }
 
-/// They are, of a domain.
+/// Tries the same for a domain.
 fn shut_of(alloc: Global, domain: &Domain) -> Option<Told> {
     let laid = workers_of(alloc, domain)?;
     let twin = workers_of(alloc, domain)?;

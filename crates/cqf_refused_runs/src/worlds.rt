@@ -1,4 +1,4 @@
-//! Worlds of the line, in which a frame goes along.
+//! Worlds of the line, along which a frame goes.
 ghost use Rattle.std.specs.Prelude.{◌≤◌, length};
 ghost use Rattle.cqf_model.specs.Run.{AreOffers};
 
@@ -12,7 +12,8 @@ use cqf_units::{Cycle, Memory};
 use cqf_world::{Applied, Event, World};
 use std::alloc::Global;
 
-/// An event: the stream `x` is asked for or withdrawn by seat 0, or a cycle is closed by seat 1; or what happens to a bridge or a link.
+/// An event: seat 0 requests or withdraws the stream `x`, seat 1 closes a cycle, or something happens to a bridge or a
+/// link.
 #[derive(Clone, Copy)]
 enum Act {
     Admit,
@@ -24,7 +25,7 @@ enum Act {
     Post(u16),
 }
 
-/// The event itself.
+/// Returns the event.
 fn event_of(alloc: Global, act: Act) -> Result<Event, Memory> {
     match act {
         Act::Admit => Ok(Event::Call(0, Command::Admit(request(alloc, &X)?))),
@@ -37,7 +38,7 @@ fn event_of(alloc: Global, act: Act) -> Result<Event, Memory> {
     }
 }
 
-/// Whether an event comes to this.
+/// Whether an event has this result.
 fn comes_to(alloc: Global, world: &mut World, act: Act, wanted: Applied) -> bool {
     match event_of(alloc, act) {
         Ok(event) => world.apply(event) == Ok(wanted),
@@ -89,7 +90,7 @@ const ALL: &[Act] = &[
     Act::Post(1),
 ];
 
-/// A world of three cycles over a plan, where it may be made, which begins with no call.
+/// Returns a world of three cycles over a plan, if it may be made, that begins without a call.
 fn world_of<'a>(alloc: Global, plan: &Plan, offers: &'a [Offer]) -> Option<World<'a>> {
     if offers.len() > 1_000_000 || !are_offers(plan.domain(), offers) {
         return None;
@@ -101,7 +102,7 @@ fn world_of<'a>(alloc: Global, plan: &Plan, offers: &'a [Offer]) -> Option<World
     }
 }
 
-/// How many pages of the first three cycles of three bridges were posted, and how many starts stand on them.
+/// Returns how many pages of the first three cycles of three bridges were posted, and the number of their starts.
 fn posted(pages: &Pages) -> (u32, usize) {
     let mut count = 0u32;
     let mut starts = 0usize;
@@ -116,7 +117,7 @@ fn posted(pages: &Pages) -> (u32, usize) {
     (count, starts)
 }
 
-/// How a world stands: its history, how many pages were posted, and how many starts stand on them.
+/// The state of a world: its history, how many pages were posted, and the number of their starts.
 #[derive(Clone, Copy)]
 struct Standing {
     history: &'static str,
@@ -124,13 +125,13 @@ struct Standing {
     starts: usize,
 }
 
-/// Whether it stands so.
+/// Whether it is in this state.
 fn stands(alloc: Global, world: &World, standing: &Standing) -> bool {
     writes(alloc, world.admission().history(), standing.history)
         && posted(world.pages()) == (standing.pages, standing.starts)
 }
 
-/// What happens in a world, part by part, then the event that is tried, and how the world stands before and behind that.
+/// What happens in a world, part by part; the event that is tried; and the states of the world before and after it.
 #[derive(Clone, Copy)]
 struct Trial {
     parts: &'static [&'static [Act]],
@@ -139,7 +140,8 @@ struct Trial {
     behind: Standing,
 }
 
-/// The event is tried, or else in a twin: then the world enables nothing any more, and has what it had.
+/// Tries the event. If that fails, the world enables no event any more and is unchanged, and the event is tried in a
+/// twin.
 fn tried(alloc: Global, world: &mut World, twin: &mut World, event: Event, trial: &Trial) -> Told {
     mark(alloc);
     let first = world.apply(event);
@@ -153,7 +155,7 @@ fn tried(alloc: Global, world: &mut World, twin: &mut World, event: Event, trial
     twice(is_left, is_done && stands(alloc, twin, &trial.behind))
 }
 
-/// It is, behind what happens before.
+/// Tries the event after those before it.
 fn tried_behind(alloc: Global, world: &mut World, twin: &mut World, trial: &Trial) -> Option<Told> {
     if !all_parts_happen(alloc, world, trial.parts) || !all_parts_happen(alloc, twin, trial.parts) {
         return None;
@@ -162,14 +164,14 @@ fn tried_behind(alloc: Global, world: &mut World, twin: &mut World, trial: &Tria
     Some(tried(alloc, world, twin, event, trial))
 }
 
-/// It is, in a world of a plan.
+/// Tries the same in a world of a plan.
 fn tried_over(alloc: Global, plan: &Plan, offers: &[Offer], trial: &Trial) -> Option<Told> {
     let mut world = world_of(alloc, plan, offers)?;
     let mut twin = world_of(alloc, plan, offers)?;
     tried_behind(alloc, &mut world, &mut twin, trial)
 }
 
-/// It is, over the line, where a frame is offered at the first bridge, and one at the second, which drops it.
+/// Tries the same over the line. A frame is offered at the first bridge, and one at the second, which drops it.
 fn told(alloc: Global, trial: &Trial) -> Option<Told> {
     let offers = offers_of(alloc, &[(0, 0, "x", 64), (125_000, 1, "x", 64)]).ok()?;
     let plan = plan_of(alloc, line())?;
@@ -246,7 +248,7 @@ pub(crate) fn give_told(alloc: Global) -> Option<Told> {
     told(alloc, &trial)
 }
 
-/// The first bridge goes through cycle 0, and is given the table of cycle 1.
+/// The first bridge goes through cycle 0, and receives the table of cycle 1.
 const FIRST_GOES: &[Act] = &[Act::Give(0), Act::Step(0), Act::Post(0), Act::Give(0)];
 
 /// Its page has no start.
@@ -321,7 +323,7 @@ fn goes_on(alloc: Global, world: &mut World) -> bool {
         )
 }
 
-/// Whether a world was made that does.
+/// Whether a world was made that goes through the calls.
 fn is_new(alloc: Global, made: Result<World<'_>, Memory>) -> bool {
     match made {
         Ok(mut world) => goes_on(alloc, &mut world),
@@ -329,7 +331,7 @@ fn is_new(alloc: Global, made: Result<World<'_>, Memory>) -> bool {
     }
 }
 
-/// A world is made of an admission, or else of its twin.
+/// Tries to make a world of an admission; if that fails, makes it of its twin.
 fn made(alloc: Global, plan: &Plan, offers: &[Offer]) -> Option<Told>
     requires offers { AreOffers plan.now offers.now }
     requires few_offers { length offers.now ≤ 1000000 }
@@ -346,7 +348,7 @@ fn made(alloc: Global, plan: &Plan, offers: &[Offer]) -> Option<Told>
     Some(twice(true, is_new(alloc, again)))
 }
 
-/// It is, where these may be its offers.
+/// Tries the same if these may be its offers.
 fn made_with(alloc: Global, plan: &Plan, offers: &[Offer]) -> Option<Told> {
     if offers.len() > 1_000_000 || !are_offers(plan.domain(), offers) {
         return None;
@@ -360,7 +362,7 @@ pub(crate) fn new_told(alloc: Global) -> Option<Told> {
     made_with(alloc, &plan, offers.as_slice())
 }
 
-/// An event that is not enabled is tried, and the world is looked at.
+/// Tries an event that isn't enabled, and observes the world.
 fn left(alloc: Global, world: &mut World) -> Option<Told> {
     let event = event_of(alloc, Act::Step(0)).ok()?;
     Some(looked_at!(
@@ -371,7 +373,7 @@ fn left(alloc: Global, world: &mut World) -> Option<Told> {
     ))
 }
 
-/// It is, in a world of a plan.
+/// Tries the same in a world of a plan.
 fn left_over(alloc: Global, plan: &Plan) -> Option<Told> {
     let mut world = world_of(alloc, plan, &[])?;
     if all_happen(alloc, &mut world, &[Act::Admit]) {

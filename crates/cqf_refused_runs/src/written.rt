@@ -1,4 +1,4 @@
-//! Books, histories, starts and sums by link that are written.
+//! Writing of books, histories, starts and sums by link.
 ghost use Rattle.std.specs.Prelude.{IfSome};
 ghost use Rattle.cqf_report.specs.LinkSums.{AreSumsInOrder};
 
@@ -14,7 +14,7 @@ use cqf_units::{Name, Nanos, Rate};
 use std::alloc::Global;
 use std::thread::Threads;
 
-/// The book of what is given, over so many cycles, where there is one.
+/// Returns the book of a run's input over `cycles` cycles, if there is one.
 fn book_of(alloc: Global, given: &Given, cycles: u32) -> Option<Book>
     ensures { IfSome result (λ book. AreSumsInOrder book.starts.items) }
 {
@@ -41,7 +41,7 @@ const BOOK: &str = "what,cycle,where,frame,octets,detail\n\
     start,1,a>b,1,64,125000\nstart,2,b>c,1,64,250000\nstart,3,c>s,1,64,375000\n\
     background,0,b>c,1,1522,0\ndrop,0,b,2,64,other-bridge\n";
 
-/// A book is written.
+/// Tries to write a book.
 fn book_written(alloc: Global, domain: &Domain, book: &Book) -> Told {
     trial!(
         alloc,
@@ -62,7 +62,7 @@ pub(crate) fn book_told(alloc: Global) -> Option<Told> {
 const HISTORY: &str =
     "0 admit x accepted 0 0\n1 seal\n0 admit x refused NameHeld\n0 withdraw x accepted 0 1\n";
 
-/// A history is written.
+/// Tries to write a history.
 fn history_written(alloc: Global, entries: &[Entry]) -> Told {
     trial!(
         alloc,
@@ -73,7 +73,7 @@ fn history_written(alloc: Global, entries: &[Entry]) -> Told {
     )
 }
 
-/// Makes the calls of the history behind the first one.
+/// Makes the calls of the history after the first one.
 fn goes_on(alloc: Global, admission: &mut Admission) -> bool {
     match request(alloc, &X) {
         Ok(wanted) => {
@@ -85,7 +85,7 @@ fn goes_on(alloc: Global, admission: &mut Admission) -> bool {
     }
 }
 
-/// It is written of an admission over a domain.
+/// Tries to write the history of an admission over a domain.
 fn history_of(alloc: Global, domain: &Domain) -> Option<Told> {
     let mut admission = admission_of(alloc, domain, &[X])?;
     if goes_on(alloc, &mut admission) {
@@ -119,7 +119,7 @@ pub(crate) fn starts_told(alloc: Global) -> Option<Told> {
     ))
 }
 
-/// Sums by link are written.
+/// Tries to write sums by link.
 fn links_written(
     rt: &(impl Threads + Sync),
     alloc: Global,
@@ -139,7 +139,7 @@ fn links_written(
     )
 }
 
-/// They are, of what is given over so many cycles.
+/// Tries the same for a run's input over `cycles` cycles.
 fn links_of(
     rt: &(impl Threads + Sync),
     alloc: Global,
@@ -157,10 +157,10 @@ pub(crate) fn links_told(rt: &(impl Threads + Sync), alloc: Global) -> Option<To
     links_of(rt, alloc, &given, 5, text)
 }
 
-/// A stream that takes all of one link's octets: 178 frames of 64 octets a cycle.
+/// A stream that takes all of one link's octets: 178 frames of 64 octets per cycle.
 const ALL: Asked = ("x", 11_440, &[&["a", "s"]]);
 
-/// Puts an offer of a stream behind others.
+/// Appends an offer of a stream.
 fn offers_one(offers: &mut Vec<Offer>, name: &Name, cycle: u32) -> bool {
     let Ok(stream) = name.clone() else {
         return false;
@@ -174,7 +174,7 @@ fn offers_one(offers: &mut Vec<Offer>, name: &Name, cycle: u32) -> bool {
     offers.push(offer).is_ok()
 }
 
-/// Puts 178 offers of a cycle behind others.
+/// Appends 178 offers of a cycle.
 fn offers_cycle(offers: &mut Vec<Offer>, name: &Name, cycle: u32) -> bool {
     for _frame in 0..178 {
         if !offers_one(offers, name, cycle) {
@@ -184,7 +184,7 @@ fn offers_cycle(offers: &mut Vec<Offer>, name: &Name, cycle: u32) -> bool {
     true
 }
 
-/// What is offered in 12 cycles: more frames than one thread sums by itself.
+/// Returns offers of 12 cycles: more frames than one thread sums on its own.
 fn many_offers(alloc: Global, name: &Name) -> Option<Vec<Offer>> {
     let mut offers = Vec::new(alloc);
     for cycle in 0..12 {
@@ -195,7 +195,7 @@ fn many_offers(alloc: Global, name: &Name) -> Option<Vec<Offer>> {
     Some(offers)
 }
 
-/// What a run of 13 cycles is made of in which they are offered.
+/// Returns the input of a run of 13 cycles with these offers.
 fn given_many(alloc: Global) -> Option<Given> {
     let mut many = make_given(alloc, one_link(), &[ALL], 13, &[], &[])?;
     many.offers = many_offers(alloc, &Name::new(b"x")?)?;

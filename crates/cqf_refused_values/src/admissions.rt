@@ -6,7 +6,7 @@ use cqf_topology::{Domain, Request};
 use cqf_units::{Cycle, Memory};
 use std::alloc::Global;
 
-/// What can be read of an admission over the line: its history, its next cycle, and what is held on each link.
+/// What can be observed of an admission over the line: its history, its next cycle, and what is held on each link.
 #[derive(Clone, Copy)]
 pub(crate) struct Standing {
     pub(crate) history: &'static str,
@@ -14,7 +14,7 @@ pub(crate) struct Standing {
     pub(crate) held: u32,
 }
 
-/// Whether each link of a domain has so many octets held.
+/// Whether each link of a domain has this number of octets held.
 fn holds(admission: &Admission, octets: u32) -> bool {
     for link in 0..admission.domain().links() {
         if admission.held_on(link).0 != octets {
@@ -24,14 +24,14 @@ fn holds(admission: &Admission, octets: u32) -> bool {
     true
 }
 
-/// Whether an admission stands so.
+/// Whether an admission is in this state.
 pub(crate) fn stands(alloc: Global, admission: &Admission, standing: &Standing) -> bool {
     writes(alloc, admission.history(), standing.history)
         && admission.next_cycle() == Cycle(standing.cycle)
         && holds(admission, standing.held)
 }
 
-/// The history of the six streams.
+/// The state with the six streams.
 const OF_SIX: Standing = Standing {
     history: "0 admit n0 accepted 0 0\n0 admit n1 accepted 1 0\n0 admit n2 accepted 2 0\n\
         0 admit n3 accepted 3 0\n0 admit n4 accepted 4 0\n0 admit n5 accepted 5 0\n",
@@ -39,7 +39,7 @@ const OF_SIX: Standing = Standing {
     held: 11_760,
 };
 
-/// The history of all seven.
+/// The state with all seven.
 const OF_SEVEN: Standing = Standing {
     history: "0 admit n0 accepted 0 0\n0 admit n1 accepted 1 0\n0 admit n2 accepted 2 0\n\
         0 admit n3 accepted 3 0\n0 admit n4 accepted 4 0\n0 admit n5 accepted 5 0\n\
@@ -48,7 +48,7 @@ const OF_SEVEN: Standing = Standing {
     held: 13_720,
 };
 
-/// And of an eighth one that there is no room for.
+/// The state with an eighth one, which was refused for lack of room.
 const WITH_SHORT: Standing = Standing {
     history: "0 admit n0 accepted 0 0\n0 admit n1 accepted 1 0\n0 admit n2 accepted 2 0\n\
         0 admit n3 accepted 3 0\n0 admit n4 accepted 4 0\n0 admit n5 accepted 5 0\n\
@@ -70,7 +70,7 @@ fn is_new(alloc: Global, made: &Result<Admission, Memory>) -> bool {
     }
 }
 
-/// An admission is made for a domain.
+/// Tries to make an admission for a domain.
 fn made(alloc: Global, domain: &Domain) -> Told {
     trial!(
         alloc,
@@ -86,7 +86,7 @@ pub(crate) fn new_told(alloc: Global) -> Option<Told> {
     Some(made(alloc, &domain))
 }
 
-/// What is answered, and how an admission stands before and behind that.
+/// The expected answer, and the states of the admission before and after the call.
 #[derive(Clone, Copy)]
 struct Call {
     answer: Result<Receipt, Refused>,
@@ -94,7 +94,7 @@ struct Call {
     behind: &'static Standing,
 }
 
-/// Whether an answer is that of a call, and the admission stands as behind it.
+/// Whether an answer is the expected one, and the admission is in the state after the call.
 fn is_answered(
     alloc: Global,
     admission: &Admission,
@@ -104,7 +104,7 @@ fn is_answered(
     answer == call.answer && stands(alloc, admission, call.behind)
 }
 
-/// A stream is asked for.
+/// Tries to admit a stream.
 fn admitted(alloc: Global, admission: &mut Admission, wanted: &Request, call: &Call) -> Told {
     trial!(
         alloc,
@@ -115,7 +115,7 @@ fn admitted(alloc: Global, admission: &mut Admission, wanted: &Request, call: &C
     )
 }
 
-/// A stream is asked for where others are held.
+/// Tries to admit a stream while others are held.
 fn asked_for(alloc: Global, streams: &[Asked], asked: &Asked, call: &Call) -> Option<Told> {
     let wanted = request(alloc, asked).ok()?;
     let mut admission = line_with(alloc, streams)?;
@@ -157,7 +157,7 @@ const WITHOUT_X: Standing = Standing {
     held: 1960,
 };
 
-/// A stream is withdrawn.
+/// Tries to withdraw a stream.
 fn withdrawn(alloc: Global, admission: &mut Admission, call: &Call) -> Told {
     trial!(
         alloc,
@@ -178,7 +178,7 @@ pub(crate) fn withdraw_told(alloc: Global) -> Option<Told> {
     Some(withdrawn(alloc, &mut admission, &call))
 }
 
-/// One stream behind a Seal.
+/// The state with one stream, after a Seal.
 const SEALED: Standing = Standing {
     history: "0 admit x accepted 0 0\n1 seal\n",
     cycle: 1,
@@ -194,7 +194,7 @@ fn is_table(table: &Table) -> bool {
     found && table.cycle() == Cycle(0) && table.rows().len() == 1
 }
 
-/// Whether a Seal gives it.
+/// Whether a Seal returned that table.
 fn is_sealed(alloc: Global, admission: &Admission, given: &Result<Table, SealFault>) -> bool {
     match given {
         Ok(table) => is_table(table) && stands(alloc, admission, &SEALED),
@@ -202,7 +202,7 @@ fn is_sealed(alloc: Global, admission: &Admission, given: &Result<Table, SealFau
     }
 }
 
-/// A cycle is closed.
+/// Tries to close a cycle.
 fn sealed(alloc: Global, admission: &mut Admission) -> Told {
     trial!(
         alloc,

@@ -15,7 +15,7 @@ use cqf_test_fixtures::{
 use cqf_units::{Cycle, Memory, Nanos};
 use std::alloc::Global;
 
-/// Whether a bridge was made, and sends a first cycle with one empty batch on link 1.
+/// Whether a bridge was made that sends one empty batch on link 1 in its first cycle.
 fn is_new(alloc: Global, made: Result<Bridge, Memory>) -> bool {
     match made {
         Ok(mut bridge) => {
@@ -28,7 +28,7 @@ fn is_new(alloc: Global, made: Result<Bridge, Memory>) -> bool {
     }
 }
 
-/// Whether a batch is of a cycle and a link, and has these frames.
+/// Whether a batch is of this cycle and link, and has these frames.
 pub(crate) fn is_batch(batch: &Batch, cycle: Cycle, link: u16, frames: &[Sent]) -> bool {
     if batch.cycle() != cycle || batch.link() != link || batch.len() != frames.len() {
         return false;
@@ -41,7 +41,7 @@ pub(crate) fn is_batch(batch: &Batch, cycle: Cycle, link: u16, frames: &[Sent]) 
     true
 }
 
-/// Whether one batch of a cycle and a link was sent, with these frames.
+/// Whether one batch of this cycle and link was sent, with these frames.
 fn is_sent(batches: &[Batch], cycle: Cycle, link: u16, frames: &[Sent]) -> bool {
     match batches {
         [batch] => is_batch(batch, cycle, link, frames),
@@ -49,7 +49,7 @@ fn is_sent(batches: &[Batch], cycle: Cycle, link: u16, frames: &[Sent]) -> bool 
     }
 }
 
-/// Whether a bridge sends a cycle with one batch of a link, with these frames.
+/// Whether a bridge sends, for this cycle, one batch of this link with these frames.
 pub(crate) fn sends(
     alloc: Global,
     bridge: &mut Bridge,
@@ -64,7 +64,7 @@ pub(crate) fn sends(
         && is_sent(batches.as_slice(), cycle, link, frames)
 }
 
-/// The second bridge of a plan is made.
+/// Tries to make the second bridge of a plan.
 fn made(alloc: Global, plan: &Plan) -> Told
     requires { 1 < length plan.now.bridges }
 {
@@ -77,7 +77,7 @@ fn made(alloc: Global, plan: &Plan) -> Told
     )
 }
 
-/// It is, where there is one.
+/// Tries the same if there is a second bridge.
 fn made_of(alloc: Global, plan: &Plan) -> Option<Told> {
     if plan.domain().bridges() == 3 {
         Some(made(alloc, plan))
@@ -91,7 +91,7 @@ pub(crate) fn new_told(alloc: Global) -> Option<Told> {
     made_of(alloc, &plan)
 }
 
-/// The bridge's of some offers in a cycle.
+/// Returns the bridge's own of the offers in a cycle.
 fn own_of(alloc: Global, bridge: &Bridge, cycle: Cycle, offers: &[Offer]) -> Option<Vec<Offered>>
     ensures offers { IfSome result (λ own. AreOffers bridge.now.domain offers.now) }
     ensures own { IfSome result (λ own. own.items ≡ offered_for bridge.now.domain offers.now bridge.now.number cycle.0) }
@@ -105,7 +105,7 @@ fn own_of(alloc: Global, bridge: &Bridge, cycle: Cycle, offers: &[Offer]) -> Opt
     }
 }
 
-/// A bridge receives a cycle with its own of these offers.
+/// Lets a bridge receive a cycle with its own of these offers.
 pub(crate) fn receive(
     alloc: Global,
     bridge: &mut Bridge,
@@ -137,7 +137,7 @@ pub(crate) fn goes_through(
         && receive(alloc, bridge, table, &[], offers).is_ok()
 }
 
-/// What is made ready of a domain: its plan, the tables of two cycles that hold streams, and what is offered.
+/// What is prepared for a domain: its plan, the tables of two cycles that hold streams, and the offers.
 #[derive(Drop)]
 pub(crate) struct Ready {
     pub(crate) plan: Plan,
@@ -145,7 +145,7 @@ pub(crate) struct Ready {
     pub(crate) offers: Vec<Offer>,
 }
 
-/// All of it for the line, where there are three bridges and two tables.
+/// Prepares all of it for the line; there are three bridges and two tables.
 pub(crate) fn make_ready(alloc: Global, streams: &[Asked], offering: &[Offering]) -> Option<Ready> {
     let plan = plan_of(alloc, line())?;
     let tables = tables_with(alloc, &plan, streams, 2)?;
@@ -159,7 +159,7 @@ pub(crate) fn make_ready(alloc: Global, streams: &[Asked], offering: &[Offering]
     }
 }
 
-/// A new bridge of what is ready, where it has one of the number.
+/// Returns a new bridge of what was prepared, if there is one with this number.
 fn bridge_of(alloc: Global, ready: &Ready, number: u16) -> Option<Bridge> {
     if number >= ready.plan.domain().bridges() {
         return None;
@@ -170,7 +170,7 @@ fn bridge_of(alloc: Global, ready: &Ready, number: u16) -> Option<Bridge> {
     }
 }
 
-/// The first bridge behind cycle 0.
+/// Returns the first bridge after cycle 0.
 pub(crate) fn first_behind(alloc: Global, ready: &Ready) -> Option<Bridge> {
     let mut bridge = bridge_of(alloc, ready, 0)?;
     if goes_through(
@@ -194,13 +194,13 @@ pub(crate) const FRAME: Sent = Sent {
     octets: 64,
 };
 
-/// Whether a bridge sends nothing any more.
+/// Whether a bridge no longer sends anything.
 fn is_spent(alloc: Global, bridge: &mut Bridge) -> bool {
     let mut batches = Vec::new(alloc);
     bridge.send(alloc, Cycle(1), &[], &mut batches) == Err(BridgeFault::Spent) && batches.is_empty()
 }
 
-/// The first bridge sends cycle 1, or else its twin does: it is spent then.
+/// Tries to let the first bridge send cycle 1. If that fails the bridge is spent, and its twin sends it.
 fn sent(alloc: Global, bridge: &mut Bridge, twin: &mut Bridge) -> Told {
     let mut batches = Vec::new(alloc);
     mark(alloc);
@@ -213,10 +213,10 @@ fn sent(alloc: Global, bridge: &mut Bridge, twin: &mut Bridge) -> Told {
     twice(stands, sends(alloc, twin, Cycle(1), 0, &[FRAME]))
 }
 
-/// A frame is offered in cycle 0 at the first bridge.
+/// A frame that is offered in cycle 0 at the first bridge.
 pub(crate) const ONE: &[Offering] = &[(0, 0, "x", 64)];
 
-/// Two bridges that have gone through cycle 0.
+/// Returns two bridges that have gone through cycle 0.
 fn two_behind(alloc: Global, ready: &Ready) -> Option<(Bridge, Bridge)> {
     Some((first_behind(alloc, ready)?, first_behind(alloc, ready)?))
 }
@@ -227,7 +227,7 @@ pub(crate) fn send_told(alloc: Global) -> Option<Told> {
     Some(sent(alloc, &mut bridge, &mut twin))
 }
 
-/// What the first bridge sends in its first cycle.
+/// Returns what the first bridge sends in its first cycle.
 fn empty_batches(alloc: Global, ready: &Ready) -> Option<Vec<Batch>> {
     let mut bridge = bridge_of(alloc, ready, 0)?;
     let mut batches = Vec::new(alloc);
@@ -237,7 +237,7 @@ fn empty_batches(alloc: Global, ready: &Ready) -> Option<Vec<Batch>> {
     }
 }
 
-/// The second bridge behind the sending of cycle 1.
+/// Returns the second bridge after it has sent cycle 1.
 pub(crate) fn second_behind(alloc: Global, ready: &Ready) -> Option<Bridge> {
     let mut bridge = bridge_of(alloc, ready, 1)?;
     let batches = empty_batches(alloc, ready)?;
@@ -254,7 +254,7 @@ pub(crate) fn second_behind(alloc: Global, ready: &Ready) -> Option<Bridge> {
     if goes { Some(bridge) } else { None }
 }
 
-/// What the first one sends in cycle 1.
+/// Returns what the first bridge sends in cycle 1.
 pub(crate) fn full_batches(alloc: Global, ready: &Ready) -> Option<Vec<Batch>> {
     let mut bridge = first_behind(alloc, ready)?;
     let mut batches = Vec::new(alloc);
@@ -272,7 +272,7 @@ const LATER: Sent = Sent {
     octets: 64,
 };
 
-/// The frame of the next stream, which leaves it behind another one: 84 octets of the wire take 672 ns.
+/// Returns the frame of the next stream, which leaves it after another one: 84 octets on the wire take 672 ns.
 fn behind(sent: &Sent) -> Sent {
     Sent {
         start: Nanos(sent.start.0.saturating_add(672)),
@@ -282,7 +282,7 @@ fn behind(sent: &Sent) -> Sent {
     }
 }
 
-/// Whether a batch of cycle 2 of link 1 has so many frames, one behind the other.
+/// Whether a batch of cycle 2 and link 1 has this number of frames, one after the other.
 fn is_later(batch: &Batch, count: usize) -> bool {
     if batch.cycle() != Cycle(2) || batch.link() != 1 || batch.len() != count {
         return false;
@@ -307,7 +307,7 @@ fn sends_later(alloc: Global, bridge: &mut Bridge, count: usize) -> bool {
     }
 }
 
-/// What the second bridge is handed in cycle 1, what it drops then, and how many frames go on.
+/// What the second bridge receives in cycle 1, what it drops then, and how many frames go on.
 #[derive(Clone, Copy)]
 struct Handed<'a> {
     table: &'a Table,
@@ -317,7 +317,7 @@ struct Handed<'a> {
     later: usize,
 }
 
-/// Whether a cycle was received with these drops, and so many frames go on.
+/// Whether a cycle was received with these drops, and this number of frames goes on.
 fn is_received(
     alloc: Global,
     bridge: &mut Bridge,
@@ -333,7 +333,7 @@ fn is_received(
     }
 }
 
-/// It receives the cycle, or else its twin does: it is spent then.
+/// Tries to let it receive the cycle. If that fails the bridge is spent, and its twin receives it.
 fn received(
     alloc: Global,
     bridge: &mut Bridge,
@@ -362,12 +362,12 @@ fn received(
     }
 }
 
-/// Two second bridges.
+/// Returns two second bridges.
 fn two_seconds(alloc: Global, ready: &Ready) -> Option<(Bridge, Bridge)> {
     Some((second_behind(alloc, ready)?, second_behind(alloc, ready)?))
 }
 
-/// The second bridge of what is ready receives cycle 1.
+/// Tries to let the second bridge of what was prepared receive cycle 1.
 fn received_of(alloc: Global, ready: &Ready, drops: &[Fell], later: usize) -> Option<Told> {
     let (mut bridge, mut twin) = two_seconds(alloc, ready)?;
     let batches = full_batches(alloc, ready)?;
@@ -381,7 +381,8 @@ fn received_of(alloc: Global, ready: &Ready, drops: &[Fell], later: usize) -> Op
     received(alloc, &mut bridge, &mut twin, &handed)
 }
 
-/// It does where these streams are held and this is offered: with these drops, and so many frames that go on.
+/// Tries the same while these streams are held and these frames are offered, with these drops and this number of frames
+/// that go on.
 pub(crate) fn received_with(
     alloc: Global,
     streams: &[Asked],

@@ -1,4 +1,4 @@
-//! Copies, and what comes of them where they are worked with. What was copied stays as it was.
+//! Copies, and what results when they are used. The original is unchanged.
 use crate::admissions::{Standing, stands};
 use crate::domains::{is_line, is_request};
 use crate::{PATH, Told, X, domain_of, granted, line_with, tables_of, trial};
@@ -24,7 +24,7 @@ fn is_domain(alloc: Global, copy: &Result<Domain, Memory>) -> bool {
     }
 }
 
-/// A domain is copied.
+/// Tries to copy a domain.
 fn domain_copied(alloc: Global, domain: &Domain) -> Told {
     trial!(
         alloc,
@@ -40,7 +40,7 @@ pub(crate) fn domain_told(alloc: Global) -> Option<Told> {
     Some(domain_copied(alloc, &domain))
 }
 
-/// Whether a copy of a request was made, which is granted, and is the other's no more once it is changed.
+/// Whether a copy of a request was made that is granted, and that no longer equals the other one after a change.
 fn is_copied(alloc: Global, copy: Result<Request, Memory>, other: &Request) -> bool {
     match copy {
         Ok(mut wanted) => {
@@ -61,7 +61,7 @@ fn is_granted(alloc: Global, wanted: &Request) -> bool {
     }
 }
 
-/// A request is copied.
+/// Tries to copy a request.
 fn request_copied(alloc: Global, wanted: &Request) -> Told {
     trial!(
         alloc,
@@ -77,7 +77,7 @@ pub(crate) fn request_told(alloc: Global) -> Option<Told> {
     Some(request_copied(alloc, &wanted))
 }
 
-/// Whether a table is that of a cycle in which `x` is held alone.
+/// Whether a table is that of a cycle in which only `x` is held.
 fn is_table(table: &Table, cycle: u32) -> bool {
     let found = match table.row_of(0) {
         Some(row) => row.name.as_str() == "x" && row.octets == 1500,
@@ -94,7 +94,7 @@ fn is_table_copied(copy: &Result<Table, Memory>) -> bool {
     }
 }
 
-/// A table is copied.
+/// Tries to copy a table.
 fn table_copied(alloc: Global, table: &Table) -> Told {
     trial!(
         alloc,
@@ -117,14 +117,14 @@ const OLD: Asked = ("old", 11_440, PATH);
 
 const NEW: Asked = ("new", 11_440, PATH);
 
-/// It is withdrawn in cycle 5, and two cycles later still held.
+/// The state with the stream withdrawn in cycle 5, and still held two cycles later.
 const HELD_ON: Standing = Standing {
     history: "0 admit old accepted 0 0\n1 seal\n1 seal\n1 seal\n1 seal\n1 seal\n0 withdraw old accepted 0 5\n1 seal\n1 seal\n",
     cycle: 7,
     held: 15_000,
 };
 
-/// The other one is refused in that cycle, and granted in the next one.
+/// The state with the other one refused in that cycle, and granted in the next one.
 const FOLLOWED: Standing = Standing {
     history: "0 admit old accepted 0 0\n1 seal\n1 seal\n1 seal\n1 seal\n1 seal\n0 withdraw old accepted 0 5\n1 seal\n1 seal\n\
         0 admit new refused BudgetShort 0 0\n1 seal\n0 admit new accepted 1 8\n",
@@ -132,7 +132,7 @@ const FOLLOWED: Standing = Standing {
     held: 15_000,
 };
 
-/// Whether the other one is refused and granted so.
+/// Whether the other one is refused and granted in this way.
 fn goes_on(alloc: Global, admission: &mut Admission, wanted: &Request) -> bool {
     let short = Err(Refused::BudgetShort { link: 0, left: 0 });
     admission.admit(0, wanted) == short
@@ -141,7 +141,7 @@ fn goes_on(alloc: Global, admission: &mut Admission, wanted: &Request) -> bool {
         && stands(alloc, admission, &FOLLOWED)
 }
 
-/// Whether a copy of an admission was made, with which it is so, while the admission stays.
+/// Whether a copy of an admission was made for which this is so, while the original is unchanged.
 fn is_admission(
     alloc: Global,
     copy: Result<Admission, Memory>,
@@ -158,7 +158,7 @@ fn is_admission(
     }
 }
 
-/// An admission is copied.
+/// Tries to copy an admission.
 fn admission_copied(alloc: Global, admission: &Admission, wanted: &Request) -> Told {
     trial!(
         alloc,
@@ -169,7 +169,7 @@ fn admission_copied(alloc: Global, admission: &Admission, wanted: &Request) -> T
     )
 }
 
-/// An admission that still holds the stream that was withdrawn.
+/// Returns an admission that still holds the stream that was withdrawn.
 fn held_on(alloc: Global) -> Option<Admission> {
     let mut admission = line_with(alloc, &[OLD])?;
     let _first = tables_of(alloc, &mut admission, 5)?;

@@ -1,11 +1,11 @@
-//! Domains and streams that are read.
+//! Reading of domains and streams.
 use crate::{Told, X, trial};
 use cqf_test_fixtures::{Asked, line};
 use cqf_topology::{Domain, DomainFault, Link, Node, Request, StreamsFault, read_streams};
 use cqf_units::Rate;
 use std::alloc::Global;
 
-/// A line's link to a node.
+/// Returns a link of the line to a node.
 fn link_to(from: u16, to: Node) -> Link {
     Link {
         from,
@@ -63,13 +63,13 @@ pub(crate) fn read_told(alloc: Global) -> Option<Told> {
     ))
 }
 
-/// The line with its first link once more at the end.
+/// The line with its first link a second time, at the end.
 const TWICE: &str = "cycle = 125000\nguard = 5000\nbridges = [\"a\", \"b\"]\nstations = [\"s\"]\n\
     \n[[links]]\nfrom = \"a\"\nto = \"b\"\nrate = 1000\ndelay = 500\n\
     \n[[links]]\nfrom = \"b\"\nto = \"s\"\nrate = 1000\ndelay = 500\n\
     \n[[links]]\nfrom = \"a\"\nto = \"b\"\nrate = 10\ndelay = 9\n";
 
-/// Whether a reader told of the link that stands twice.
+/// Whether a reader reported the link that occurs twice.
 fn is_told(read: &Result<Domain, DomainFault>) -> bool {
     matches!(read, Err(DomainFault::LinkTwice(2)))
 }
@@ -118,7 +118,7 @@ fn is_stream(read: &Result<Vec<Request>, StreamsFault>, asked: &Asked) -> bool {
     }
 }
 
-/// The text of a stream is read.
+/// Tries to read the text of a stream.
 fn streams_read(alloc: Global, text: &[u8], asked: &Asked) -> Told {
     trial!(
         alloc,

@@ -1,9 +1,9 @@
-//! Gate lists that are written.
+//! Writing of gate lists.
 use crate::{Told, is_text, trial};
 use cqf_gates::{StreamEntry, StreamList, TxList, write_stream, write_tx};
 use std::alloc::Global;
 
-/// The list of a port with a cycle of 125,000 ns and a guard time of 5,000 ns.
+/// The list of a port with a cycle of 125,000 ns and a guard band of 5,000 ns.
 pub(crate) const LIST: &[(u8, u32)] = &[
     (0xbf, 120_000),
     (0x00, 5_000),
@@ -13,7 +13,7 @@ pub(crate) const LIST: &[(u8, u32)] = &[
 
 const LIST_TEXT: &str = "BF 120000\n00 5000\n7F 120000\n00 5000\n";
 
-/// The gate of a stream of 1,500 octets a cycle.
+/// The gate of a stream of 1,500 octets per cycle.
 const GATE: &[StreamEntry] = &[
     StreamEntry {
         ipv: 6,

@@ -1,15 +1,17 @@
-//! Trials of calls that take no thread, up to a single bridge, and what all trials of refused memory have in common. Only the program that makes
-//! them, and the trials of runs, use this crate.
+//! Trials of calls that take no thread, up to a single bridge, and what all trials of refused allocations share. Only
+//! the program that makes them, and the trials of runs, use this crate.
 //!
-//! A call is made between two marks, and made again where it was refused for want of memory. What is to come stands beside each, worked out by
-//! hand.
+//! A call is made between two marks, and repeated if it was refused for lack of memory. The expected result is given
+//! with each call, worked out by hand.
 //!
-//! - [`told_of`] makes the trial of a name, and [`NAMES`] are all of them.
-//! - [`mark`] stands before a call and behind it, so that whoever refuses growths knows where the call begins and ends.
-//! - [`Told`] is what a trial comes to: [`once`] where the call was answered, and [`twice`] where it was refused for want of memory and made
-//!   again. `trial!` makes the calls and tells which of the two it was; `looked_at!` is for calls that ask for no memory.
+//! - [`told_of`] makes the trial with a name, and [`NAMES`] are the names of all of them.
+//! - [`mark`] is called before and after a call, so that a program that refuses allocations knows when the call begins
+//!   and ends.
+//! - [`Told`] is the result of a trial: [`once`] if the call was answered, and [`twice`] if it was refused for lack of
+//!   memory and repeated. `trial!` makes the calls and returns the right one of the two; `looked_at!` is for calls that
+//!   allocate no memory.
 //! - `names_of!` and `told_by!` find the trials of a list by their names.
-//! - [`domain_of`], [`plan_of`], [`line_with`] and [`tables_with`] make ready what calls need.
+//! - [`domain_of`], [`plan_of`], [`line_with`] and [`tables_with`] prepare what calls need.
 #![tactic(auto)]
 
 mod admissions;

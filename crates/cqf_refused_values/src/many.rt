@@ -1,4 +1,4 @@
-//! Cases that are large enough to ask for what a small one doesn't.
+//! Cases that are large enough to allocate what a small one doesn't.
 use crate::bridges::received_with;
 use crate::{PATH, Told, X, line_with, tables_of, trial};
 use cqf_admission::{Admission, SealFault, Table};
@@ -11,7 +11,7 @@ use cqf_topology::Domain;
 use cqf_units::{Cycle, Nanos, Octets};
 use std::alloc::Global;
 
-/// More streams along the line than a Seal numbers anew without a list of them.
+/// More streams along the line than a Seal renumbers without a list of them.
 const STREAMS: &[Asked] = &[
     ("n0", 64, PATH),
     ("n1", 64, PATH),
@@ -65,7 +65,7 @@ fn has_all(table: &Table) -> bool {
     table.cycle() == Cycle(0) && table.rows().len() == STREAMS.len()
 }
 
-/// Whether a Seal gives it.
+/// Whether a Seal returned it.
 fn is_sealed(given: &Result<Table, SealFault>) -> bool {
     match given {
         Ok(table) => has_all(table),
@@ -73,7 +73,7 @@ fn is_sealed(given: &Result<Table, SealFault>) -> bool {
     }
 }
 
-/// Whether an admission has still this history, and closed no cycle.
+/// Whether an admission still has this history, and has closed no cycle.
 fn stands(alloc: Global, admission: &Admission, history: &[u8]) -> bool {
     let is_same = match write_history(alloc, admission.history()) {
         Ok(text) => text.as_slice() == history,
@@ -82,7 +82,7 @@ fn stands(alloc: Global, admission: &Admission, history: &[u8]) -> bool {
     is_same && admission.next_cycle() == Cycle(0)
 }
 
-/// A cycle is closed.
+/// Tries to close a cycle.
 fn sealed(alloc: Global, admission: &mut Admission, history: &[u8]) -> Told {
     trial!(
         alloc,
@@ -99,7 +99,7 @@ pub(crate) fn seal_told(alloc: Global) -> Option<Told> {
     Some(sealed(alloc, &mut admission, text.as_slice()))
 }
 
-/// A frame at the first bridge, and 21 at the second one that come before the first one's, and each of which is dropped: they aren't gathered
+/// A frame at the first bridge, and 21 at the second one that come before it and are all dropped: they aren't gathered
 /// in order.
 pub(crate) fn receive_told(alloc: Global) -> Option<Told> {
     let mut offering: [Offering; 22] = [(125_000, 1, "x", 64); 22];
@@ -113,7 +113,7 @@ pub(crate) fn receive_told(alloc: Global) -> Option<Told> {
     received_with(alloc, &[X], &offering, &drops, 1)
 }
 
-/// A frame of each of 17 streams at the first bridge: of so many gates a bridge keeps their numbers too.
+/// A frame of each of 17 streams at the first bridge: of this many gates a bridge also keeps the numbers.
 pub(crate) fn receive_each_told(alloc: Global) -> Option<Told> {
     let mut offering: [Offering; 17] = [(0, 0, "", 64); 17];
     for (offered, asked) in offering.iter_mut().zip(STREAMS) {
@@ -122,7 +122,7 @@ pub(crate) fn receive_each_told(alloc: Global) -> Option<Told> {
     received_with(alloc, STREAMS, &offering, &[], 17)
 }
 
-/// The first frame of a stream passes at a new gate, and its reservation is taken.
+/// The first frame of a stream passes at a new gate, and uses its reservation.
 fn passed(alloc: Global, domain: &Domain, table: &Table) -> Option<Told> {
     let row = table.row_of(0)?;
     let mut gates = StreamGates::new(alloc);

@@ -1,11 +1,11 @@
-//! Marks that are seen from outside.
+//! Marks that are visible to the allocator.
 use std::alloc::Global;
 
-/// How many octets a mark asks for: nothing else asks for so many.
+/// The number of octets that a mark allocates; nothing else allocates this number.
 const OCTETS: usize = 7_777_777;
 
-/// Asks for memory of an odd size, and gives it back. Whoever stands in front of the allocator sees it, without a race and without a
-/// write.
+/// Allocates memory of an unusual size, and frees it. A program that intercepts allocations sees it, without a race and
+/// without a write.
 pub fn mark(alloc: Global) {
     if let Ok(mut room) = Vec::with_capacity(alloc, OCTETS) {
         fill(&mut room);

@@ -1,4 +1,4 @@
-//! Calls that ask for no memory.
+//! Calls that allocate no memory.
 use crate::domains::is_line;
 use crate::gates::LIST;
 use crate::{
@@ -13,7 +13,7 @@ use cqf_topology::{Domain, Node, Request};
 use cqf_units::{Cycle, Name, Nanos, Octets, Rate};
 use std::alloc::Global;
 
-/// Whether a list answers as it is to.
+/// Whether a list answers as expected.
 fn is_list(list: &TxList) -> bool {
     list.entries() == LIST
         && list.round() == Nanos(250_000)
@@ -29,7 +29,7 @@ fn is_gate(list: StreamList) -> bool {
         && gate.pass(Nanos(0), Octets(64)) == Passed::OverOctets
 }
 
-/// Whether a stream's list is made, and its gate is so.
+/// Whether a stream's list is made, and its gate behaves in this way.
 fn is_stream_list() -> bool {
     let entry = StreamEntry {
         ipv: 6,
@@ -54,7 +54,7 @@ pub(crate) fn gates_told(alloc: Global) -> Option<Told> {
     Some(looked_at!(alloc, is_read() && is_stream_list()))
 }
 
-/// Whether a port that was made answers as it is to.
+/// Whether a port that was made answers as expected.
 fn is_port(port: &Port) -> bool {
     port.now() == Nanos(0) && port.waiting(6) == 0 && port.next_start() == None
 }
@@ -64,7 +64,7 @@ pub(crate) fn port_told(alloc: Global) -> Option<Told> {
     Some(looked_at!(alloc, is_port(&Port::new(alloc, list, Rate::Mb1000))))
 }
 
-/// A port that has run to 500 ns, with a frame that starts at once.
+/// Returns a port that has run to 500 ns, with a frame that starts at once.
 fn port_at_500(alloc: Global) -> Option<Port> {
     let Ok(list) = TxList::new(LIST) else {
         return None;
@@ -83,7 +83,7 @@ fn port_at_500(alloc: Global) -> Option<Port> {
     }
 }
 
-/// Going on to an instant that isn't behind its own changes nothing.
+/// Advancing to an instant that isn't after its own changes nothing.
 fn stays(alloc: Global, port: &mut Port) -> Told {
     let mut starts = Vec::new(alloc);
     looked_at!(
@@ -126,7 +126,7 @@ fn is_table(table: &Table, name: &Name) -> bool {
     is_there && table.cycle() == Cycle(0) && table.rows().len() == 1 && table.row_of(1).is_none()
 }
 
-/// A table is looked at.
+/// Observes a table.
 fn table_seen(alloc: Global, table: &Table) -> Option<Told> {
     let name = Name::new(b"x")?;
     Some(looked_at!(alloc, is_table(table, &name)))
@@ -149,7 +149,7 @@ fn is_plan(plan: &Plan, table: &Table) -> bool {
     has_gate && plan.domain().links() == 3 && plan.list(2).entries() == LIST
 }
 
-/// It is looked at.
+/// Observes a plan.
 fn plan_seen(alloc: Global, plan: &Plan) -> Option<Told> {
     let mut admission = admission_of(alloc, plan.domain(), &[X])?;
     let tables = tables_of(alloc, &mut admission, 1)?;
@@ -162,7 +162,7 @@ pub(crate) fn plan_told(alloc: Global) -> Option<Told> {
     plan_seen(alloc, &plan)
 }
 
-/// Whether an admission answers as it is to.
+/// Whether an admission answers as expected.
 fn is_admission(admission: &Admission) -> bool {
     admission.history().len() == 1
         && admission.next_cycle() == Cycle(0)
@@ -175,7 +175,7 @@ pub(crate) fn admission_told(alloc: Global) -> Option<Told> {
     Some(looked_at!(alloc, is_admission(&admission)))
 }
 
-/// Whether the history is full of that.
+/// Whether the history is full of these entries.
 fn is_full(admission: &Admission) -> bool {
     let history = admission.history();
     history.len() == MOST_ENTRIES as usize
@@ -183,7 +183,7 @@ fn is_full(admission: &Admission) -> bool {
             && entry.reply == Reply::Refused(Refused::NotHeld))
 }
 
-/// A call more than a history holds.
+/// Makes calls for which the history has no room.
 fn refused(alloc: Global, admission: &mut Admission, wanted: &Request) -> Option<Told> {
     if !fills(admission) {
         return None;
@@ -196,14 +196,14 @@ fn refused(alloc: Global, admission: &mut Admission, wanted: &Request) -> Option
     Some(once(admitted == full && withdrawn == full && is_full(admission)))
 }
 
-/// It is made over the domain of a text.
+/// The same over the domain of a text.
 fn refused_over(alloc: Global, text: &str) -> Option<Told> {
     let wanted = request(alloc, &X).ok()?;
     let domain = domain_of(alloc, text)?;
     refused_by(alloc, &domain, &wanted)
 }
 
-/// It is, of an admission of that domain.
+/// The same, for an admission of this domain.
 fn refused_by(alloc: Global, domain: &Domain, wanted: &Request) -> Option<Told> {
     let mut admission = admission_of(alloc, domain, &[])?;
     refused(alloc, &mut admission, wanted)

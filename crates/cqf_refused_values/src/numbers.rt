@@ -1,4 +1,4 @@
-//! Quantities and lanes, of which no call asks for memory.
+//! Quantities and lanes, whose calls allocate no memory.
 use crate::{Told, looked_at};
 use cqf_lanes::{
     eligible, eligible_plain, highest, highest_plain, octet_sum, octet_sum_plain, open_run,
@@ -9,7 +9,7 @@ use cqf_units::{
 };
 use std::alloc::Global;
 
-/// Whether a name answers as it is to.
+/// Whether a name answers as expected.
 fn is_name() -> bool {
     match Name::new(b"x") {
         Some(name) => name.copied().as_str() == "x" && name.as_bytes() == b"x".as_slice(),
@@ -24,7 +24,7 @@ fn are_reserved() -> bool {
         && cycle_of(Nanos(250_000), Nanos(125_000)) == Cycle(2)
 }
 
-/// Whether a frame of 64 octets takes as long as it is to.
+/// Whether a frame of 64 octets takes the expected time.
 fn are_timed() -> bool {
     let frame = Octets(64);
     octet_ticks(Rate::Mb10) == 20_000
@@ -37,7 +37,7 @@ pub(crate) fn units_told(alloc: Global) -> Option<Told> {
     Some(looked_at!(alloc, is_name() && are_reserved() && are_timed()))
 }
 
-/// Whether sums and runs of twenty are as they are to be.
+/// Whether sums and runs of twenty are as expected.
 fn are_summed() -> bool {
     let (octets, states) = ([64u32; 20], [0x80u8; 20]);
     octet_sum(&octets) == 1280
@@ -46,7 +46,7 @@ fn are_summed() -> bool {
         && open_run_plain(&states, 6) == 0
 }
 
-/// Whether of two classes that are open the one is chosen that has room for what it needs.
+/// Whether, of two open classes, the one that has room for what it needs is chosen.
 fn are_chosen() -> bool {
     let (need, left) = ([84u32; 8], [0, 0, 0, 0, 0, 0, 84, 83]);
     eligible(0xc0, &need, &left) == 0x40

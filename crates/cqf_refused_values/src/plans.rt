@@ -1,4 +1,4 @@
-//! Plans that are compiled, and configurations that are written.
+//! Compiling of plans, and writing of configurations.
 ghost use Rattle.std.specs.Prelude.{IfSome};
 ghost use Rattle.cqf_admission.specs.Tables.{AreAlongLinks};
 ghost use Rattle.cqf_admission.specs.Turns.{AreOfGoodPaces};
@@ -23,7 +23,7 @@ fn is_plan(made: &Result<Plan, Memory>) -> bool {
     }
 }
 
-/// The domain is compiled.
+/// Tries to compile the domain.
 fn compiled(alloc: Global, domain: &Domain) -> Told {
     trial!(
         alloc,
@@ -46,7 +46,7 @@ const X: Asked = ("x", 1500, &[&["a", "s"]]);
 const CONFIG: &str = "link a>s\nBF 120000\n00 5000\n7F 120000\n00 5000\n\
     stream 0 x bridge a\nopen 6 125000 1500\nopen 7 125000 1500\n";
 
-/// The table of a plan's first cycle.
+/// Returns the table of a plan's first cycle.
 fn first_table(alloc: Global, plan: &Plan) -> Option<Table>
     ensures { IfSome result (λ table. AreAlongLinks plan.now table.rows) }
 {
@@ -54,7 +54,7 @@ fn first_table(alloc: Global, plan: &Plan) -> Option<Table>
     sealed(&mut admission)
 }
 
-/// The table of an admission's next cycle.
+/// Returns the table of an admission's next cycle.
 fn sealed(admission: &mut Admission) -> Option<Table>
     ensures { IfSome result (λ table. AreAlongLinks admission.old.domain table.rows) }
 {
@@ -64,7 +64,7 @@ fn sealed(admission: &mut Admission) -> Option<Table>
     }
 }
 
-/// The configuration is written.
+/// Tries to write the configuration.
 fn written(alloc: Global, plan: &Plan, table: &Table) -> Told
     requires along { AreAlongLinks plan.now table.now.rows }
     requires paced { AreOfGoodPaces table.now.rows }
@@ -78,7 +78,7 @@ fn written(alloc: Global, plan: &Plan, table: &Table) -> Told
     )
 }
 
-/// It is, of a plan.
+/// Tries the same for a plan.
 fn config_of(alloc: Global, plan: &Plan) -> Option<Told> {
     match first_table(alloc, plan) {
         Some(table) => {

@@ -1,4 +1,4 @@
-//! A port with two entries, of which the first opens class 7 and the second class 6, for 1,000 ns each.
+//! A port with two entries: the first opens class 7 and the second class 6, for 1,000 ns each.
 ghost use Rattle.std.specs.Prelude.{◌<◌};
 
 use crate::{Told, trial};
@@ -7,7 +7,7 @@ use cqf_port::{Arrival, Port, PortFault, Start};
 use cqf_units::{Nanos, Rate};
 use std::alloc::Global;
 
-/// A frame that has come while its class was closed.
+/// A frame that arrived while its class was closed.
 const FRAME: Arrival = Arrival {
     at: Nanos(100),
     class: 6,
@@ -23,7 +23,7 @@ const START: Start = Start {
     frame: 1,
 };
 
-/// A port that has reached 500 ns.
+/// Returns a port that has reached 500 ns.
 fn port_at_500(alloc: Global) -> Option<Port> {
     let Ok(list) = TxList::new(&[(0x80, 1000), (0x40, 1000)]) else {
         return None;
@@ -36,7 +36,7 @@ fn port_at_500(alloc: Global) -> Option<Port> {
     }
 }
 
-/// A port that has so many of the frame beside.
+/// Returns a port at which this number of copies of the frame waits.
 fn port_with(alloc: Global, frames: u32) -> Option<Port> {
     let mut port = port_at_500(alloc)?;
     for _frame in 0..frames {
@@ -47,7 +47,7 @@ fn port_with(alloc: Global, frames: u32) -> Option<Port> {
     Some(port)
 }
 
-/// Whether a port has reached 500 ns, and so many frames wait.
+/// Whether a port has reached 500 ns, and this number of frames waits.
 fn has_waiting(port: &Port, frames: usize) -> bool {
     port.now() == Nanos(500)
         && port.arrivals().len() == frames
@@ -56,7 +56,7 @@ fn has_waiting(port: &Port, frames: usize) -> bool {
         && port.starts().is_empty()
 }
 
-/// The frame is offered to a port at which so many wait.
+/// Tries to offer the frame to a port at which this number already waits.
 fn offered(alloc: Global, port: &mut Port, before: usize) -> Told
     requires { before < 5 }
 {
@@ -74,18 +74,18 @@ pub(crate) fn offer_told(alloc: Global) -> Option<Told> {
     Some(offered(alloc, &mut port, 0))
 }
 
-/// The fifth frame wants room that four don't.
+/// The fifth frame needs room that four don't.
 pub(crate) fn offer_behind_told(alloc: Global) -> Option<Told> {
     let mut port = port_with(alloc, 4)?;
     Some(offered(alloc, &mut port, 4))
 }
 
-/// Whether a port has gone on to 1,500 ns with the one start.
+/// Whether a port has advanced to 1,500 ns with the one start.
 fn has_started(port: &Port, starts: &[Start]) -> bool {
     port.now() == Nanos(1500) && port.waiting(6) == 0 && starts == [START].as_slice()
 }
 
-/// A port is advanced at which the frame waits.
+/// Tries to advance a port at which the frame waits.
 fn advanced(alloc: Global, port: &mut Port) -> Told {
     let mut starts = Vec::new(alloc);
     trial!(

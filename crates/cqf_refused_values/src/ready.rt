@@ -1,4 +1,4 @@
-//! What calls need, made ready.
+//! Preparation of what calls need.
 use cqf_admission::{Admission, Entry, Receipt, Refused, Table};
 use cqf_compile::{Plan, compile};
 use cqf_report::write_history;
@@ -32,17 +32,17 @@ pub fn granted(no: u32, effect: u32) -> Result<Receipt, Refused> {
     })
 }
 
-/// The domain of a text.
+/// Returns the domain of a text.
 pub fn domain_of(alloc: Global, text: &str) -> Option<Domain> {
     Domain::read(alloc, text.as_bytes()).ok()
 }
 
-/// The plan of a domain's text.
+/// Returns the plan of a domain's text.
 pub fn plan_of(alloc: Global, text: &str) -> Option<Plan> {
     compile(alloc, &domain_of(alloc, text)?).ok()
 }
 
-/// Closes a cycle for seat 1, and puts its table behind others.
+/// Closes a cycle for seat 1, and appends its table to the others.
 fn seals_one(admission: &mut Admission, tables: &mut Vec<Table>) -> bool {
     match admission.seal(1) {
         Ok(table) => tables.push(table).is_ok(),
@@ -50,7 +50,7 @@ fn seals_one(admission: &mut Admission, tables: &mut Vec<Table>) -> bool {
     }
 }
 
-/// Closes so many cycles for seat 1: their tables.
+/// Closes `cycles` cycles for seat 1, and returns their tables.
 pub fn tables_of(alloc: Global, admission: &mut Admission, cycles: u32) -> Option<Vec<Table>> {
     let mut tables = Vec::new(alloc);
     for _cycle in 0..cycles {
@@ -61,7 +61,7 @@ pub fn tables_of(alloc: Global, admission: &mut Admission, cycles: u32) -> Optio
     Some(tables)
 }
 
-/// The tables of so many cycles of a plan, with these streams.
+/// Returns the tables of `cycles` cycles of a plan, with these streams.
 pub fn tables_with(
     alloc: Global,
     plan: &Plan,
@@ -72,15 +72,15 @@ pub fn tables_with(
     tables_of(alloc, &mut admission, cycles)
 }
 
-/// An admission over the line that has admitted streams for seat 0.
+/// Returns an admission over the line that has admitted the streams for seat 0.
 pub fn line_with(alloc: Global, streams: &[Asked]) -> Option<Admission> {
     admission_of(alloc, &domain_of(alloc, line())?, streams)
 }
 
-/// How many entries of a history may be other than Seals, and how many may be Seals.
+/// The most entries of a history other than Seals, and also the most Seals.
 pub const MOST_ENTRIES: u32 = 100_000;
 
-/// Whether a stream that nobody asked for is withdrawn in vain until the history holds no more.
+/// Whether withdrawals of a stream that nobody admitted can be made, in vain, until the history has no more room.
 pub fn fills(admission: &mut Admission) -> bool {
     for _call in 0..MOST_ENTRIES {
         if admission.withdraw(0, "q") != Err(Refused::NotHeld) {

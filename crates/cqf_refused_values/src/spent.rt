@@ -1,4 +1,4 @@
-//! What asks a bridge for no memory: reading what it sends, and calls once it is spent.
+//! Uses of a bridge that allocate no memory: reading what it sends, and calls after it is spent.
 use crate::bridges::{
     FRAME, ONE, Ready, first_behind, full_batches, is_batch, make_ready, receive, second_behind,
 };
@@ -10,7 +10,7 @@ use cqf_test_fixtures::{Asked, Offering};
 use cqf_units::Cycle;
 use std::alloc::Global;
 
-/// The first bridge and its batch of cycle 1 are looked at.
+/// Observes the first bridge and its batch of cycle 1.
 fn batch_seen(alloc: Global, bridge: &Bridge, batch: &Batch) -> Told {
     looked_at!(
         alloc,
@@ -22,7 +22,7 @@ fn batch_seen(alloc: Global, bridge: &Bridge, batch: &Batch) -> Told {
     )
 }
 
-/// They are, where it sends one batch.
+/// Observes them if the bridge sends one batch.
 fn batch_sent(alloc: Global, bridge: &mut Bridge) -> Option<Told> {
     let mut batches = Vec::new(alloc);
     bridge.send(alloc, Cycle(1), &[], &mut batches).ok()?;
@@ -38,7 +38,7 @@ pub(crate) fn batch_told(alloc: Global) -> Option<Told> {
     batch_sent(alloc, &mut bridge)
 }
 
-/// A bridge that is spent is asked to receive and to send.
+/// Calls a spent bridge to receive and to send.
 fn asked(alloc: Global, bridge: &mut Bridge, table: &Table, batches: &[Batch]) -> Told {
     let mut sent = Vec::new(alloc);
     mark(alloc);
@@ -49,7 +49,7 @@ fn asked(alloc: Global, bridge: &mut Bridge, table: &Table, batches: &[Batch]) -
     once(is_spent && sending == Err(BridgeFault::Spent) && sent.is_empty())
 }
 
-/// The second bridge is spent by a frame that the first one lets pass, and asked then.
+/// Spends the second bridge by a frame that the first one lets pass, and then calls it.
 fn asked_behind(
     alloc: Global,
     bridge: &mut Bridge,
@@ -62,7 +62,7 @@ fn asked_behind(
     }
 }
 
-/// It is, by what the first one of another domain sends.
+/// The same, with what the first bridge of another domain sends.
 fn asked_of(alloc: Global, ready: &Ready, other: &Ready) -> Option<Told> {
     let mut bridge = second_behind(alloc, ready)?;
     let batches = full_batches(alloc, other)?;

@@ -1,4 +1,4 @@
-//! Tables and scripts that are read.
+//! Reading of tables and scripts.
 use crate::{Told, X, domain_of, trial};
 use cqf_admission::{Call, ScriptFault, read_script};
 use cqf_model::{Arrival, Background, Offer};
@@ -57,7 +57,7 @@ fn are_offers(read: &Result<Vec<Offer>, OfferFault>) -> bool {
     }
 }
 
-/// The offers are read for a domain.
+/// Tries to read the offers for a domain.
 fn offers_read(alloc: Global, domain: &Domain) -> Told {
     let text =
         b"at,bridge,stream,octets\n0,a,x,64\n0,b,x,64\n125000,a,x,64\n500000,a,x,64\n".as_slice();
@@ -89,7 +89,7 @@ fn is_background(read: &Result<Vec<Background>, OfferFault>) -> bool {
     }
 }
 
-/// The background frame is read for a domain.
+/// Tries to read the background frame for a domain.
 fn background_read(alloc: Global, domain: &Domain) -> Told {
     let text = b"at,from,to,class,octets\n120000,a,s,0,1522\n".as_slice();
     trial!(
@@ -135,7 +135,7 @@ fn are_calls(read: &Result<Vec<(u16, Call)>, ScriptFault>) -> bool {
     }
 }
 
-/// The script is read with these requests.
+/// Tries to read the script with these requests.
 fn script_read(alloc: Global, requests: &[Request]) -> Told {
     let text = b"0 admit x\nseal\n0 withdraw x\n".as_slice();
     trial!(

@@ -1,24 +1,24 @@
-//! What a trial of a call comes to.
+//! The result of a trial of a call.
 use std::fmt;
 use std::fmt::Display;
 
-/// What came of a call, and of the same call made again where it was refused for want of memory.
+/// The result of a call, and of the same call repeated if it was refused for lack of memory.
 #[derive(Clone, Copy, Debug, PartialEq, Eq)]
 pub enum Told {
-    /// It was answered as it is to be.
+    /// It was answered as expected.
     Row,
-    /// It was refused for want of memory, what stands then is as promised, and made again it was answered as it is to be.
+    /// It was refused for lack of memory, the state was then as promised, and repeated it was answered as expected.
     Memory,
     /// It was answered otherwise.
     OtherAnswer,
-    /// It was refused for want of memory, and what stands then is not as promised.
+    /// It was refused for lack of memory, and the state was then not as promised.
     OtherState,
-    /// It was refused for want of memory, and made again it was answered otherwise.
+    /// It was refused for lack of memory, and repeated it was answered otherwise.
     OtherAgain,
 }
 
 impl Told {
-    /// What it is called.
+    /// Returns the words for it.
     fn words(self) -> &'static str {
         match self {
             Told::Row => "as it is to be",
@@ -36,13 +36,13 @@ impl Display for Told {
     }
 }
 
-/// A call that was answered, and whether as it is to be.
+/// Returns the result of a call that was answered, by whether the answer was as expected.
 pub fn once(is_so: bool) -> Told {
     if is_so { Told::Row } else { Told::OtherAnswer }
 }
 
-/// A call that was refused for want of memory: whether what stands then is as promised, and whether it was answered as it is to be when it
-/// was made again.
+/// Returns the result of a call that was refused for lack of memory, by whether the state was then as promised, and
+/// whether it was answered as expected when it was repeated.
 pub fn twice(stands: bool, is_so: bool) -> Told {
     match (stands, is_so) {
         (false, _) => Told::OtherState,
@@ -51,8 +51,8 @@ pub fn twice(stands: bool, is_so: bool) -> Told {
     }
 }
 
-/// Makes a call between two marks, and once more where its answer is for want of memory. `stands` is what is to hold then, and `is_so` what
-/// is to hold of the answer, of either call: `trial!(alloc, call, Err(_), stands, |answer| is_so)`.
+/// Makes a call between two marks, and repeats it if its answer is a lack of memory. `stands` is what must hold then,
+/// and `is_so` what must hold of the answer to either call: `trial!(alloc, call, Err(_), stands, |answer| is_so)`.
 #[macro_export]
 macro_rules! trial {
     ($alloc:expr, $call:expr, $wanting:pat, $stands:expr, |$answer:ident| $is_so:expr $(,)?) => {{
@@ -70,7 +70,7 @@ macro_rules! trial {
     }};
 }
 
-/// Looks between two marks at what asks for no memory, and whether it is so.
+/// Makes, between two marks, an observation that allocates no memory, and checks it.
 #[macro_export]
 macro_rules! looked_at {
     ($alloc:expr, $is_so:expr $(,)?) => {{
@@ -89,7 +89,7 @@ macro_rules! names_of {
     };
 }
 
-/// What comes of the trial of the name `of`, where it is among these.
+/// Makes the trial with the name `of`, if it is among these.
 #[macro_export]
 macro_rules! told_by {
     ($of:ident, $($name:literal => $trial:expr),* $(,)?) => {

@@ -1,5 +1,5 @@
-//! Trials of calls that take no thread, up to a single bridge: each call is made between two marks, and made again where it was refused for
-//! want of memory. What is to come stands beside each, worked out by hand.
+//! Trials of calls that take no thread, up to a single bridge. Each call is made between two marks, and repeated if it
+//! was refused for lack of memory. The expected result is given with each, worked out by hand.
 use crate::{Told, names_of, told_by};
 use std::alloc::Global;
 
@@ -59,7 +59,7 @@ macro_rules! trials {
 /// The names of the trials.
 pub const NAMES: &[&str] = trials!(names_of, name, alloc);
 
-/// What comes of the trial of a name; none where this crate has no such trial, or what it needs couldn't be made ready.
+/// Makes the trial with a name. Returns `None` if this crate has no such trial, or what it needs couldn't be prepared.
 pub fn told_of(alloc: Global, name: &str) -> Option<Told> {
     trials!(told_by, name, alloc)
 }

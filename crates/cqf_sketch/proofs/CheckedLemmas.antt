@@ -1,4 +1,4 @@
--- What the checks of a sketch's domain give, one after the other.
+-- What the checks of a network file's domain yield, one after the other.
 use Rattle.std.proofs.Common.{◌≡◌, ◌∙◌, ◌≤◌, ℕ, All, false, List, [], Option, Some, None, Result, Ok, Err}
 use Rattle.std.proofs.Common.{length, map, nat_lt, option_map, ap, refl, sym, arith}
 use Rattle.std.specs.Prelude.{◌||◌, find}
@@ -23,13 +23,13 @@ use Rattle.cqf_sketch.specs.SketchDomain.{EdgeInside, HasNumberedNames, IsReadab
 use Rattle.cqf_sketch.specs.SketchDomain.{name_taken, second_talker, sketch_with, station_named, with_edges, with_names}
 use Rattle.cqf_sketch.specs.SketchText.{SketchText}
 
--- a name that stood earlier is refused as a sketch refuses it, whatever follows
+-- a name that occurred earlier is refused as a network file refuses it, regardless of what follows
 pub refused : {A B : Type 0} (o : Option (List ℕ)) (x : A) (rest : Result B SketchFault) (e : DomainFault) → refuse o domain.NameTaken (Ok x) ≡ Err e →
     refuse o name_taken rest ≡ Err (Domain e)
 refused None x rest e h = absurd cc
 refused (Some name) x rest e h = let same : domain.NameTaken name ≡ e = cc in ap (λ (f : DomainFault). Err (Domain f)) same
 
--- and where none did it is left to what follows
+-- and if no name did, the result is that of what follows
 pub passed : {A B : Type 0} (o : Option (List ℕ)) (x y : A) (rest : Result B SketchFault) → refuse o domain.NameTaken (Ok x) ≡ Ok y →
     refuse o name_taken rest ≡ rest
 passed None x y rest h = refl
@@ -39,7 +39,7 @@ pub kept : {X A E : Type 0} (o : Option X) (fault : X → E) (x y : A) → refus
 kept None fault x y h = cc
 kept (Some z) fault x y h = absurd cc
 
--- a text whose names are numbered has the checks of its links left
+-- if a text's names are numbered, the checks of its links are left
 pub names_passed : (text : SketchText) (bridges stations : List (List ℕ)) →
     refuse (first_taken [] text.bridges) domain.NameTaken (Ok text.bridges) ≡ Ok bridges →
     refuse (first_taken text.bridges text.stations) domain.NameTaken (Ok text.stations) ≡ Ok stations → checked text ≡ with_names text
@@ -47,7 +47,7 @@ names_passed text bridges stations first second =
     passed (first_taken [] text.bridges) text.bridges bridges _ first
     ∙ passed (first_taken text.bridges text.stations) text.stations stations (with_names text) second
 
--- and its names are those of the text, none of them twice
+-- and its names are those of the text, none of them occurring twice
 pub numbered_names_are : (text : SketchText) (bridges stations : List (List ℕ)) → IsReadableSketch text →
     refuse (first_taken [] text.bridges) domain.NameTaken (Ok text.bridges) ≡ Ok bridges →
     refuse (first_taken bridges text.stations) domain.NameTaken (Ok text.stations) ≡ Ok stations → HasNumberedNames text bridges stations
@@ -63,12 +63,12 @@ numbered_names_are text bridges stations readable first second =
       stations_apart = ap (λ front. first_taken front text.stations) (sym bridges_are) ∙ stations_apart;
     }
 
--- what wasn't found in a list isn't there for what is told of it either
+-- if an optional value is absent after a mapping, it was absent before
 unmapped : {X Y : Type 0} (f : X → Y) (o : Option X) → option_map f o ≡ None → o ≡ None
 unmapped f None e = refl
 unmapped f (Some x) e = absurd cc
 
--- what the checks give
+-- the results of the checks
 pub record PassesSketch (text : SketchText) (edges : List Edge) : Type 0 where
   pub no_twice : first_repeat [] (map ends_of edges) ≡ None
   pub no_again : first_repeat [] (map from_alone (talkers_of edges)) ≡ None
@@ -81,7 +81,7 @@ pub record PassesSketch (text : SketchText) (edges : List Edge) : Type 0 where
   pub few_links : plant_count edges ≤ links_within text.limits
   pub no_sync : find (has_long_sync text.sync) edges ≡ None
 
--- a domain that is told has passed
+-- a domain that is returned has passed
 pub passes_sketch : (text : SketchText) (edges : List Edge) (d : SketchDomain) → with_edges text edges ≡ Ok d → PassesSketch text edges
 passes_sketch text edges d e =
     let a = refuse-Ok (first_twice edges) (λ (element : ℕ). Domain (domain.LinkTwice element)) _ d e in

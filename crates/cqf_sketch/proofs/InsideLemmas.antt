@@ -1,4 +1,4 @@
--- The ends of a sketch's links are nodes that it has.
+-- The ends of a network file's links are nodes of the file.
 use Rattle.std.proofs.Common.{◌≡◌, ◌≤◌, ℕ, All, Bool, true, false, Contains, List, [], ◌∷◌, ◌++◌, Option, Some, None, Result, Ok, Err, cond, length, ok_or, arith, refl, subst}
 use Rattle.std.specs.Prelude.{suc}
 use Rattle.std.proofs.lemmas.Bool.Decides.{nat_tests}
@@ -19,7 +19,7 @@ use Rattle.cqf_sketch.specs.declared.faults.SketchFault.TheVariants.{Domain}
 use Rattle.cqf_sketch.specs.Edges.{Edge, back_of, edges_of, end_named, is_talkers, joined, joined_edge, may_lead, talkers_of}
 use Rattle.cqf_sketch.specs.SketchDomain.{EdgeInside, NodeInside, StationInside}
 
--- a node that is found is there
+-- a node that is found is one of the file
 named_inside : (bridges stations : List (List ℕ)) (name : List ℕ) (node : Node) → end_named bridges stations name ≡ Some node →
     NodeInside (length bridges) (length stations) node
 named_inside bridges stations name node e = by (place_of name bridges) (place_of name stations) refl refl e
@@ -31,7 +31,8 @@ named_inside bridges stations name node e = by (place_of name bridges) (place_of
         let same : Station s ≡ node = cc in subst (NodeInside (length bridges) (length stations)) same (place-within name stations s is_s)
     by None None is_b is_s found = absurd cc
 
--- what joining gives of an edge: its ends are there, it may lead from the one to the other, and its times are such as are read
+-- what joining yields of an edge: its ends are nodes of the file, it may lead from one to the other, and its times are
+-- in their ranges
 pub record IsJoinedEdge (bridges stations : ℕ) (edge : Edge) : Type 0 where
   pub inside : EdgeInside bridges stations edge
   pub may : may_lead edge.from edge.to ≡ true
@@ -58,7 +59,7 @@ edge_joined bridges stations element way edge read e =
         (record { inside = record { from_inside = from_in; to_inside = to_in }; may = may; times_are_read = read })
     by from to false may from_in to_in found = absurd cc
 
--- a way that may lead there may lead back
+-- a link that may lead there may lead back
 may_lead_back : (from to : Node) → may_lead from to ≡ true → may_lead to from ≡ true
 may_lead_back (Bridge a) (Bridge b) may = grind (arith, nat_tests)
 may_lead_back (Bridge a) (Station s) may = refl
@@ -79,7 +80,7 @@ directions_joined bridges stations true edge is =
     (All-nil (IsJoinedEdge bridges stations)))
 directions_joined bridges stations false edge is = All-cons (IsJoinedEdge bridges stations) edge [] is (All-nil (IsJoinedEdge bridges stations))
 
--- the times of the links behind the first
+-- the times of the links after the first
 later_times : (link : SketchLink) (links : List SketchLink) → All (λ (l : SketchLink). AreReadTimes l.there.times) (link ∷ links) →
     All (λ (l : SketchLink). AreReadTimes l.there.times) links
 later_times link links read k d within = read (suc k) d (omega (arith, within))

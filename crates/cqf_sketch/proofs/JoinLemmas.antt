@@ -8,7 +8,7 @@ use Rattle.cqf_sketch.specs.declared.draft.SketchLink.{SketchLink}
 use Rattle.cqf_sketch.specs.declared.faults.SketchFault.{SketchFault}
 use Rattle.cqf_sketch.specs.Edges.{Edge, edges_of, joined, joined_edge}
 
--- what was read before the rest of what was read
+-- lists read before the rest of what is read
 fronts : {A E : Type 0} (done xs : List A) (rest : Result (List A) E) → with_front done (with_front xs rest) ≡ with_front (done ++ xs) rest
 fronts done xs (Ok ys) = ap Ok (sym (append_assoc done xs ys))
 fronts done xs (Err e) = refl
@@ -25,20 +25,20 @@ module _ (bridges stations : List (List ℕ)) (links : List SketchLink) (i : ℕ
       ap (joined bridges stations i) next_is
       ∙ ap (λ k. and_then (joined_edge bridges stations i link.there) (λ edge. with_front (edges_of link.duplex edge) (joined bridges stations k (drop (i + 1) links)))) next
 
-  -- a link with its ends found stands before the rest
+  -- a link with its ends found comes before the rest
   pub joined_more : (done : List Edge) (edge : Edge) → joined_edge bridges stations i link.there ≡ Ok edge →
       with_front (done ++ edges_of link.duplex edge) (joined bridges stations (i + 1) (drop (i + 1) links)) ≡ with_front done (joined bridges stations i (drop i links))
   joined_more done edge found =
       sym (fronts done (edges_of link.duplex edge) (joined bridges stations (i + 1) (drop (i + 1) links)))
       ∙ sym (ap (with_front done) (opened ∙ ap (λ r. and_then r (λ e. with_front (edges_of link.duplex e) (joined bridges stations (i + 1) (drop (i + 1) links)))) found))
 
-  -- and where its ends aren't found, that is the fault
+  -- and if its ends aren't found, that is the fault
   pub joined_fault : (done : List Edge) (fault : SketchFault) → joined_edge bridges stations i link.there ≡ Err fault →
       with_front done (joined bridges stations i (drop i links)) ≡ Err fault
   joined_fault done fault found =
       ap (with_front done) (opened ∙ ap (λ r. and_then r (λ e. with_front (edges_of link.duplex e) (joined bridges stations (i + 1) (drop (i + 1) links)))) found)
 
--- behind the last link nothing is left
+-- after the last link nothing is left
 pub joined_all : (bridges stations : List (List ℕ)) (links : List SketchLink) (i : ℕ) → length links ≤ i → (done : List Edge) →
     with_front done (joined bridges stations i (drop i links)) ≡ Ok done
 joined_all bridges stations links i all done =

@@ -45,7 +45,7 @@ first_there next ends node count end below e inside = record {
   ];
 }
 
--- where no link of all leads into the set, none does
+-- if no link leads into the set, none does under any number
 pub none_at_all : (links : List Link) (room : ℕ → Bool) (ends : Node → Bool) (node : Node) (count : ℕ) → NoneBelow (open_to links room) ends node count →
     length links ≤ count → NoneLeadsInto (open_to links room) ends node
 none_at_all links room ends node count below all l end leads =

@@ -1,4 +1,4 @@
--- First ways, listed station by station.
+-- First paths, listed station by station.
 use Rattle.std.proofs.Common.{◌≡◌, ◌∙◌, ◌+◌, ◌<◌, ◌≤◌, ℕ, Bool, List, [], ◌∷◌, ◌++◌, Some, length, get_or, take, refl, sym, subst, inl, inr, arith, length-append, length-take}
 use Rattle.std.specs.Prelude.{slice_get}
 use Rattle.std.proofs.lemmas.Bool.{cases_lt}
@@ -10,15 +10,15 @@ use Rattle.cqf_model.specs.declared.topology.Node.TheVariants.{Station}
 use Rattle.cqf_sketch.specs.Listeners.{AreFirstWays, IsFirstWithout}
 use Rattle.cqf_sketch.specs.Ways.{IsFirstWay, NoWay}
 
--- to no stations there are no ways
+-- to no stations there are no paths
 pub no_ways : (links : List Link) (room : ℕ → Bool) (from : Node) → AreFirstWays links room from [] []
 no_ways links room from = record { one_each = refl; each = λ k station way there is. absurd (omega (arith, slice_get_within [] k station there)) }
 
--- a beginning of a list that isn't shorter than the list has so many elements
+-- the first n elements of a list with at least n elements are n
 pub length_front : (xs : List ℕ) (n : ℕ) → n ≤ length xs → length (take n xs) ≡ n
 length_front xs n h = omega (arith, h, length-take n xs)
 
--- one way more
+-- one path more
 pub one_way_more : (links : List Link) (room : ℕ → Bool) (from : Node) (stations : List ℕ) (ways : List (List ℕ)) (index station : ℕ) (way : List ℕ) →
     slice_get stations index ≡ Some station → AreFirstWays links room from (take index stations) ways → IsFirstWay links room from (Station station) way →
     AreFirstWays links room from (take (index + 1) stations) (ways ++ way ∷ [])
@@ -50,7 +50,7 @@ one_way_more links room from stations ways index station way here are first = re
         subst (λ (s : ℕ). IsFirstWay links room from (Station s) other) one
         (subst (λ (w : List ℕ). IsFirstWay links room from (Station station) w) way_is first)
 
--- the next station has no way, and those before it have
+-- the next station has no path, and those before it have one
 pub first_without : (links : List Link) (room : ℕ → Bool) (from : Node) (stations : List ℕ) (ways : List (List ℕ)) (index station : ℕ) →
     slice_get stations index ≡ Some station → AreFirstWays links room from (take index stations) ways → NoWay links room from (Station station) →
     IsFirstWithout links room from stations index

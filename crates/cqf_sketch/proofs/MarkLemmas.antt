@@ -11,7 +11,7 @@ use Rattle.cqf_sketch.specs.Ends.{AreMarked, IsMarkedBy, is_marked, open_to}
 use Rattle.cqf_sketch.specs.Steps.{AreBefore, LeadsInto}
 use Rattle.cqf_sketch.specs.Ways.{led_by, led_to}
 
--- no link leads by a number that no link has
+-- a number that leads to a node is a link's number
 pub open_within : (links : List Link) (room : ℕ → Bool) (node end : Node) (l : ℕ) → open_to links room node l ≡ Some end → l < length links
 open_within links room node end l e = elim (cases_lt l (length links)) [
   | inl inside ↦ inside
@@ -22,7 +22,7 @@ open_within links room node end l e = elim (cases_lt l (length links)) [
   ]
 ]
 
--- where there are no marks none is marked
+-- without marks, no bridge is marked
 pub no_marks : (count : ℕ) (node : Node) → is_marked (replicate count false) node ≡ false
 no_marks count (Bridge bridge) = elim (cases_lt bridge count) [
   | inl inside ↦ get_or-replicate count bridge false false inside
@@ -51,7 +51,7 @@ one_marked next ends count before after are by = record {
   ];
 }
 
--- by all links, the marked bridges are those from which one leads into the set
+-- by all links, the marked bridges are those from which a link leads into the set
 pub all_marked : (links : List Link) (room : ℕ → Bool) (ends : Node → Bool) (marks : List Bool) → AreMarked (open_to links room) ends (length links) marks →
     AreBefore (open_to links room) ends (is_marked marks)
 all_marked links room ends marks are = record {

@@ -1,4 +1,4 @@
--- A sketch that passed its checks has an accepted plant with each cycle time that is open, and talkers' links of its own.
+-- A network file that passed its checks has an accepted plan with each open cycle time, and talkers' links of its own.
 use Rattle.std.proofs.Common.{◌≡◌, ◌≢◌, ◌≤◌, ◌<◌, ◌+◌, ◌∙◌, ℕ, zero, suc, All, AllPairs, Bool, true, false, ◌&&◌, ◌||◌, Contains, List, [], ◌∷◌, ◌++◌, Option, Some, None}
 use Rattle.std.proofs.Common.{cond, get_or, length, map, max, nat_le, nat_lt, ap, inl, inr, refl, subst, sym, arith}
 use Rattle.std.specs.Prelude.{find, not, slice_get, unwrap_or}
@@ -37,7 +37,7 @@ use Rattle.cqf_sketch.specs.SketchText.{SketchText}
 use Rattle.cqf_sketch.proofs.CheckedLemmas.{PassesSketch}
 use Rattle.cqf_sketch.proofs.InsideLemmas.{IsJoinedEdge}
 
--- what holds of each holds of a member
+-- what holds for each element of a list holds for a member
 of_member : {X : Type 0} (P : X → Type 0) (xs : List X) (x : X) → All P xs → Contains xs x → P x
 of_member P xs x all c = subst P c.2 (all c.0 x c.1)
 
@@ -49,7 +49,7 @@ none_found test xs x none there = by (test x) refl
     by true e = let (y, is) = find_some test xs x there e in absurd cc
     by false e = e
 
--- where some candidate isn't reached by the guard time, it is above it
+-- if the guard band isn't at least as long as some candidate, that candidate is above it
 pub some_above : (guard : ℕ) (cycles : List ℕ) → list_all (λ cycle. nat_le cycle guard) cycles ≡ false → list_any (nat_lt guard) cycles ≡ true
 some_above guard [] h = absurd cc
 some_above guard (cycle ∷ cycles) h = by (nat_le cycle guard) (nat_lt guard cycle) refl refl (some_above guard cycles) h
@@ -64,13 +64,13 @@ some_above guard (cycle ∷ cycles) h = by (nat_le cycle guard) (nat_lt guard cy
         unreached : nat_le cycle guard ≡ false → nat_lt guard cycle ≡ false → ⊥
         unreached r a = grind (arith, nat_tests)
 
--- some candidate is above each guard time
+-- some candidate is above each guard band
 pub one_above : (sketch : SketchDomain) → IsSketch sketch → find (nat_lt (longest_guard sketch)) sketch.candidates ≡ None → ⊥
 one_above sketch is none =
     let (cycle, there, above) = any_member (nat_lt (longest_guard sketch)) sketch.candidates is.some_open in
     true≢false (sym above ∙ none_found (nat_lt (longest_guard sketch)) sketch.candidates cycle none there)
 
--- a number that a test tells to be above another
+-- a number above another, by the test
 is_above : (guard cycle : ℕ) → nat_lt guard cycle ≡ true → guard < cycle
 is_above guard cycle above = grind (arith, nat_tests)
 
@@ -87,7 +87,7 @@ open_is_open sketch is = by (find (nat_lt (longest_guard sketch)) sketch.candida
         }
     by None none = absurd (one_above sketch is none)
 
--- the first that repeats, by the definition of the lemmas
+-- the first pair that repeats, by the definition of the lemmas
 repeat_is : (earlier pairs : List (Node × Node)) → first_of_repeats same_pair earlier pairs ≡ first_repeat earlier pairs
 repeat_is earlier [] = refl
 repeat_is earlier (pair ∷ pairs) = ap (λ rest. cond (list_any (same_pair pair) earlier) (Some (length earlier)) rest) (repeat_is (earlier ++ pair ∷ []) pairs)
@@ -96,7 +96,7 @@ repeat_is earlier (pair ∷ pairs) = ap (λ rest. cond (list_any (same_pair pair
 same_pair_itself : (a b : Node × Node) → a ≡ b → same_pair b a ≡ true
 same_pair_itself a b same = ap (same_pair b) same ∙ (λ i. same_node_itself b.0 i && same_node_itself b.1 i)
 
--- where no pair repeats, each two differ
+-- if no pair repeats, each two differ
 pub pairs_apart : (pairs : List (Node × Node)) → first_repeat [] pairs ≡ None → AllPairs (λ a b. a ≢ b) pairs
 pairs_apart pairs none i j d before inside same =
     first_repeat-None same_pair [] pairs (repeat_is [] pairs ∙ none) j (omega arith) (record {
@@ -109,7 +109,7 @@ pairs_apart pairs none i j d before inside same =
       equal = same_pair_itself (get_or pairs i d) (get_or pairs j d) same;
     })
 
--- nodes of a kind are told by their numbers
+-- nodes of one kind are distinguished by their numbers
 same_bridge : (a b : Node) → is_station a ≡ false → is_station b ≡ false → number_of a ≡ number_of b → a ≡ b
 same_bridge (Bridge a) (Bridge b) p q same = ap Bridge same
 same_bridge (Bridge a) (Station b) p q same = absurd cc
@@ -120,7 +120,7 @@ same_station (Station a) (Station b) p q same = ap Station same
 same_station (Station a) (Bridge b) p q same = absurd cc
 same_station (Bridge a) b p q same = absurd cc
 
--- a bridge that is there, a node that is there, and a node that a bridge may lead to
+-- a bridge in its range, a node in its range, and a node to which a bridge may lead
 bridge_there : (bridges stations : ℕ) (from : Node) → is_station from ≡ false → NodeInside bridges stations from → number_of from < bridges
 bridge_there bridges stations (Bridge b) is inside = inside
 bridge_there bridges stations (Station s) is inside = absurd cc
@@ -137,19 +137,19 @@ other_end (Bridge a) (Bridge b) is may same = let equal : b ≡ a = cc in number
 other_end (Bridge a) (Station s) is may same = cc
 other_end (Station s) to is may same = absurd cc
 
--- and what a station may lead to
+-- and the node to which a station may lead
 talker_there : (bridges stations : ℕ) (from to : Node) → is_station from ≡ true → may_lead from to ≡ true → NodeInside bridges stations from →
     NodeInside bridges stations to → (number_of from < stations) × (number_of to < bridges)
 talker_there bridges stations (Station s) (Bridge b) is may from_in to_in = (from_in, to_in)
 talker_there bridges stations (Station s) (Station t) is may from_in to_in = absurd cc
 talker_there bridges stations (Bridge a) to is may from_in to_in = absurd cc
 
--- what a link of the plant isn't found to be it isn't
+-- if a link of the plan doesn't fail a check, it hasn't the property that the check refuses
 not_such : (talkers such : Bool) → talkers ≡ false → (not talkers && such) ≡ false → such ≡ false
 not_such true such is e = absurd (true≢false is)
 not_such false such is e = e
 
--- the longest guard time is that of a link, or that of all others
+-- the longest guard band is that of a link, or the general one
 longest_unreached : (cycles : List ℕ) (guard : ℕ) (links : List Link) → reaches_each cycles guard ≡ false →
     ((k : ℕ) (link : Link) → slice_get links k ≡ Some link → (others : ℕ) → reaches_each cycles others ≡ false →
     reaches_each cycles (guard_by others link) ≡ false) → reaches_each cycles (longest_of guard links) ≡ false
@@ -165,7 +165,7 @@ longest_unreached cycles guard (link ∷ links) is each =
       | inr more ↦ subst (λ n. reaches_each cycles n ≡ false) (sym (max-eq_left (omega (arith, more)))) one
     ]
 
--- no guard time is above the longest
+-- no guard band is above the longest
 longest_others : (guard : ℕ) (links : List Link) → guard ≤ longest_of guard links
 longest_others guard [] = omega arith
 longest_others guard (link ∷ links) =
@@ -184,7 +184,7 @@ longest_own guard others (first ∷ links) few zero link at =
     let all : guard_by guard first ≤ longest_of others (first ∷ links) = omega (arith, own, here, more) in
     subst (λ (l : Link). guard_by guard l ≤ longest_of others (first ∷ links)) same all
   where
-    -- by its own, or by that of all others
+    -- by its own, or by the general one
     by : (own : Option ℕ) → unwrap_or own guard ≤ unwrap_or own others
     by None = few
     by (Some n) = omega arith
@@ -192,19 +192,19 @@ longest_own guard others (first ∷ links) few (suc k) link at =
     let more : others ≤ max others (guard_by others first) = le-max_left others (guard_by others first) in
     longest_own guard (max others (guard_by others first)) links (omega (arith, few, more)) k link at
 
--- what isn't denied
+-- if a test's negation holds, the test doesn't
 not_denied : (b : Bool) → not b ≡ true → b ≡ false
 not_denied true e = absurd cc
 not_denied false e = refl
 
 module _ (text : SketchText) (edges : List Edge) (readable : IsReadableSketch text) (passed : PassesSketch text edges)
     (all : All (IsJoinedEdge (length text.bridges) (length text.stations)) edges) where
-  -- the edges of the plant leave bridges
+  -- the edges of the plan leave bridges
   of_plant : (edge : Edge) → Contains (plant_of edges) edge → Contains edges edge × (is_talkers edge ≡ false)
   of_plant edge c =
       let (there, plants) = contains_from_filter (λ (e : Edge). not (is_talkers e)) edges edge c in (there, not_denied (is_talkers edge) plants)
 
-  -- a link of the plant is accepted, where its guard time is below the cycle time
+  -- a link of the plan is accepted if its guard band is below the cycle time
   edge_accepted : (cycle_time : ℕ) (edge : Edge) → Contains (plant_of edges) edge → guard_by text.guard (link_of edge) < cycle_time →
       IsAcceptedLink (domain_at (sketch_with text edges) cycle_time) (link_of edge)
   edge_accepted cycle_time edge c below =
@@ -234,7 +234,7 @@ module _ (text : SketchText) (edges : List Edge) (readable : IsReadableSketch te
       subst (IsAcceptedLink (domain_at (sketch_with text edges) cycle_time)) is
       (edge_accepted cycle_time edge there (subst (λ (x : Link). guard_by text.guard x < cycle_time) (sym is) below))
 
-  -- no guard time reaches each candidate
+  -- no guard band is at least as long as each candidate
   guards_unreached : reaches_each text.candidates (longest_guard (sketch_with text edges)) ≡ false
   guards_unreached =
       longest_unreached text.candidates text.guard (map link_of (plant_of edges)) passed.some_open (λ k link at others is.
@@ -244,13 +244,13 @@ module _ (text : SketchText) (edges : List Edge) (readable : IsReadableSketch te
       (none_found (has_long_guard text.candidates text.guard) edges edge passed.no_guard inside) in
       subst (λ (x : Link). reaches_each text.candidates (guard_by others x) ≡ false) same (by edge.times.guard own others is))
     where
-      -- by its own, or by that of all others
+      -- by its own, or by the general one
       by : (own : Option ℕ) → reaches_each text.candidates (unwrap_or own text.guard) ≡ false → (others : ℕ) → reaches_each text.candidates others ≡ false →
           reaches_each text.candidates (unwrap_or own others) ≡ false
       by None own others is = is
       by (Some n) own others is = own
 
-  -- no link of the plant stands twice
+  -- no link of the plan occurs twice
   pub plant_once : NoLinkTwice (map link_of (plant_of edges))
   plant_once =
       pairs_map (λ (a b : Link). ¬ ((a.from ≡ b.from) × (a.to ≡ b.to))) link_of (plant_of edges)
@@ -260,11 +260,11 @@ module _ (text : SketchText) (edges : List Edge) (readable : IsReadableSketch te
       (AllPairs-filter (λ (x z : Edge). ends_of x ≢ ends_of z) (λ (e : Edge). not (is_talkers e)) edges
       (pairs_from_map (λ a b. a ≢ b) ends_of edges (pairs_apart (map ends_of edges) passed.no_twice))))
 
-  -- the plant's links are counted
+  -- the plan's links are counted
   plant_links : length (map link_of (plant_of edges)) ≡ plant_count edges
   plant_links = length-map (plant_of edges) link_of ∙ length-filter (λ (e : Edge). not (is_talkers e)) edges
 
-  -- with a cycle time that is open the plant's domain is accepted
+  -- the plan's domain with an open cycle time is accepted
   plant_accepted : first_taken [] text.bridges ≡ None → first_taken text.bridges text.stations ≡ None → (cycle_time : ℕ) →
       IsOpenCycle (sketch_with text edges) cycle_time → IsDomain (domain_at (sketch_with text edges) cycle_time)
   plant_accepted bridges_apart stations_apart cycle_time open_to = record {
@@ -309,7 +309,7 @@ module _ (text : SketchText) (edges : List Edge) (readable : IsReadableSketch te
         (pairs_from_map (λ a b. a ≢ b) from_alone (talkers_of edges) (pairs_apart (map from_alone (talkers_of edges)) passed.no_again)));
   }
 
-  -- so it is a sketch
+  -- so it is a network file's domain
   pub passed_is_sketch : first_taken [] text.bridges ≡ None → first_taken text.bridges text.stations ≡ None → IsSketch (sketch_with text edges)
   passed_is_sketch bridges_apart stations_apart = record {
     domains = plant_accepted bridges_apart stations_apart;
@@ -318,7 +318,7 @@ module _ (text : SketchText) (edges : List Edge) (readable : IsReadableSketch te
     has_talkers = talkers_good;
   }
 
--- sketches of equal parts
+-- domains of equal parts are equal
 pub same_sketch : (limits limits' : Limits) (candidates candidates' : List ℕ) (guard guard' sync sync' : ℕ) (bridges bridges' stations stations' : List (List ℕ)) (links links' : List Link)
     (talkers talkers' : List TalkerLink) → limits ≡ limits' → candidates ≡ candidates' → guard ≡ guard' → sync ≡ sync' → bridges ≡ bridges' → stations ≡ stations' → links ≡ links' →
     talkers ≡ talkers'

@@ -1,4 +1,4 @@
--- Which of two ways of one length comes before the other.
+-- Which of two paths of one length comes before the other.
 use Rattle.std.proofs.Common.{◌≡◌, ◌∙◌, ◌<◌, ◌≤◌, ◌⊎◌, ℕ, true, false, List, [], ◌∷◌, ◌++◌, length, refl, sym, ap, subst, inl, inr, arith}
 use Rattle.std.proofs.lemmas.Bool.Decides.{nat_tests}
 use Rattle.cqf_sketch.specs.Steps.{is_before}
@@ -25,7 +25,7 @@ before_lower x y xs ys l = grind (arith, nat_tests)
 before_higher : (x y : ℕ) (xs ys : List ℕ) → y < x → is_before (x ∷ xs) (y ∷ ys) ≡ false
 before_higher x y xs ys l = grind (arith, nat_tests)
 
--- a way that doesn't come before another is the same, or comes behind it
+-- a path that doesn't come before another of its length is the same, or comes after it
 pub same_or_behind : (xs ys : List ℕ) → length xs ≡ length ys → is_before xs ys ≡ false → (xs ≡ ys) ⊎ (is_before ys xs ≡ true)
 same_or_behind [] [] e b = inl refl
 same_or_behind [] (y ∷ ys) e b = absurd (omega (arith, e))
@@ -42,7 +42,7 @@ same_or_behind (x ∷ xs) (y ∷ ys) e b = elim (compared x y) [
   ]
 ]
 
--- one that comes before another doesn't come behind it, whatever stands behind both
+-- one that comes before another doesn't come after it, regardless of what is appended to both
 pub stays_before : (xs ys more rest : List ℕ) → length xs ≡ length ys → is_before xs ys ≡ true → is_before (ys ++ more) (xs ++ rest) ≡ false
 stays_before [] ys more rest e b = absurd cc
 stays_before (x ∷ xs) [] more rest e b = absurd cc
@@ -70,7 +70,7 @@ before_stays (x ∷ xs) (y ∷ ys) more rest e b = elim (compared x y) [
   ]
 ]
 
--- behind one beginning, what follows decides
+-- after a common beginning, what follows decides
 pub before_behind : (front xs ys : List ℕ) → is_before (front ++ xs) (front ++ ys) ≡ is_before xs ys
 before_behind [] xs ys = refl
 before_behind (f ∷ front) xs ys = before_same f (front ++ xs) (front ++ ys) ∙ before_behind front xs ys

@@ -29,7 +29,7 @@ module _ (pairs : List (End × End)) (i : ℕ) (pair : End × End) (held : List 
   so_many : length (map pair_of (take i pairs)) ≡ i
   so_many = length-map (take i pairs) pair_of ∙ length-take-le i pairs (omega arith)
 
-  -- what is left to look through is this pair and those behind it
+  -- what is left to search is this pair and those after it
   opened : cond (list_any (same_pair (pair_of pair)) held) (Some (length (map pair_of (take i pairs))))
       (first_repeat (map pair_of (take (i + 1) pairs)) (map pair_of (drop (i + 1) pairs))) ≡ all
   opened =
@@ -47,7 +47,7 @@ module _ (pairs : List (End × End)) (i : ℕ) (pair : End × End) (held : List 
       ∙ sym (ap (λ b. cond b (Some (length (map pair_of (take i pairs)))) (first_repeat (map pair_of (take (i + 1) pairs)) (map pair_of (drop (i + 1) pairs)))) there)
       ∙ opened
 
-  -- one that isn't leaves it to the rest
+  -- if the pair isn't held, the result is that of the rest
   pub repeat_later : list_any (same_pair (pair_of pair)) held ≡ false → first_repeat (map pair_of (take (i + 1) pairs)) (map pair_of (drop (i + 1) pairs)) ≡ all
   repeat_later absent =
       sym (ap (λ b. cond b (Some (length (map pair_of (take i pairs)))) (first_repeat (map pair_of (take (i + 1) pairs)) (map pair_of (drop (i + 1) pairs)))) absent)

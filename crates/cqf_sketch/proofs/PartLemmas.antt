@@ -1,4 +1,4 @@
--- Beginnings of first ways are first ways, so two of them part once.
+-- Beginnings of first paths are first paths, so two of them part once.
 use Rattle.std.proofs.Common.{append_assoc, ◌≡◌, ◌≢◌, ◌∙◌, ◌+◌, ◌≤◌, ℕ, Bool, true, false, List, [], ◌∷◌, ◌++◌, Option, Some, None, Contains, length, refl, sym, ap, subst, inl, inr, arith}
 use Rattle.std.proofs.Common.{length-append}
 use Rattle.std.specs.Prelude.{◌&&◌, option_and_then, slice_get}
@@ -25,19 +25,19 @@ both_true false b e = absurd cc
 true_both : (a b : Bool) → a ≡ true → b ≡ true → (a && b) ≡ true
 true_both a b first second = ap (λ (x : Bool). x && b) first ∙ second
 
--- where a beginning of a way leads to a node, the rest leads on from there
+-- if a beginning of a path leads to a node, the rest leads on from there
 pub leads_on : (links : List Link) (from mid to : Node) (front back : List ℕ) → led_along (led_to links) from front ≡ Some mid →
     led_along (led_to links) from (front ++ back) ≡ Some to → led_along (led_to links) mid back ≡ Some to
 leads_on links from mid to front back to_mid to_end =
     sym (along-append (led_to links) from front back ∙ ap (λ (o : Option Node). option_and_then (λ n. led_along (led_to links) n back) o) to_mid) ∙ to_end
 
--- and ways end to end are a way
+-- and two paths end to end are a path
 pub leads_through : (links : List Link) (from mid to : Node) (front back : List ℕ) → led_along (led_to links) from front ≡ Some mid →
     led_along (led_to links) mid back ≡ Some to → led_along (led_to links) from (front ++ back) ≡ Some to
 leads_through links from mid to front back to_mid to_end =
     along-append (led_to links) from front back ∙ ap (λ (o : Option Node). option_and_then (λ n. led_along (led_to links) n back) o) to_mid ∙ to_end
 
--- two first ways are the same
+-- two first paths are the same
 pub first_is_one : (links : List Link) (room : ℕ → Bool) (from to : Node) (way other : List ℕ) → IsFirstWay links room from to way →
     IsFirstWay links room from to other → way ≡ other
 first_is_one links room from to way other first also =
@@ -47,7 +47,7 @@ first_is_one links room from to way other first also =
       | inr before ↦ absurd (let not_before = first.least other also.is_way (sym as_long) in cc)
     ]
 
--- the beginning of a first way is the first way to where it leads
+-- the beginning of a first path is the first path to the node where it leads
 pub first_begins : (links : List Link) (room : ℕ → Bool) (from mid to : Node) (front back : List ℕ) → IsFirstWay links room from to (front ++ back) →
     led_along (led_to links) from front ≡ Some mid → IsFirstWay links room from mid front
 first_begins links room from mid to front back first to_mid = record {
@@ -74,7 +74,7 @@ first_begins links room from mid to front back first to_mid = record {
     roomy : (list_all room front ≡ true) × (list_all room back ≡ true)
     roomy = both_true (list_all room front) (list_all room back) (sym (list_all-append room front back) ∙ first.is_way.roomy)
 
-    -- another way to there that is no longer, and the rest
+    -- another path to that node that is no longer, followed by the rest
     through : (other : List ℕ) → IsWay links room from mid other → length other ≤ length front → IsWay links room from to (other ++ back)
     through other is short = record {
       leads = leads_through links from mid to other back is.leads (leads_on links from mid to front back to_mid first.is_way.leads);
@@ -82,7 +82,7 @@ first_begins links room from mid to front back first to_mid = record {
       few = omega (arith, short, first.is_way.few, length-append front back, length-append other back);
     }
 
--- a node in which a link of a way ends: some of its links lead there
+-- a node in which a link of a path ends: some of its links lead there
 pub record Reached (links : List Link) (from : Node) (way : List ℕ) (end : Node) : Type 0 where
   pub first : ℕ
   pub front : List ℕ
@@ -137,7 +137,7 @@ none_from_station : (links : List Link) (station l : ℕ) → led_to links (Stat
 none_from_station links station l =
     elim (slice_get links l) as (λ o. option_and_then (led_by (Station station)) o ≡ None) [ None ↦ refl | Some link ↦ refl ]
 
--- so a way from there ends there
+-- so a path from there ends there
 from_station : (links : List Link) (station : ℕ) (to : Node) (way : List ℕ) → led_along (led_to links) (Station station) way ≡ Some to → to ≡ Station station
 from_station links station to [] e = let same : Some (Station station) ≡ Some to = e in cc
 from_station links station to (l ∷ way) e =
@@ -148,7 +148,7 @@ next_same : (common : List ℕ) (x y : ℕ) (xs ys : List ℕ) → common ++ (x 
 next_same [] x y xs ys e = cc
 next_same (c ∷ common) x y xs ys e = next_same common x y xs ys (let rest : common ++ (x ∷ xs) ≡ common ++ (y ∷ ys) = cc in rest)
 
--- where a first way goes on from a node to an end, the links up to there are the first way to that end
+-- if a first path continues from a node to an end, the links up to there are the first path to that end
 record Up (links : List Link) (room : ℕ → Bool) (from end : Node) (common : List ℕ) (x : ℕ) : Type 0 where
   behind : List ℕ
   first : IsFirstWay links room from end (common ++ (x ∷ behind))
@@ -165,7 +165,7 @@ up_to links room from node to end common x rest first to_node c =
     (leads_through links from node end common (r.first ∷ r.front) to_node r.leads) in
     record { behind = r.front; first = subst (λ (l : ℕ). IsFirstWay links room from end (common ++ (l ∷ r.front))) same begins }
 
--- where two first ways go on by two links, they end in no node in both
+-- if two first paths continue by different links, no node is an end in both afterwards
 apart_behind : (links : List Link) (room : ℕ → Bool) (from node to there : Node) (common : List ℕ) (x y : ℕ) (rest more : List ℕ) → x ≢ y →
     IsFirstWay links room from to (common ++ (x ∷ rest)) → IsFirstWay links room from there (common ++ (y ∷ more)) →
     led_along (led_to links) from common ≡ Some node → (end : Node) → Contains (ends_along links node (x ∷ rest)) end → ¬ Contains (ends_along links node (y ∷ more)) end
@@ -174,7 +174,7 @@ apart_behind links room from node to there common x y rest more differ first als
     let b = up_to links room from node there end common y more also to_node other in
     differ (next_same common x y a.behind b.behind (first_is_one links room from end (common ++ (x ∷ a.behind)) (common ++ (y ∷ b.behind)) a.first b.first))
 
--- two first ways to two stations part for good
+-- two first paths to two different stations part for good
 pub first_ways_part : (links : List Link) (room : ℕ → Bool) (from : Node) (station there : ℕ) (way other : List ℕ) → station ≢ there →
     IsFirstWay links room from (Station station) way → IsFirstWay links room from (Station there) other → PartForGood links from way other
 first_ways_part links room from station there way other differ first also = elim (beginning way other) [
@@ -209,7 +209,7 @@ first_ways_part links room from station there way other differ first also = elim
     one_station : (a b : ℕ) → Station b ≡ Station a → a ≡ b
     one_station a b e = cc
 
--- no first way goes round
+-- no first path has a loop
 goes_round : (links : List Link) (room : ℕ → Bool) (from mid to : Node) (front : List ℕ) (first : ℕ) (loop back : List ℕ) →
     led_along (led_to links) from front ≡ Some mid → led_along (led_to links) mid (first ∷ loop) ≡ Some mid →
     ¬ IsFirstWay links room from to (front ++ ((first ∷ loop) ++ back))
@@ -229,7 +229,7 @@ goes_round links room from mid to front first loop back to_mid round is =
     } in
     omega (arith, long, short, is.shortest (front ++ back) shortcut)
 
--- no node stands twice on a first way
+-- no node occurs twice on a first path
 pub ends_once : (links : List Link) (room : ℕ → Bool) (from to : Node) (way : List ℕ) → IsFirstWay links room from to way → EndsOnce links from way
 ends_once links room from to way first = record {
   not_again = λ c.

@@ -1,4 +1,4 @@
--- What is read of a sketch's text is in its ranges and forms.
+-- The values that are read from a network file's text are in their ranges and forms.
 use Rattle.std.proofs.Common.{◌≡◌, ◌≤◌, ℕ, All, IsTrue, Bool, true, false, ◌&&◌, List, [], ◌∷◌}
 use Rattle.std.proofs.Common.{Option, Some, None, Result, Ok, Err, cond, length, nat_le, ok_or, option_map}
 use Rattle.std.proofs.Common.{ap, refl, subst, sym, arith}
@@ -25,19 +25,19 @@ use Rattle.cqf_sketch.specs.SketchDomain.{AreCandidates, IsCycleTime, IsReadable
 use Rattle.cqf_sketch.specs.SketchText.{SketchText, candidates_by, candidates_of, candidates_read, cycle_from, cycles_from, duplex_at, link_read, links_from}
 use Rattle.cqf_sketch.specs.SketchText.{links_of_array, links_read, one_way_read, sketch_from, sketch_keys, sketch_of_text, some_few}
 
--- what a sketch has of reading was read
+-- if reading as a network file succeeds, so did reading
 or_sketch_read : {A : Type 0} (r : Result A TomlFault) (x : A) → or_sketch r ≡ Ok x → r ≡ Ok x
 or_sketch_read (Ok y) x h = cc
 or_sketch_read (Err e) x h = absurd cc
 
--- a cycle time that is read is one
+-- a cycle time that is read is in its range
 cycle_range : (d : Data) (cycle : ℕ) → cycle_from d ≡ Some cycle → IsCycleTime cycle
 cycle_range d cycle h =
     let (z, integer, within) = and_then-Some (within_range 10000 10000000) (as_integer d) cycle h in
     let range = within_range-Some 10000 10000000 z cycle within in
     record { least = range.0; most = range.1 }
 
--- cycle times that aren't too few or too many are candidates
+-- 1 to 1,000 cycle times are candidates
 few_range : (cycles found : List ℕ) → All IsCycleTime cycles → some_few cycles ≡ Ok found → AreCandidates found
 few_range cycles found all h = by (nat_le 1 (length cycles) && nat_le (length cycles) 1000) refl h
   where
@@ -50,7 +50,7 @@ few_range cycles found all h = by (nat_le 1 (length cycles) && nat_le (length cy
         subst AreCandidates same (record { some_cycle = grind (arith, nat_tests); few_cycles = grind (arith, nat_tests); cycle_times = all })
     by false e h = absurd cc
 
--- the candidates that a value means
+-- the candidates of a value
 value_range : (o : Option Items) (d : Data) (found : List ℕ) → candidates_by o d ≡ Ok found → AreCandidates found
 value_range None d found h =
     let (cycle, is, one) = and_then-Ok (ok_or (cycle_from d) (BadValue Cycle)) _ found h in
@@ -114,7 +114,7 @@ links_range : (table : Members) (links : List SketchLink) → links_read table �
 links_range table links h =
     let (items, is, array) = and_then-Ok (or_sketch (read_at Links as_array table)) links_of_array links h in array_range items links array
 
--- what a domain's table says
+-- what is read from a domain's table
 table_readable : (limits : Limits) (given : Option (List ℕ)) (table : Members) (text : SketchText) → IfSome given AreCandidates →
     sketch_from limits given table ≡ Ok text → IsReadableSketch text
 table_readable limits given table text are h =
@@ -157,7 +157,7 @@ draft_limits limits given text draft h =
     let (table, whole, from) = and_then-Ok (or_sketch (whole_document (sketch_keys given) Links link_keys text)) (sketch_from limits given) draft h in
     table_limits limits given table draft from
 
--- what a sketch's text says
+-- what is read from a network file's text
 pub sketch_readable : (limits : Limits) (given : Option (List ℕ)) (text : List ℕ) (draft : SketchText) → IfSome given AreCandidates →
     sketch_of_text limits given text ≡ Ok draft → IsReadableSketch draft
 sketch_readable limits given text draft are h =

@@ -1,4 +1,4 @@
--- Ways that lack room, and ways at no cost.
+-- Paths that lack room, and paths at no cost.
 use Rattle.std.proofs.Common.{◌≡◌, ◌∙◌, ◌<◌, ℕ, Bool, true, false, List, [], ◌∷◌, Option, Some, None, Contains, length, refl, sym, ap, inl, inr, arith}
 use Rattle.std.specs.Prelude.{◌&&◌, nat_le, not, option_and_then, slice_get}
 use Rattle.std.specs.Option.{option_map_or}
@@ -12,7 +12,7 @@ use Rattle.cqf_model.specs.declared.topology.Node.{Node}
 use Rattle.cqf_sketch.specs.Steps.{led_along}
 use Rattle.cqf_sketch.specs.Ways.{IsFirstWay, IsWay, NoWay, has_room, led_by, led_to, short_link}
 
--- where not all pass a test, one fails it
+-- if not all elements pass a test, one fails it
 record Fails (test : ℕ → Bool) (xs : List ℕ) : Type 0 where
   one : ℕ
   within : Contains xs one
@@ -26,7 +26,7 @@ one_fails test (x ∷ xs) e = elim (cases_Bool (test x)) [
   | inr fails ↦ record { one = x; within = contains_here x xs; fails = fails }
 ]
 
--- where a way isn't one with room, some link of it is short
+-- if a path isn't one with room, some link of it is short
 pub some_short : (links : List Link) (left : List ℕ) (cost : ℕ) (from to : Node) (way : List ℕ) → NoWay links (has_room left cost) from to →
     IsWay links (λ l. true) from to way → (l : ℕ) × (short_link left cost way ≡ Some l)
 some_short links left cost from to way none is = elim (cases_Bool (list_all (has_room left cost) way)) [
@@ -34,12 +34,12 @@ some_short links left cost from to way none is = elim (cases_Bool (list_all (has
   | inr short ↦ (let f = one_fails (has_room left cost) way short in find_some (λ l. not (has_room left cost l)) way f.one f.within (ap not f.fails))
 ]
 
--- at no cost a link has room of which it is known what it has left
+-- at no cost, a link has room if what it has left is known
 has_at_no_cost : (left : List ℕ) (l : ℕ) → l < length left → has_room left 0 l ≡ true
 has_at_no_cost left l inside =
     ap (λ o. option_map_or (λ octets. nat_le 0 octets) o false) (slice_get-get_or left l 0 inside) ∙ le-leb 0 _ (omega arith)
 
--- what leads on is a link
+-- a number that leads on is a link's number
 link_there : (links : List Link) (node end : Node) (l : ℕ) → led_to links node l ≡ Some end → l < length links
 link_there links node end l e = by_link (slice_get links l) refl e
   where
@@ -47,7 +47,7 @@ link_there links node end l e = by_link (slice_get links l) refl e
     by_link None is none = absurd cc
     by_link (Some link) is some = slice_get_within links l link is
 
--- so each of a way has room
+-- so each link of a path has room
 roomy_at_no_cost : (links : List Link) (left : List ℕ) (from to : Node) (way : List ℕ) → length left ≡ length links →
     led_along (led_to links) from way ≡ Some to → list_all (has_room left 0) way ≡ true
 roomy_at_no_cost links left from to [] same e = refl
@@ -64,7 +64,7 @@ all_pass : (way : List ℕ) → list_all (λ l. true) way ≡ true
 all_pass [] = refl
 all_pass (l ∷ way) = all_pass way
 
--- at no cost the ways are those without the condition of room
+-- at no cost the paths are those without the condition of room
 without : (links : List Link) (left : List ℕ) (from to : Node) (way : List ℕ) → IsWay links (has_room left 0) from to way → IsWay links (λ l. true) from to way
 without links left from to way is = record { leads = is.leads; roomy = all_pass way; few = is.few }
 

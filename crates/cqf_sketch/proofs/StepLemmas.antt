@@ -1,11 +1,11 @@
--- Ways by numbered steps, and how the first into a set comes from the first into the set before it.
+-- Paths by numbered steps, and how the first path into a set follows from the first path into the set before it.
 use Rattle.std.proofs.Common.{◌≡◌, ◌∙◌, ◌+◌, ◌≤◌, ℕ, Bool, true, false, List, [], ◌∷◌, ◌++◌, Option, Some, None, length, refl, sym, ap, subst, inl, inr, arith, length-append}
 use Rattle.std.specs.Prelude.{option_and_then}
 use Rattle.std.proofs.lemmas.Option.{option_and_then_some}
 use Rattle.cqf_sketch.specs.Steps.{AreBefore, IsFirstInto, IsFirstStep, LeadsInto, WayInto, is_before, led_along}
 use Rattle.cqf_sketch.proofs.OrderLemmas.{before_behind, higher_alone, same_or_behind, stays_before}
 
--- steps behind others lead on from where these do
+-- appended steps lead on from where the first ones lead
 pub along-append : {N : Type 0} (next : N → ℕ → Option N) (from : N) (xs ys : List ℕ) →
     led_along next from (xs ++ ys) ≡ option_and_then (λ end. led_along next end ys) (led_along next from xs)
 along-append next from [] ys = refl
@@ -16,11 +16,11 @@ along-append next from (x ∷ xs) ys =
       | Some end ↦ along-append next end xs ys
     ]
 
--- one step leads where it does
+-- a single step leads where it does
 along-one : {N : Type 0} (next : N → ℕ → Option N) (node : N) (step : ℕ) → led_along next node (step ∷ []) ≡ next node step
 along-one next node step = elim (next node step) as (λ o. option_and_then (λ end. Some end) o ≡ o) [ None ↦ refl | Some end ↦ refl ]
 
--- and behind others from where these lead
+-- and an appended step leads on from where the path leads
 pub along-push : {N : Type 0} (next : N → ℕ → Option N) (from node end : N) (way : List ℕ) (step : ℕ) → led_along next from way ≡ Some node →
     next node step ≡ Some end → led_along next from (way ++ step ∷ []) ≡ Some end
 along-push {N} next from node end way step to_node to_end =
@@ -39,7 +39,7 @@ pushed : (x : ℕ) (xs : List ℕ) → Pushed (x ∷ xs)
 pushed x [] = record { front = []; last = x; is = refl }
 pushed x (y ∷ ys) = let rest = pushed y ys in record { front = x ∷ rest.front; last = rest.last; is = ap (λ zs. x ∷ zs) rest.is }
 
--- a way into a set that isn't there yet: a way into the set before it, and a last step
+-- a path into a set from outside: a path into the set before it, and a last step
 record Parted {N : Type 0} (next : N → ℕ → Option N) (ends before : N → Bool) (from : N) (way : List ℕ) (there : N) : Type 0 where
   front : List ℕ
   last : ℕ
@@ -71,7 +71,7 @@ parted {N} next ends before from there (x ∷ xs) are outside into =
 length_pushed : (xs : List ℕ) (x : ℕ) → length (xs ++ x ∷ []) ≡ length xs + 1
 length_pushed xs x = length-append xs (x ∷ [])
 
--- the first way into a set is the first into the set before it, with the first step that leads on
+-- the first path into a set is the first path into the set before it, followed by the first step that leads on
 pub one_more : {N : Type 0} (next : N → ℕ → Option N) (ends before : N → Bool) (from node end : N) (way : List ℕ) (step : ℕ) → AreBefore next ends before →
     ends from ≡ false → IsFirstInto next before from way node → IsFirstStep next ends node step end → IsFirstInto next ends from (way ++ step ∷ []) end
 one_more {N} next ends before from node end way step are outside first last = record {
@@ -84,7 +84,7 @@ one_more {N} next ends before from node end way step are outside first last = re
     shortest other there p =
         omega (arith, first.shortest p.front p.node p.into, ap length p.is, length_pushed p.front p.last, length_pushed way step)
 
-    -- the same beginning leads to the same node, and its first step is the least
+    -- the same beginning leads to the same node, and the step after it is the least
     same_front : (front : List ℕ) (last_step : ℕ) (there_node there : N) → WayInto next before from front there_node → LeadsInto next ends there_node last_step there →
         front ≡ way → is_before (front ++ last_step ∷ []) (way ++ step ∷ []) ≡ false
     same_front front last_step there_node there into leads e =
@@ -106,20 +106,20 @@ one_more {N} next ends before from node end way step are outside first last = re
           | inr behind ↦ stays_before way p.front (p.last ∷ []) (step ∷ []) (sym as_long) behind
         ])
 
--- no way leads into a set from outside where none leads into the set before it that is shorter by one
+-- if no path of at most n steps leads into the set before, none of at most n + 1 steps leads from outside into the set
 pub none_more : {N : Type 0} (next : N → ℕ → Option N) (ends before : N → Bool) (from : N) (most : ℕ) → AreBefore next ends before → ends from ≡ false →
     ((way : List ℕ) (end : N) → length way ≤ most → ¬ WayInto next before from way end) → (way : List ℕ) (end : N) → length way ≤ most + 1 → ¬ WayInto next ends from way end
 none_more next ends before from most are outside none way end short into =
     let p = parted next ends before from end way are outside into in
     none p.front p.node (omega (arith, short, ap length p.is, length_pushed p.front p.last)) p.into
 
--- nor does one without steps
+-- from outside, no path without steps leads into a set
 pub none_at_once : {N : Type 0} (next : N → ℕ → Option N) (ends : N → Bool) (from : N) → ends from ≡ false → (way : List ℕ) (end : N) → length way ≤ 0 →
     ¬ WayInto next ends from way end
 none_at_once next ends from outside [] end short into = let here = into.leads in let inside = into.inside in let same : from ≡ end = cc in absurd (let e = ap ends same in cc)
 none_at_once next ends from outside (x ∷ xs) end short into = absurd (omega (arith, short))
 
--- from within it, it is the first that does
+-- from within the set, the path without steps is the first
 pub first_at_once : {N : Type 0} (next : N → ℕ → Option N) (ends : N → Bool) (from : N) → ends from ≡ true → IsFirstInto next ends from [] from
 first_at_once next ends from inside = record {
   into = record { leads = refl; inside = inside };

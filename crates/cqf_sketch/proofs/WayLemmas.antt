@@ -1,4 +1,4 @@
--- Ways with room are ways by the links with room.
+-- Paths with room are paths by the links with room.
 use Rattle.std.proofs.Common.{◌≡◌, ◌∙◌, ◌≤◌, ℕ, Bool, true, false, List, [], ◌∷◌, Option, Some, None, length, refl, sym, ap}
 use Rattle.std.specs.Prelude.{◌&&◌, if◌then◌else◌, option_and_then}
 use Rattle.std.specs.List.{list_all}
@@ -10,7 +10,7 @@ use Rattle.cqf_sketch.specs.Ends.{is_in, open_to}
 use Rattle.cqf_sketch.specs.Steps.{IsFirstInto, NoneInto, WayInto, led_along}
 use Rattle.cqf_sketch.specs.Ways.{IsFirstWay, IsWay, NoWay, led_to, most_links}
 
--- by links with room, each of a way has it
+-- each link of a path by links with room has room
 pub open_parts : (links : List Link) (room : ℕ → Bool) (from to : Node) (way : List ℕ) → led_along (open_to links room) from way ≡ Some to →
     (led_along (led_to links) from way ≡ Some to) × (list_all room way ≡ true)
 open_parts links room from to [] e = (e, refl)
@@ -29,7 +29,7 @@ open_parts links room from to (l ∷ way) e = by_room (λ end more. open_parts l
     by_room rest true is more = let parts = by_step rest (led_to links from l) more in (parts.0, ap (λ (b : Bool). b && list_all room way) is ∙ parts.1)
     by_room rest false is more = absurd cc
 
--- and where each has room, it is a way by links with room
+-- and if each has room, it is a path by links with room
 pub open_whole : (links : List Link) (room : ℕ → Bool) (from to : Node) (way : List ℕ) → led_along (led_to links) from way ≡ Some to → list_all room way ≡ true →
     led_along (open_to links room) from way ≡ Some to
 open_whole links room from to [] e roomy = e
@@ -48,12 +48,12 @@ open_whole links room from to (l ∷ way) e roomy = by_room (λ end more rest. o
         ∙ by_step (λ end more. whole end more rest) (led_to links from l) e
     by_room whole false is rest = absurd cc
 
--- a way to a node is one into the set of that node, by links with room
+-- a path to a node is one into the set of that node, by links with room
 way_into : (links : List Link) (room : ℕ → Bool) (from to : Node) (way : List ℕ) → IsWay links room from to way →
     WayInto (open_to links room) (is_in (Only to)) from way to
 way_into links room from to way is = record { leads = open_whole links room from to way is.leads is.roomy; inside = same_node_itself to }
 
--- and back, where it isn't too long
+-- and conversely, if it isn't too long
 into_way : (links : List Link) (room : ℕ → Bool) (from to end : Node) (way : List ℕ) → WayInto (open_to links room) (is_in (Only to)) from way end →
     length way ≤ most_links → IsWay links room from to way
 into_way links room from to end way into short =
@@ -61,7 +61,7 @@ into_way links room from to end way into short =
     let parts = open_parts links room from to way (into.leads ∙ ap (λ (n : Node). Some n) (sym there)) in
     record { leads = parts.0; roomy = parts.1; few = short }
 
--- the first way into the set of a node is the first to that node
+-- the first path into the set of a node is the first to that node
 pub first_into : (links : List Link) (room : ℕ → Bool) (from to end : Node) (way : List ℕ) → IsFirstInto (open_to links room) (is_in (Only to)) from way end →
     length way ≤ most_links → IsFirstWay links room from to way
 first_into links room from to end way first short = record {
@@ -70,6 +70,6 @@ first_into links room from to end way first short = record {
   least = λ other is same. first.least other to (way_into links room from to other is) same;
 }
 
--- and where there is none, there is no way to it
+-- and if there is none, there is no path to it
 pub none_into : (links : List Link) (room : ℕ → Bool) (from to : Node) → NoneInto (open_to links room) (is_in (Only to)) from most_links → NoWay links room from to
 none_into links room from to none way is = none way to is.few (way_into links room from to way is)

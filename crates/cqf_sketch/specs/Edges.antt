@@ -1,4 +1,4 @@
--- The links of a sketch one direction each, by the nodes that they join.
+-- The links of a network file, one for each direction, by the nodes that they join.
 use Rattle.std.specs.Prelude.{ℕ, ◌++◌, List, [], ◌∷◌, ◌==◌, ◌&&◌, Bool, true, false, if◌then◌else◌, count_by, filter, find, length, map, nat_le, not, ok_or}
 use Rattle.std.specs.Prelude.{option_map, slice_get, Option, Some, None, Result, Ok, Err, suc}
 use Rattle.std.specs.Option.{option_map_or}
@@ -18,25 +18,25 @@ use Rattle.cqf_sketch.specs.declared.draft.OneWay.{OneWay}
 use Rattle.cqf_sketch.specs.declared.faults.SketchFault.{SketchFault}
 use Rattle.cqf_sketch.specs.declared.faults.SketchFault.TheVariants as fault
 
--- a link in one direction, from a bridge or a station, and its element's place in the text
+-- a link in one direction, from a bridge or a station, and the index of its element in the text
 pub record Edge : Type 0 where
   pub from : Node
   pub to : Node
   pub times : LinkTimes
   pub element : ℕ
 
--- the node of a name: a bridge, or else a station
+-- the node with a name: a bridge, or else a station
 abbrev pub end_named : List (List ℕ) → List (List ℕ) → List ℕ → Option Node
 end_named bridges stations name = node_or (place_of name bridges) (place_of name stations)
 
--- whether a link may lead from a node to a node: between two bridges, or between a bridge and a station
+-- whether a link can lead from one node to another: between two different bridges, or between a bridge and a station
 abbrev pub may_lead : Node → Node → Bool
 may_lead (Bridge a) (Bridge b) = not (a == b)
 may_lead (Bridge a) (Station s) = true
 may_lead (Station s) (Bridge b) = true
 may_lead (Station s) (Station t) = false
 
--- a link there, with its ends found, or the name that is no such end
+-- a link in its written direction, with its ends found; otherwise the name that is no such end, as a fault
 abbrev pub joined_edge : List (List ℕ) → List (List ℕ) → ℕ → OneWay → Result Edge SketchFault
 joined_edge bridges stations element way =
     and_then (ok_or (end_named bridges stations way.from) (fault.Domain (domain.UnknownName way.from))) (λ from.
@@ -45,7 +45,7 @@ joined_edge bridges stations element way =
     then Ok (record { from = from; to = to; times = way.times; element = element })
     else Err (fault.Domain (domain.UnknownName way.to))))
 
--- the same link back, and a link's directions, there before back
+-- the same link in the opposite direction; and a link's directions, the written one first
 abbrev pub back_of : Edge → Edge
 back_of edge = record { from = edge.to; to = edge.from; times = edge.times; element = edge.element }
 
@@ -53,21 +53,21 @@ abbrev pub edges_of : Bool → Edge → List Edge
 edges_of true edge = edge ∷ back_of edge ∷ []
 edges_of false edge = edge ∷ []
 
--- each link of the text from an element on, with its ends found, or the first fault
+-- the directions of each link of the text, its elements numbered from the given one; or the first fault
 abbrev pub joined : List (List ℕ) → List (List ℕ) → ℕ → List SketchLink → Result (List Edge) SketchFault
 joined bridges stations element [] = Ok []
 joined bridges stations element (link ∷ links) =
     and_then (joined_edge bridges stations element link.there) (λ edge.
     with_front (edges_of link.duplex edge) (joined bridges stations (suc element) links))
 
--- both ends, and whether two pairs of nodes are the same
+-- both ends of a link; and whether two pairs of nodes are the same
 abbrev pub ends_of : Edge → Node × Node
 ends_of edge = (edge.from, edge.to)
 
 abbrev pub same_pair : Node × Node → Node × Node → Bool
 same_pair a b = same_node a.0 b.0 && same_node a.1 b.1
 
--- the place of the first pair that stood earlier
+-- the index of the first pair that occurred earlier
 abbrev pub first_repeat : List (Node × Node) → List (Node × Node) → Option ℕ
 first_repeat earlier [] = None
 first_repeat earlier (pair ∷ pairs) = if list_any (same_pair pair) earlier then Some (length earlier) else first_repeat (earlier ++ pair ∷ []) pairs
@@ -76,7 +76,8 @@ first_repeat earlier (pair ∷ pairs) = if list_any (same_pair pair) earlier the
 abbrev pub pair_of : End × End → Node × Node
 pair_of ends = (node_of ends.0, node_of ends.1)
 
--- whether a node is a station, and whether an edge is a talker's link; the others are the plant's
+-- whether a node is a station; and whether an edge is a talker's link, that is whether it leaves a station. The other
+-- edges are the plan's links
 abbrev pub is_station : Node → Bool
 is_station (Bridge b) = false
 is_station (Station s) = true
@@ -87,7 +88,7 @@ is_talkers edge = is_station edge.from
 abbrev pub talkers_of : List Edge → List Edge
 talkers_of edges = filter is_talkers edges
 
--- the element of the edge at a place, and the node that it leaves
+-- the element of the edge at an index, and the node that it leaves
 abbrev pub element_at : List Edge → ℕ → ℕ
 element_at edges place = option_map_or (λ (edge : Edge). edge.element) (slice_get edges place) 0
 
@@ -98,19 +99,20 @@ from_at edges place = option_map_or (λ (edge : Edge). edge.from) (slice_get edg
 abbrev pub first_twice : List Edge → Option ℕ
 first_twice edges = option_map (element_at edges) (first_repeat [] (map ends_of edges))
 
--- the first station that a talker's link leaves, where an earlier one does
+-- the first station that a talker's link leaves and an earlier talker's link leaves too
 abbrev pub from_alone : Edge → Node × Node
 from_alone edge = (edge.from, edge.from)
 
 abbrev pub first_again : List Edge → Option Node
 first_again edges = option_map (from_at edges) (first_repeat [] (map from_alone edges))
 
--- a guard time reaches each of some cycle times
+-- whether a guard band is at least as long as each of the cycle times
 abbrev pub reaches_each : List ℕ → ℕ → Bool
 reaches_each cycles guard = list_all (λ cycle. nat_le cycle guard) cycles
 
--- of an edge of the plant: its guard time reaches each candidate; its greatest delay and how far clocks may be apart, together, aren't below
--- its guard time; its gap behind a frame is above it; and clocks may be further apart than a shortest frame and the least delay take together
+-- whether an edge is a link of the plan and, respectively: its guard band is at least as long as each candidate; its
+-- greatest delay and how far clocks may differ, together, aren't below its guard band; the gap after a frame takes
+-- longer than its guard band; clocks may differ by more than a shortest frame and its least delay take together
 abbrev pub has_long_guard : List ℕ → ℕ → Edge → Bool
 has_long_guard candidates guard edge = not (is_talkers edge) && reaches_each candidates (guard_within guard edge.times)
 
@@ -123,7 +125,7 @@ has_long_gap guard edge = not (is_talkers edge) && is_gap_long guard edge.times
 abbrev pub has_long_sync : ℕ → Edge → Bool
 has_long_sync sync edge = not (is_talkers edge) && is_sync_long sync edge.times
 
--- the element of the first edge that is so
+-- the element of the first edge that passes a test
 abbrev pub first_such : (Edge → Bool) → List Edge → Option ℕ
 first_such test edges = option_map (λ (edge : Edge). edge.element) (find test edges)
 
@@ -139,6 +141,6 @@ first_long_gap guard edges = first_such (has_long_gap guard) edges
 abbrev pub first_long_sync : ℕ → List Edge → Option ℕ
 first_long_sync sync edges = first_such (has_long_sync sync) edges
 
--- how many edges are the plant's
+-- how many edges are links of the plan
 abbrev pub plant_count : List Edge → ℕ
 plant_count edges = count_by (λ edge. not (is_talkers edge)) edges

@@ -1,4 +1,4 @@
--- Sets of nodes in which a way may end, and the links that lead into them.
+-- Sets of nodes in which a path may end, and the links that lead into them.
 use Rattle.std.specs.Prelude.{ℕ, ◌≡◌, ◌<◌, Bool, true, false, if◌then◌else◌, List, Option, None, slice_index_or}
 use Rattle.cqf_model.specs.declared.topology.Link.{Link}
 use Rattle.cqf_model.specs.declared.topology.Node.{Node}
@@ -9,27 +9,29 @@ use Rattle.cqf_sketch.specs.declared.way_ends.Ends.TheVariants as ends
 use Rattle.cqf_sketch.specs.Steps.{LeadsInto, SomeLeadsInto}
 use Rattle.cqf_sketch.specs.Ways.{led_to}
 
--- whether a node is in a set of bridges, which has a mark for each of theirs
+-- whether a node is in a set of bridges that is given by a mark for each bridge
 abbrev pub is_marked : List Bool → Node → Bool
 is_marked marks (Bridge bridge) = slice_index_or marks bridge false
 is_marked marks (Station station) = false
 
--- whether a node is in a set: the one node, or the marked bridges
+-- whether a node is in a set: the single node, or the marked bridges
 abbrev pub is_in : Ends → Node → Bool
 is_in (ends.Only only) node = same_node only node
 is_in (ends.Bridges marks) node = is_marked marks node
 
--- the node that a link with room leads to from a node
+-- the node to which a link leads from a node, if the link has room
 abbrev pub open_to : List Link → (ℕ → Bool) → Node → ℕ → Option Node
 open_to links room node l = if room l then led_to links node l else None
 
--- a bridge is marked in addition just where a link leads from it into a set
+-- link l adds marks: marked bridges stay marked, and another bridge is marked if and only if link l leads from it into
+-- the set
 pub record IsMarkedBy (next : Node → ℕ → Option Node) (ends : Node → Bool) (l : ℕ) (before after : List Bool) : Type 0 where
   pub kept : (node : Node) → is_marked before node ≡ true → is_marked after node ≡ true
   pub added : (node end : Node) → LeadsInto next ends node l end → is_marked after node ≡ true
   pub others : (node : Node) → is_marked after node ≡ true → is_marked before node ≡ false → (end : Node) × LeadsInto next ends node l end
 
--- by the first so many links: a bridge is marked just where one of them leads from it into a set
+-- the marks by the first `count` links: a bridge from which one of them leads into the set is marked, and from each
+-- marked bridge some link leads into it
 pub record AreMarked (next : Node → ℕ → Option Node) (ends : Node → Bool) (count : ℕ) (marks : List Bool) : Type 0 where
   pub leads : (node : Node) → is_marked marks node ≡ true → SomeLeadsInto next ends node
   pub all : (node end : Node) (l : ℕ) → l < count → LeadsInto next ends node l end → is_marked marks node ≡ true

@@ -1,4 +1,4 @@
--- Why a sketch's domain is refused, and how that is told.
+-- Why the domain of a network file is refused, and the text of that fault.
 use Rattle.std.specs.Prelude.{ℕ, ◌++◌, List, Result, codes}
 use Rattle.std.specs.Result.{result_map_both}
 use Rattle.cqf_topology.specs.declared.toml_faults.TomlFault.{TomlFault}
@@ -13,7 +13,7 @@ sketch_fault_text (fault.Domain found) = domain_fault_text found
 sketch_fault_text fault.BadDuplex = codes "BadValue duplex"
 sketch_fault_text (fault.TwoTalkerLinks station) = codes "TwoTalkerLinks " ++ station
 
--- a fault in reading, as one of the sketch
+-- a fault of reading, as one of a network file
 abbrev pub sketch_fault : TomlFault → SketchFault
 sketch_fault early = fault.Domain (domain_fault early)
 

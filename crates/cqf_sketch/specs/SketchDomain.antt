@@ -1,4 +1,4 @@
--- The domain of a sketch, or the first fault of its text.
+-- The domain of a network file, or the first fault of its text.
 use Rattle.std.specs.Prelude.{ℕ, ◌≡◌, ◌≢◌, ◌<◌, ◌≤◌, List, [], ◌∷◌, ◌||◌, All, AllPairs, Bool, IsTrue, filter, find, length, map, max, nat_lt, not}
 use Rattle.std.specs.Prelude.{option_map, slice_index_or, unwrap_or, Option, None, Result, Ok}
 use Rattle.std.specs.List.{list_any}
@@ -21,8 +21,9 @@ use Rattle.cqf_sketch.specs.Edges.{Edge, first_again, first_long_delay, first_lo
 use Rattle.cqf_sketch.specs.Edges.{is_talkers, joined, plant_count, reaches_each, talkers_of}
 use Rattle.cqf_sketch.specs.SketchText.{SketchText, sketch_of_text}
 
--- a sketch's domain: its limits, candidates for the cycle time, in the order of wish, the guard time, how far clocks may be apart, names by
--- number, the plant's links by number, and the talkers' links
+-- the domain of a network file: its limits, the candidates for the cycle time in the order of preference, the guard
+-- band, how far clocks may differ, names by number, the plan's links by number, and the talkers' links. Times are in
+-- nanoseconds
 pub record SketchDomain : Type 0 where
   pub limits : Limits
   pub candidates : List ℕ
@@ -33,16 +34,16 @@ pub record SketchDomain : Type 0 where
   pub links : List Link
   pub talkers : List TalkerLink
 
--- the plant's domain with a cycle time, within the sketch's limits
+-- the plan's domain with a given cycle time, within the file's limits
 abbrev pub domain_at : SketchDomain → ℕ → Domain
 domain_at sketch cycle_time = domain_with sketch.limits cycle_time sketch.guard sketch.sync sketch.bridges sketch.stations sketch.links
 
--- what a cycle may take, in nanoseconds
+-- the range of a cycle time, in nanoseconds
 pub record IsCycleTime (cycle_time : ℕ) : Type 0 where
   pub least : 10000 ≤ cycle_time
   pub most : cycle_time ≤ longest_cycle
 
--- the longest guard time of some links, where that of each other is this
+-- the longest guard band of the links; a link without its own has the given one
 abbrev pub longest_of : ℕ → List Link → ℕ
 longest_of guard [] = guard
 longest_of guard (link ∷ links) = longest_of (max guard (guard_by guard link)) links
@@ -50,12 +51,12 @@ longest_of guard (link ∷ links) = longest_of (max guard (guard_by guard link))
 abbrev pub longest_guard : SketchDomain → ℕ
 longest_guard sketch = longest_of sketch.guard sketch.links
 
--- a cycle time is open to a sketch: the plant can have it, for each guard time is below it
+-- a cycle time is open: it is in its range and longer than each guard band, so the plan can have it
 pub record IsOpenCycle (sketch : SketchDomain) (cycle_time : ℕ) : Type 0 where
   pub in_range : IsCycleTime cycle_time
   pub above_guards : longest_guard sketch < cycle_time
 
--- the first candidate above each guard time
+-- the first candidate that is longer than each guard band
 abbrev pub open_cycle : SketchDomain → ℕ
 open_cycle sketch = unwrap_or (find (nat_lt (longest_guard sketch)) sketch.candidates) 0
 
@@ -65,31 +66,31 @@ pub record AreCandidates (cycles : List ℕ) : Type 0 where
   pub few_cycles : length cycles ≤ 1000
   pub cycle_times : All IsCycleTime cycles
 
--- a talker's link leaves a station of the sketch and ends in one of its bridges
+-- a talker's link leaves a station of the file and ends in one of its bridges
 pub record IsTalkerLink (sketch : SketchDomain) (link : TalkerLink) : Type 0 where
   pub station_there : link.station < length sketch.stations
   pub bridge_there : link.bridge < length sketch.bridges
   pub delay_most : link.delay ≤ longest_cycle
 
--- so does each, and no station has two
+-- this holds for each talker's link, and no station has two
 pub record HasTalkerLinks (sketch : SketchDomain) : Type 0 where
   pub each_there : All (IsTalkerLink sketch) sketch.talkers
   pub station_once : AllPairs (λ (a b : TalkerLink). a.station ≢ b.station) sketch.talkers
 
--- what a sketch's text gives: with each cycle time that is open the plant's domain is accepted, its names are apart and no link
--- stands twice; some candidate is open; and talkers' links are the sketch's
+-- what the text of a network file yields: with each open cycle time the plan's domain is accepted, names differ and no
+-- link occurs twice; some candidate is open; and talkers' links join stations and bridges of the file
 pub record IsSketch (sketch : SketchDomain) : Type 0 where
   pub domains : (cycle_time : ℕ) → IsOpenCycle sketch cycle_time → IsDomain (domain_at sketch cycle_time)
   pub are_candidates : AreCandidates sketch.candidates
   pub some_open : IsTrue (list_any (nat_lt (longest_guard sketch)) sketch.candidates)
   pub has_talkers : HasTalkerLinks sketch
 
--- the number of a node among its like
+-- the number of a bridge among the bridges, or of a station among the stations
 abbrev pub number_of : Node → ℕ
 number_of (Bridge b) = b
 number_of (Station s) = s
 
--- the plant's edges, and a link of the plant and a talker's link by their edges
+-- the edges that are links of the plan; and the link of the plan, or the talker's link, of an edge
 abbrev pub plant_of : List Edge → List Edge
 plant_of edges = filter (λ edge. not (is_talkers edge)) edges
 
@@ -103,21 +104,21 @@ talker_of edge = record { station = number_of edge.from; bridge = number_of edge
 abbrev pub station_named : List (List ℕ) → Node → List ℕ
 station_named stations node = slice_index_or stations (number_of node) []
 
--- the first station that gets a second talker's link
+-- the first station with a second talker's link
 abbrev pub second_talker : SketchText → List Edge → Option (List ℕ)
 second_talker text edges = option_map (station_named text.stations) (first_again (talkers_of edges))
 
--- there are more bridges, stations or links of the plant than a domain may have
+-- whether there are more bridges, stations or links of the plan than a domain may have
 abbrev pub is_too_many : SketchText → List Edge → Bool
 is_too_many text edges =
     nat_lt (bridges_within text.limits) (length text.bridges) || nat_lt (stations_within text.limits) (length text.stations)
     || nat_lt (links_within text.limits) (plant_count edges)
 
--- the guard time reaches each candidate, and so the greatest
+-- whether the guard band is at least as long as each candidate, and so as the longest
 abbrev pub is_guard_too_long : SketchText → Bool
 is_guard_too_long text = reaches_each text.candidates text.guard
 
--- the domain that the text says, with these edges
+-- the domain of the text with these edges
 abbrev pub sketch_with : SketchText → List Edge → SketchDomain
 sketch_with text edges = record {
   limits = text.limits;
@@ -130,7 +131,7 @@ sketch_with text edges = record {
   talkers = map talker_of (talkers_of edges);
 }
 
--- the domain that the text says, or the first check that it fails, each made over the whole before the next
+-- the domain of the text, or the first check that it fails. Each check is made over the whole file before the next
 abbrev pub with_edges : SketchText → List Edge → Result SketchDomain SketchFault
 with_edges text edges =
     refuse (first_twice edges) (λ element. fault.Domain (domain.LinkTwice element)) (
@@ -143,26 +144,27 @@ with_edges text edges =
     refuse (first_long_sync text.sync edges) (λ element. fault.Domain (domain.SyncTooLong element)) (
     Ok (sketch_with text edges)))))))))
 
--- a name that stood earlier, as a fault
+-- a name that occurred earlier, as a fault
 abbrev pub name_taken : List ℕ → SketchFault
 name_taken name = fault.Domain (domain.NameTaken name)
 
--- the domain that the text says, where the names are numbered
+-- the domain of a text whose names are numbered
 abbrev pub with_names : SketchText → Result SketchDomain SketchFault
 with_names text = and_then (joined text.bridges text.stations 0 text.links) (with_edges text)
 
--- the checks of its names and ends come before the others: that each bridge's name and then each station's stands nowhere earlier
+-- checks names before all else: first that no bridge's name, then that no station's name, occurred earlier
 abbrev pub checked : SketchText → Result SketchDomain SketchFault
 checked text =
     refuse (first_taken [] text.bridges) name_taken (
     refuse (first_taken text.bridges text.stations) name_taken (
     with_names text))
 
--- the domain that a sketch's text means within some limits, or its first fault
+-- the domain of a network file's text within given limits, or its first fault. If candidates are given, they replace
+-- those of the text
 abbrev pub sketch_domain_of_text : Limits → Option (List ℕ) → List ℕ → Result SketchDomain SketchFault
 sketch_domain_of_text limits given text = and_then (sketch_of_text limits given text) checked
 
--- a node is one of so many bridges and stations, and so are both ends of an edge
+-- a node's number is below the given number of bridges or stations; and so for both ends of an edge
 abbrev pub NodeInside : ℕ → ℕ → Node → Type 0
 NodeInside bridges stations (Bridge b) = b < bridges
 NodeInside bridges stations (Station s) = s < stations
@@ -171,12 +173,12 @@ pub record EdgeInside (bridges stations : ℕ) (edge : Edge) : Type 0 where
   pub from_inside : NodeInside bridges stations edge.from
   pub to_inside : NodeInside bridges stations edge.to
 
--- a talker's edge leaves one of so many stations
+-- a talker's edge leaves a station whose number is below the given one
 abbrev pub StationInside : ℕ → Node → Type 0
 StationInside stations (Bridge b) = ⊥
 StationInside stations (Station s) = s < stations
 
--- what the ranges and forms of the values give, where candidates that are given are such
+-- the ranges and forms of values that are read, provided that given candidates have them
 pub record IsReadableSketch (text : SketchText) : Type 0 where
   pub are_candidates : AreCandidates text.candidates
   pub guard_some : 0 < text.guard
@@ -186,7 +188,7 @@ pub record IsReadableSketch (text : SketchText) : Type 0 where
   pub stations_named : All (λ name. IsTrue (is_name name)) text.stations
   pub times_are_read : All (λ (link : SketchLink). AreReadTimes link.there.times) text.links
 
--- a text's names by number: none of them stands twice
+-- the names of a text, by number: no name occurs twice
 pub record HasNumberedNames (text : SketchText) (bridges stations : List (List ℕ)) : Type 0 where
   pub readable : IsReadableSketch text
   pub bridges_are : bridges ≡ text.bridges
@@ -194,7 +196,7 @@ pub record HasNumberedNames (text : SketchText) (bridges stations : List (List �
   pub bridges_apart : first_taken [] text.bridges ≡ None
   pub stations_apart : first_taken text.bridges text.stations ≡ None
 
--- its links, one direction each by number: the checks passed them
+-- the links of a text, one for each direction, by number: they passed the checks
 pub record AreCheckedEdges (text : SketchText) (edges : List Edge) : Type 0 where
   pub joined_are : joined text.bridges text.stations 0 text.links ≡ Ok edges
   pub passed : with_edges text edges ≡ Ok (sketch_with text edges)

@@ -1,4 +1,4 @@
--- What the text of a sketch's domain says, before it is asked whether a network can be like that.
+-- What the text of a network file's domain says, before any check whether such a network can exist.
 use Rattle.std.specs.Prelude.{ℕ, List, [], ◌∷◌, ◌&&◌, Bool, false, if◌then◌else◌, codes, length, nat_le, Option, Some, None, ok_or, Result, Ok, Err}
 use Rattle.toml.specs.Data.{Data, Items, Members, as_array, as_bool, as_table, get_member}
 use Rattle.cqf_lists.specs.Results.{and_then}
@@ -16,8 +16,8 @@ use Rattle.cqf_sketch.specs.declared.faults.SketchFault.{SketchFault}
 use Rattle.cqf_sketch.specs.declared.faults.SketchFault.TheVariants.{BadDuplex}
 use Rattle.cqf_sketch.specs.Faults.{or_sketch, sketch_fault}
 
--- what a sketch's domain says: the candidates for its cycle time, in the order of wish, times in nanoseconds, names, and links by
--- the names of their ends; and the limits within which it is read
+-- the domain of a network file as its text says it: the candidates for its cycle time in the order of preference, times
+-- in nanoseconds, names, and links by the names of their ends; and the limits within which it is read
 pub record SketchText : Type 0 where
   pub limits : Limits
   pub candidates : List ℕ
@@ -27,23 +27,23 @@ pub record SketchText : Type 0 where
   pub stations : List (List ℕ)
   pub links : List SketchLink
 
--- the keys that it owes, in reading order: where candidates are given, that of the cycle time isn't read
+-- the required keys, in reading order. If candidates are given, `cycle` isn't read
 abbrev pub sketch_keys : Option (List ℕ) → List Key
 sketch_keys None = domain_keys
 sketch_keys (Some given) = Guard ∷ Bridges ∷ Stations ∷ Links ∷ []
 
--- a cycle time, and some
+-- one cycle time, and a list of them
 abbrev pub cycle_from : Data → Option ℕ
 cycle_from d = number_from 10000 10000000 d
 
 abbrev pub cycles_from : Items → Result (List ℕ) TomlFault
 cycles_from items = each_from (λ d. ok_or (cycle_from d) (BadValue Cycle)) items
 
--- 1 to 1,000 of them
+-- checks that there are 1 to 1,000
 abbrev pub some_few : List ℕ → Result (List ℕ) TomlFault
 some_few cycles = if nat_le 1 (length cycles) && nat_le (length cycles) 1000 then Ok cycles else Err (BadValue Cycle)
 
--- the candidates that a value means: one cycle time, or an array of them
+-- the candidates of a value: one cycle time, or an array of them
 abbrev pub candidates_by : Option Items → Data → Result (List ℕ) TomlFault
 candidates_by None d = and_then (ok_or (cycle_from d) (BadValue Cycle)) (λ cycle. Ok (cycle ∷ []))
 candidates_by (Some items) d = and_then (cycles_from items) some_few
@@ -51,7 +51,7 @@ candidates_by (Some items) d = and_then (cycles_from items) some_few
 abbrev pub candidates_from : Data → Result (List ℕ) TomlFault
 candidates_from d = candidates_by (as_array d) d
 
--- those of a domain's table, where none are given
+-- the candidates of a domain's table; given candidates replace them
 abbrev pub candidates_of : Option Data → Result (List ℕ) TomlFault
 candidates_of None = Err (BadValue Cycle)
 candidates_of (Some d) = candidates_from d
@@ -60,7 +60,7 @@ abbrev pub candidates_read : Option (List ℕ) → Members → Result (List ℕ)
 candidates_read None table = candidates_of (value_at Cycle table)
 candidates_read (Some given) table = Ok given
 
--- whether a link stands for two, there and back
+-- whether a link has both directions
 abbrev pub duplex_by : Option Data → Result Bool SketchFault
 duplex_by None = Ok false
 duplex_by (Some d) = ok_or (as_bool d) BadDuplex
@@ -68,7 +68,7 @@ duplex_by (Some d) = ok_or (as_bool d) BadDuplex
 abbrev pub duplex_at : Members → Result Bool SketchFault
 duplex_at table = duplex_by (get_member (codes "duplex") table)
 
--- a link's table: there, and whether back
+-- a link's table: its written direction, and whether it also has the opposite one
 abbrev pub one_way_read : Members → Result OneWay TomlFault
 one_way_read table =
     and_then (read_at From name_from table) (λ from.
@@ -82,7 +82,7 @@ link_read table =
     and_then (duplex_at table) (λ duplex.
     Ok (record { there = there; duplex = duplex })))
 
--- the elements of the array of links, each a table
+-- the elements of the array of links; each must be a table
 abbrev pub links_from : Items → Result (List SketchLink) SketchFault
 links_from items = each_from (λ d. and_then (ok_or (as_table d) (sketch_fault (BadValue Links))) link_read) items
 
@@ -92,7 +92,7 @@ links_of_array items = if are_tables items then links_from items else Err (sketc
 abbrev pub links_read : Members → Result (List SketchLink) SketchFault
 links_read table = and_then (or_sketch (read_at Links as_array table)) links_of_array
 
--- a domain's table
+-- the domain's table
 abbrev pub sketch_from : Limits → Option (List ℕ) → Members → Result SketchText SketchFault
 sketch_from limits given table =
     and_then (or_sketch (candidates_read given table)) (λ candidates.
@@ -103,6 +103,6 @@ sketch_from limits given table =
     and_then (links_read table) (λ links.
     Ok (record { limits = limits; candidates = candidates; guard = guard; sync = sync; bridges = bridges; stations = stations; links = links })))))))
 
--- what a sketch's domain says, or its first fault in being read
+-- what the domain of a network file's text says, or the first fault of reading it
 abbrev pub sketch_of_text : Limits → Option (List ℕ) → List ℕ → Result SketchText SketchFault
 sketch_of_text limits given text = and_then (or_sketch (whole_document (sketch_keys given) Links link_keys text)) (sketch_from limits given)

@@ -1,12 +1,13 @@
--- Going by numbered steps, whatever is gone over: where steps lead, and the first way into a set.
+-- Paths by numbered steps, over nodes of any type: where steps lead, and the first path into a set.
 use Rattle.std.specs.Prelude.{ℕ, ◌≡◌, ◌≤◌, Bool, true, false, ◌==◌, if◌then◌else◌, nat_lt, List, [], ◌∷◌, length, Option, Some, option_and_then}
 
--- where some steps lead, one behind the other, where each can be taken
+-- where a list of steps leads from a node, if each step can be taken
 abbrev pub led_along : {N : Type 0} → (N → ℕ → Option N) → N → List ℕ → Option N
 led_along next node [] = Some node
 led_along next node (step ∷ way) = option_and_then (λ end. led_along next end way) (next node step)
 
--- of two ways of one length, whether the first comes before the second: where they first differ, its step has the lower number
+-- whether the first of two paths of one length comes before the second: its step has the lower number where they first
+-- differ
 abbrev pub is_before : List ℕ → List ℕ → Bool
 is_before [] other = false
 is_before (step ∷ way) [] = false
@@ -17,34 +18,34 @@ pub record LeadsInto {N : Type 0} (next : N → ℕ → Option N) (ends : N → 
   pub leads : next node step ≡ Some end
   pub inside : ends end ≡ true
 
--- some step does
+-- some step leads from the node into the set
 pub record SomeLeadsInto {N : Type 0} (next : N → ℕ → Option N) (ends : N → Bool) (node : N) : Type 0 where
   pub step : ℕ
   pub end : N
   pub leads : LeadsInto next ends node step end
 
--- it is the first step that does
+-- it is the step with the lowest number that leads into the set
 pub record IsFirstStep {N : Type 0} (next : N → ℕ → Option N) (ends : N → Bool) (node : N) (step : ℕ) (end : N) : Type 0 where
   pub leads : LeadsInto next ends node step end
   pub least : (other : ℕ) (there : N) → LeadsInto next ends node other there → step ≤ other
 
--- one set has just the nodes from which some step leads into another
+-- the set `before` has exactly the nodes from which some step leads into the set `ends`
 pub record AreBefore {N : Type 0} (next : N → ℕ → Option N) (ends before : N → Bool) : Type 0 where
   pub leads : (node : N) → before node ≡ true → SomeLeadsInto next ends node
   pub all : (node : N) → SomeLeadsInto next ends node → before node ≡ true
 
--- a way leads from a node into a set
+-- a path leads from a node into a set
 pub record WayInto {N : Type 0} (next : N → ℕ → Option N) (ends : N → Bool) (from : N) (way : List ℕ) (end : N) : Type 0 where
   pub leads : led_along next from way ≡ Some end
   pub inside : ends end ≡ true
 
--- it is the first: no other is shorter, and none as short comes before it
+-- it is the first such path: no other is shorter, and none of the same length comes before it
 pub record IsFirstInto {N : Type 0} (next : N → ℕ → Option N) (ends : N → Bool) (from : N) (way : List ℕ) (end : N) : Type 0 where
   pub into : WayInto next ends from way end
   pub shortest : (other : List ℕ) (there : N) → WayInto next ends from other there → length way ≤ length other
   pub least : (other : List ℕ) (there : N) → WayInto next ends from other there → length other ≡ length way → is_before other way ≡ false
 
--- no step leads from the node into the set, and no way of at most so many steps
+-- no step leads from the node into the set; and no path of at most `most` steps does
 abbrev pub NoneLeadsInto : {N : Type 0} → (N → ℕ → Option N) → (N → Bool) → N → Type 0
 NoneLeadsInto {N} next ends node = (step : ℕ) (end : N) → ¬ LeadsInto next ends node step end
 

@@ -1,4 +1,4 @@
--- The streams of a sketch, or the first fault of their text.
+-- The streams of a network file, or the first fault of their text.
 use Rattle.std.specs.Prelude.{ℕ, List, [], ◌∷◌, ◌++◌, ◌&&◌, ◌||◌, Bool, true, false, codes, if◌then◌else◌, find, is_none, is_some, length, map, nat_le, Option, Some, None, ok_or}
 use Rattle.std.specs.Prelude.{option_and_then, option_map, Result, Ok, Err, string_bytes}
 use Rattle.std.specs.Option.{option_or}
@@ -22,13 +22,13 @@ use Rattle.cqf_sketch.specs.declared.wanted.WantedWay.{WantedWay}
 use Rattle.cqf_sketch.specs.declared.wanted.WantedWay.TheVariants as wanted
 use Rattle.cqf_sketch.specs.declared.streams.Stream.{Stream}
 
--- which way a stream is to go: along given branches, or from a talker or bridge to its listeners
+-- the path that a stream is to take: along given branches, or from a talker or bridge to its listeners
 pub data WantedText : Type 0 where
   Along : List (List (List ℕ)) → WantedText
   Between : List ℕ → List (List ℕ) → WantedText
 
--- a stream of a sketch: its name, its octets a cycle where the text says them, in which cycles it is offered, its way, its deadline and
--- its traffic
+-- a stream of a network file: its name, its octets per cycle if the text gives them, the cycles in which it is offered,
+-- its path, its deadline and its traffic
 pub record StreamText : Type 0 where
   pub name : List ℕ
   pub octets : Option ℕ
@@ -55,18 +55,18 @@ stream_text stream = record {
 abbrev pub has_path : Members → Bool
 has_path table = is_some (value_at Path table) || is_some (value_at Paths table)
 
--- the keys that a stream's table owes but for its traffic: its octets where there is no traffic, and its ends where no branches
--- are given
+-- the keys that a stream's table must have, apart from those of traffic: `octets` if there is no traffic, and the ends
+-- if no branches are given
 abbrev pub owed_keys : Members → List Key
 owed_keys table = Name ∷ ((if has_traffic table then [] else Octets ∷ []) ++ (if has_path table then [] else From ∷ To ∷ []))
 
--- what it lacks first
+-- the first key that it lacks
 abbrev pub first_lack : Members → Option FlowsFault
 first_lack table =
     option_or (option_map (λ key. flows_fault.Streams (toml_fault.Missing key)) (first_absent (owed_keys table) table))
     (option_map flows_fault.Missing (first_owed table))
 
--- the same over the elements of an array, in order, those that are tables
+-- the same over the elements of an array, in order; elements that aren't tables are skipped
 abbrev pub first_lack_within : Items → Option FlowsFault
 first_lack_within no_items = None
 first_lack_within (item d ds) = option_or (option_and_then first_lack (as_table d)) (first_lack_within ds)
@@ -74,7 +74,7 @@ first_lack_within (item d ds) = option_or (option_and_then first_lack (as_table 
 abbrev pub first_lack_of : Members → Option FlowsFault
 first_lack_of table = option_and_then first_lack_within (option_and_then as_array (value_at Streams table))
 
--- the octets of a stream, by what stands there
+-- the octets of a stream, if the key is there
 abbrev pub octets_by : Option Data → Members → Result (Option ℕ) TomlFault
 octets_by None table = Ok None
 octets_by (Some d) table = and_then (read_at Octets (number_from 0 4294967295) table) (λ octets. Ok (Some octets))
@@ -82,7 +82,7 @@ octets_by (Some d) table = and_then (read_at Octets (number_from 0 4294967295) t
 abbrev pub octets_from : Members → Result (Option ℕ) TomlFault
 octets_from table = octets_by (value_at Octets table) table
 
--- whether a stream's talker is in step with the network, by what stands there
+-- whether a stream's talker is in step with the network; not if the key is absent
 abbrev pub in_step_by : Option Data → Result Bool FlowsFault
 in_step_by None = Ok false
 in_step_by (Some d) = ok_or (as_bool d) flows_fault.BadInStep
@@ -90,12 +90,12 @@ in_step_by (Some d) = ok_or (as_bool d) flows_fault.BadInStep
 abbrev pub in_step_at : Members → Result Bool FlowsFault
 in_step_at table = in_step_by (get_member (codes "in-step") table)
 
--- the first key that stands there and says in which cycles it is offered
+-- the first key in the table that says in which cycles the stream is offered
 abbrev pub first_given : Members → Option Key
 first_given table = find (λ key. is_some (value_at key table)) (Every ∷ Phase ∷ [])
 
--- in which cycles it is offered: in one of so many, of which the first has this phase; or, where its talker is in step, in those that the
--- plan says, and then no key may say it too
+-- the cycles in which a stream is offered: one of every `every`, the first being `phase`. If its talker is in step, the
+-- plan chooses them, and neither key may be there
 abbrev pub pacing_by : ℕ → ℕ → Bool → Members → Result Pacing FlowsFault
 pacing_by every phase false table = Ok (Given every phase)
 pacing_by every phase true table = refuse (first_given table) (λ key. flows_fault.Streams (toml_fault.BadValue key)) (Ok InStep)
@@ -107,16 +107,16 @@ pacing_from table =
     and_then (in_step_at table) (λ in_step.
     pacing_by every phase in_step table)))
 
--- the first end that stands there
+-- the first end in the table
 abbrev pub first_end : Members → Option Key
 first_end table = find (λ key. is_some (value_at key table)) (From ∷ To ∷ [])
 
--- 1 to 64 listeners, all different
+-- checks that there are 1 to 64 listeners, all different
 abbrev pub if_listeners : List (List ℕ) → Result (List (List ℕ)) TomlFault
 if_listeners names =
     if nat_le 1 (length names) && nat_le (length names) 64 && is_none (first_taken [] names) then Ok names else Err (toml_fault.BadValue To)
 
--- the listeners that a value means: a name, or an array of them
+-- the listeners of a value: a name, or an array of names
 abbrev pub listeners_by : Option Items → Data → Result (List (List ℕ)) TomlFault
 listeners_by None d = and_then (ok_or (name_from d) (toml_fault.BadValue To)) (λ name. Ok (name ∷ []))
 listeners_by (Some items) d = and_then (names_from To items) if_listeners
@@ -125,7 +125,7 @@ abbrev pub listeners_of : Option Data → Result (List (List ℕ)) TomlFault
 listeners_of None = Err (toml_fault.BadValue To)
 listeners_of (Some d) = listeners_by (as_array d) d
 
--- the way of a stream's table: given branches, beside which no end may stand, or its ends
+-- the path of a stream's table: given branches, with which no end may be given, or its ends
 abbrev pub along_from : Members → Result WantedText TomlFault
 along_from table = and_then (branches_from table) (λ paths. refuse (first_end table) toml_fault.BadValue (Ok (Along paths)))
 
@@ -138,7 +138,7 @@ between_from table =
 abbrev pub wanted_from : Members → Result WantedText TomlFault
 wanted_from table = if has_path table then along_from table else between_from table
 
--- a stream's table: its traffic is read behind its other keys
+-- a stream's table; its traffic is read after its other keys
 abbrev pub stream_from : Members → Result StreamText FlowsFault
 stream_from table =
     and_then (or_streams (read_at Name as_str table)) (λ name.
@@ -149,7 +149,7 @@ stream_from table =
     and_then (traffic_or table) (λ traffic.
     Ok (record { name = name; octets = octets; pacing = pacing; way = way; deadline = deadline; traffic = traffic })))))))
 
--- the elements of the array of streams, each a table
+-- the elements of the array of streams; each must be a table
 abbrev pub streams_from : Items → Result (List StreamText) FlowsFault
 streams_from items = each_from (λ d. and_then (ok_or (as_table d) (flows_fault.Streams (toml_fault.BadValue Streams))) stream_from) items
 
@@ -160,7 +160,7 @@ streams_of_array items = if are_tables items then streams_from items else Err (f
 abbrev pub streams_in : Members → Result (List StreamText) FlowsFault
 streams_in table = and_then (or_streams (read_at Streams as_array table)) streams_of_array
 
--- the streams of a sketch's text: where it is TOML and no key is missing, each is read
+-- the streams of a network file's text. They are read if it is TOML and no key is missing
 abbrev pub sketch_streams_of_text : List ℕ → Result (List StreamText) FlowsFault
 sketch_streams_of_text text =
     and_then (or_streams (whole_document streams_keys Streams [] text)) (λ table.

@@ -1,4 +1,4 @@
--- What first ways are like, in a planner's words.
+-- Properties of first paths, in a planner's terms.
 use Rattle.std.specs.Prelude.{ℕ, ◌≡◌, ◌≢◌, Bool, true, List, [], ◌∷◌, ◌++◌, length, Some, Contains}
 use Rattle.std.specs.Option.{option_map_or}
 use Rattle.cqf_model.specs.declared.topology.Link.{Link}
@@ -7,18 +7,18 @@ use Rattle.cqf_model.specs.declared.topology.Node.TheVariants.{Station}
 use Rattle.cqf_sketch.specs.Steps.{led_along}
 use Rattle.cqf_sketch.specs.Ways.{IsFirstWay, IsWay, NoWay, has_room, led_to, short_link}
 
--- there is one first way at most
+-- there is at most one first path
 abbrev pub FirstWayIsOne : Type 0
 FirstWayIsOne = (links : List Link) (room : ℕ → Bool) (from to : Node) (way other : List ℕ) → IsFirstWay links room from to way →
     IsFirstWay links room from to other → way ≡ other
 
--- the nodes in which the links of a way end, in order
+-- the nodes in which the links of a path end, in order
 abbrev pub ends_along : List Link → Node → List ℕ → List Node
 ends_along links node [] = []
 ends_along links node (l ∷ way) = option_map_or (λ end. end ∷ ends_along links end way) (led_to links node l) []
 
--- two ways from one node part for good: both go on behind what they have in common, by two links, and from there on no node is
--- an end in both
+-- two paths from one node part for good: after a common beginning they continue by different links, and from there on
+-- no node is an end in both
 pub record PartForGood (links : List Link) (from : Node) (way other : List ℕ) : Type 0 where
   pub common : List ℕ
   pub node : Node
@@ -32,12 +32,12 @@ pub record PartForGood (links : List Link) (from : Node) (way other : List ℕ) 
   pub differ : first ≢ second
   pub apart : (end : Node) → Contains (ends_along links node (first ∷ rest)) end → ¬ Contains (ends_along links node (second ∷ more)) end
 
--- so do the first ways to two stations beside the same room: they are branches of a tree
+-- the first paths to two different stations, with the same room, part for good: they are branches of a tree
 abbrev pub FirstWaysPartForGood : Type 0
 FirstWaysPartForGood = (links : List Link) (room : ℕ → Bool) (from : Node) (station there : ℕ) (way other : List ℕ) → station ≢ there →
     IsFirstWay links room from (Station station) way → IsFirstWay links room from (Station there) other → PartForGood links from way other
 
--- and no node stands twice on a first way
+-- no node occurs twice on a first path
 pub record EndsOnce (links : List Link) (from : Node) (way : List ℕ) : Type 0 where
   pub not_again : ¬ Contains (ends_along links from way) from
   pub once : (front : List ℕ) (l : ℕ) (rest : List ℕ) (node end : Node) → way ≡ front ++ (l ∷ rest) → led_along (led_to links) from front ≡ Some node →
@@ -46,12 +46,12 @@ pub record EndsOnce (links : List Link) (from : Node) (way : List ℕ) : Type 0 
 abbrev pub FirstWaysHaveNoLoop : Type 0
 FirstWaysHaveNoLoop = (links : List Link) (room : ℕ → Bool) (from to : Node) (way : List ℕ) → IsFirstWay links room from to way → EndsOnce links from way
 
--- where there is no way with room, some link of each way without room lacks it
+-- if there is no path with room, each path without that condition has a link without room
 abbrev pub FullWaysHaveAShortLink : Type 0
 FullWaysHaveAShortLink = (links : List Link) (left : List ℕ) (cost : ℕ) (from to : Node) (way : List ℕ) → NoWay links (has_room left cost) from to →
     IsWay links (λ l. true) from to way → (l : ℕ) × (short_link left cost way ≡ Some l)
 
--- at no cost each link has room, where of each it is known what it has left
+-- at a cost of 0, each link has room, provided that what it has left is known
 abbrev pub NothingHasRoomEverywhere : Type 0
 NothingHasRoomEverywhere = (links : List Link) (left : List ℕ) (from to : Node) (way : List ℕ) → length left ≡ length links →
     (IsFirstWay links (has_room left 0) from to way → IsFirstWay links (λ l. true) from to way)

@@ -1,4 +1,4 @@
-//! The checks of a sketch's links: the first that fails each.
+//! The checks of a network file's links. Each finds the first link that fails.
 ghost use Rattle.std.specs.Prelude.{◌≡◌, ◌<◌, All, IfOk, IfSome, Some, length, map, option_map};
 ghost use Rattle.cqf_topology.specs.Fields.{Gives};
 ghost use Rattle.cqf_sketch.specs.SketchDomain.{EdgeInside, StationInside, is_guard_too_long, is_too_many, second_talker, sketch_with, with_edges};
@@ -14,7 +14,7 @@ use cqf_topology::{DomainFault, End};
 use cqf_units::{Memory, Name};
 use std::alloc::Global;
 
-/// Both ends of each link.
+/// Returns both ends of each link.
 fn ends_of_all(alloc: Global, edges: &[JoinedEdge]) -> Result<Vec<(End, End)>, Memory>
     ensures { IfOk result (λ pairs. map pair_of pairs.items ≡ map ends_of edges.now) }
 {
@@ -25,7 +25,7 @@ fn ends_of_all(alloc: Global, edges: &[JoinedEdge]) -> Result<Vec<(End, End)>, M
     Ok(pairs)
 }
 
-/// The node that each link leaves, twice.
+/// Returns the node that each link leaves, twice.
 fn froms_of_all(alloc: Global, edges: &[JoinedEdge]) -> Result<Vec<(End, End)>, Memory>
     ensures { IfOk result (λ pairs. map pair_of pairs.items ≡ map from_alone edges.now) }
 {
@@ -36,7 +36,7 @@ fn froms_of_all(alloc: Global, edges: &[JoinedEdge]) -> Result<Vec<(End, End)>, 
     Ok(pairs)
 }
 
-/// The element of the first link whose ends are those of an earlier one.
+/// Returns the element of the first link whose ends are those of an earlier one.
 pub(crate) fn find_twice(alloc: Global, edges: &[JoinedEdge]) -> Result<Option<usize>, Memory>
     ensures { IfOk result (λ element. element ≡ first_twice edges.now) }
 {
@@ -47,7 +47,7 @@ pub(crate) fn find_twice(alloc: Global, edges: &[JoinedEdge]) -> Result<Option<u
     }
 }
 
-/// The element of the link at a place.
+/// Returns the element of the link at an index.
 fn element_at(edges: &[JoinedEdge], place: usize) -> Option<usize>
     requires { place < length edges.now }
     ensures { result ≡ Some (element_at edges.now place) }
@@ -55,7 +55,7 @@ fn element_at(edges: &[JoinedEdge], place: usize) -> Option<usize>
     Some(edges[place].element())
 }
 
-/// The station that the talker's link at a place leaves.
+/// Returns the station that the talker's link at an index leaves.
 fn station_at(talkers: &[JoinedEdge], place: usize, stations: usize) -> Option<usize>
     requires place { place < length talkers.now }
     requires inside { All (λ edge. StationInside stations edge.from) talkers.now }
@@ -68,7 +68,8 @@ fn station_at(talkers: &[JoinedEdge], place: usize, stations: usize) -> Option<u
     }
 }
 
-/// The station that the first talker's link leaves which an earlier one leaves too. Each leaves one of so many.
+/// Returns the first station that a talker's link leaves and an earlier talker's link leaves too. Each talker's link
+/// leaves a station whose number is below `stations`.
 fn find_again(
     alloc: Global,
     talkers: &[JoinedEdge],
@@ -85,7 +86,7 @@ fn find_again(
     }
 }
 
-/// The first station that gets a second talker's link.
+/// Returns the first station with a second talker's link.
 fn second_talker(
     alloc: Global,
     draft: &SketchDraft,
@@ -101,7 +102,7 @@ fn second_talker(
     }
 }
 
-/// The talkers' links.
+/// Returns the talkers' links.
 pub(crate) fn talkers_of(alloc: Global, edges: &[JoinedEdge]) -> Result<Vec<JoinedEdge>, Memory>
     ensures { IfOk result (λ talkers. talkers.items ≡ talkers_of edges.now) }
 {
@@ -114,14 +115,14 @@ pub(crate) fn talkers_of(alloc: Global, edges: &[JoinedEdge]) -> Result<Vec<Join
     Ok(talkers)
 }
 
-/// Whether a guard time reaches each of the candidates.
+/// Whether a guard band is at least as long as each candidate.
 fn reaches_each(candidates: &[u32], guard: u32) -> bool
     ensures { result ≡ reaches_each candidates.now guard }
 {
     candidates.iter().all(|cycle| *cycle <= guard)
 }
 
-/// Whether the link is the plant's and its guard time reaches each candidate.
+/// Whether the link is one of the plan and its guard band is at least as long as each candidate.
 fn has_long_guard(edge: JoinedEdge, candidates: &[u32], guard: u32) -> bool
     ensures { result ≡ has_long_guard candidates.now guard edge }
 {
@@ -131,7 +132,8 @@ fn has_long_guard(edge: JoinedEdge, candidates: &[u32], guard: u32) -> bool
     reaches_each(candidates, edge.times().guard_within(guard))
 }
 
-/// Whether the link is the plant's, and its greatest delay and how far clocks may be apart, together, aren't below its guard time.
+/// Whether the link is one of the plan, and its greatest delay and how far clocks may differ, together, aren't below
+/// its guard band.
 fn has_long_delay(edge: JoinedEdge, sync: u32, guard: u32) -> bool
     ensures { result ≡ has_long_delay sync guard edge }
 {
@@ -141,7 +143,7 @@ fn has_long_delay(edge: JoinedEdge, sync: u32, guard: u32) -> bool
     edge.times().has_long_delay(sync, guard)
 }
 
-/// Whether the link is the plant's and the gap behind a frame takes longer than its guard time.
+/// Whether the link is one of the plan and the gap after a frame takes longer than its guard band.
 fn has_long_gap(edge: JoinedEdge, guard: u32) -> bool
     ensures { result ≡ has_long_gap guard edge }
 {
@@ -151,7 +153,8 @@ fn has_long_gap(edge: JoinedEdge, guard: u32) -> bool
     edge.times().has_long_gap(guard)
 }
 
-/// Whether the link is the plant's, and clocks may be further apart than a shortest frame and its least delay take together.
+/// Whether the link is one of the plan, and clocks may differ by more than a shortest frame and its least delay take
+/// together.
 fn has_long_sync(edge: JoinedEdge, sync: u32) -> bool
     ensures { result ≡ has_long_sync sync edge }
 {
@@ -161,7 +164,7 @@ fn has_long_sync(edge: JoinedEdge, sync: u32) -> bool
     edge.times().has_long_sync(sync)
 }
 
-/// The element of the first link of the plant whose guard time reaches each candidate.
+/// Returns the element of the first link of the plan whose guard band is at least as long as each candidate.
 fn find_long_guard(edges: &[JoinedEdge], candidates: &[u32], guard: u32) -> Option<usize>
     ensures { result ≡ first_long_guard candidates.now guard edges.now }
 {
@@ -173,7 +176,8 @@ fn find_long_guard(edges: &[JoinedEdge], candidates: &[u32], guard: u32) -> Opti
     None
 }
 
-/// The element of the first link of the plant whose greatest delay and how far clocks may be apart, together, aren't below its guard time.
+/// Returns the element of the first link of the plan whose greatest delay and how far clocks may differ, together,
+/// aren't below its guard band.
 fn find_long_delay(edges: &[JoinedEdge], sync: u32, guard: u32) -> Option<usize>
     ensures { result ≡ first_long_delay sync guard edges.now }
 {
@@ -185,7 +189,7 @@ fn find_long_delay(edges: &[JoinedEdge], sync: u32, guard: u32) -> Option<usize>
     None
 }
 
-/// The element of the first link of the plant on which the gap behind a frame takes longer than its guard time.
+/// Returns the element of the first link of the plan on which the gap after a frame takes longer than its guard band.
 fn find_long_gap(edges: &[JoinedEdge], guard: u32) -> Option<usize>
     ensures { result ≡ first_long_gap guard edges.now }
 {
@@ -197,7 +201,8 @@ fn find_long_gap(edges: &[JoinedEdge], guard: u32) -> Option<usize>
     None
 }
 
-/// The element of the first link of the plant on which clocks may be further apart than a shortest frame and its least delay take together.
+/// Returns the element of the first link of the plan on which clocks may differ by more than a shortest frame and its
+/// least delay take together.
 fn find_long_sync(edges: &[JoinedEdge], sync: u32) -> Option<usize>
     ensures { result ≡ first_long_sync sync edges.now }
 {
@@ -209,7 +214,7 @@ fn find_long_sync(edges: &[JoinedEdge], sync: u32) -> Option<usize>
     None
 }
 
-/// How many links are the plant's.
+/// Returns how many links are links of the plan.
 pub(crate) fn plant_count(edges: &[JoinedEdge]) -> usize
     ensures { result ≡ plant_count edges.now }
 {
@@ -222,14 +227,14 @@ pub(crate) fn plant_count(edges: &[JoinedEdge]) -> usize
     count
 }
 
-/// Whether the guard time reaches each candidate.
+/// Whether the guard band is at least as long as each candidate.
 fn is_guard_too_long(draft: &SketchDraft) -> bool
     ensures { result ≡ is_guard_too_long draft.now }
 {
     reaches_each(draft.candidates(), draft.guard())
 }
 
-/// Whether there are more bridges, stations or links of the plant than a domain may have.
+/// Whether there are more bridges, stations or links of the plan than a domain may have.
 fn is_too_many(draft: &SketchDraft, edges: &[JoinedEdge]) -> bool
     ensures { result ≡ is_too_many draft.now edges.now }
 {
@@ -239,7 +244,8 @@ fn is_too_many(draft: &SketchDraft, edges: &[JoinedEdge]) -> bool
         || plant_count(edges) > limits.links_within()
 }
 
-/// The checks of a sketch's domain whose links are numbered, but those of its names and ends: the first that it fails.
+/// Makes the checks of a domain whose links are numbered, except those of its names and ends. Returns the first that
+/// fails.
 pub(crate) fn check(
     alloc: Global,
     draft: &SketchDraft,

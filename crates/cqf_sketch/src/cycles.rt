@@ -12,10 +12,10 @@ use toml::{Table, Value};
 /// The shortest cycle, in nanoseconds.
 const SHORTEST_CYCLE: u32 = 10_000;
 
-/// The most candidates that a sketch may have.
+/// The most candidates that a network file may have.
 pub const MOST_CANDIDATES: usize = 1_000;
 
-/// The cycle time that a value means.
+/// Returns the cycle time of a value.
 fn cycle_of(value: &Value) -> Option<u32>
     ensures { result ≡ cycle_from (view value.now) }
 {
@@ -30,7 +30,7 @@ fn cycle_of(value: &Value) -> Option<u32>
     }
 }
 
-/// A cycle time, as a value at the key of the cycle or an element there.
+/// Returns the cycle time of a value, which is at the key `cycle` or an element there.
 fn cycle_in(value: &Value) -> Result<u32, TomlFault>
     ensures { result ≡ ok_or (cycle_from (view value.now)) (TomlFault.BadValue Key.Cycle) }
 {
@@ -40,7 +40,7 @@ fn cycle_in(value: &Value) -> Result<u32, TomlFault>
     }
 }
 
-/// The elements of an array of cycle times.
+/// Returns the elements of an array of cycle times.
 fn cycles_in(alloc: Global, values: &[Value]) -> Result<Vec<u32>, TomlFault>
     ensures { Gives TomlFault.Memory (λ cycles. cycles.items) result (cycles_from (items_view values.now)) }
 {
@@ -52,7 +52,7 @@ fn cycles_in(alloc: Global, values: &[Value]) -> Result<Vec<u32>, TomlFault>
     Ok(cycles)
 }
 
-/// Cycle times, where they aren't too few or too many.
+/// Returns the cycle times if there are 1 to 1,000.
 fn if_some_few(cycles: Vec<u32>) -> Result<Vec<u32>, TomlFault>
     ensures { Gives TomlFault.Memory (λ cycles. cycles.items) result (some_few cycles.items) }
 {
@@ -65,7 +65,7 @@ fn if_some_few(cycles: Vec<u32>) -> Result<Vec<u32>, TomlFault>
     }
 }
 
-/// A cycle time as the only one.
+/// Returns a single cycle time as candidates.
 fn one_cycle(alloc: Global, cycle: u32) -> Result<Vec<u32>, TomlFault>
     ensures { Gives TomlFault.Memory (λ cycles. cycles.items) result (Ok (cycle ∷ [])) }
 {
@@ -74,7 +74,7 @@ fn one_cycle(alloc: Global, cycle: u32) -> Result<Vec<u32>, TomlFault>
     Ok(cycles)
 }
 
-/// The candidates that a value means: a cycle time, or an array of them.
+/// Returns the candidates of a value: a cycle time, or an array of them.
 fn candidates_in(alloc: Global, value: &Value) -> Result<Vec<u32>, TomlFault>
     ensures { Gives TomlFault.Memory (λ cycles. cycles.items) result (candidates_from (view value.now)) }
 {
@@ -84,7 +84,7 @@ fn candidates_in(alloc: Global, value: &Value) -> Result<Vec<u32>, TomlFault>
     }
 }
 
-/// The candidates of a domain's table.
+/// Returns the candidates of a domain's table.
 pub(crate) fn candidates_at(alloc: Global, table: &Table) -> Result<Vec<u32>, TomlFault>
     ensures { Gives TomlFault.Memory (λ cycles. cycles.items) result (candidates_of (value_at Key.Cycle (table_view table.now))) }
 {

@@ -1,4 +1,4 @@
-//! The domain of a sketch.
+//! The domain of a network file.
 ghost use Rattle.std.specs.Prelude.{◌≡◌, All, IfOk, IfSome, find, map, nat_lt, option_map};
 ghost use Rattle.cqf_model.specs.Limits.{most_bridges, most_stations};
 ghost use Rattle.cqf_sketch.specs.Edges.{talkers_of};
@@ -16,7 +16,7 @@ use cqf_units::{Memory, Name, Rate};
 use std::alloc::Global;
 use std::marker::Model;
 
-/// A talker's link: from a station to its bridge. It isn't in the plant.
+/// A talker's link, from a station to its bridge. It isn't a link of the plan.
 #[derive(Clone, Copy, Debug, PartialEq, Eq)]
 pub struct TalkerLink {
     /// The station's number.
@@ -28,8 +28,9 @@ pub struct TalkerLink {
     pub delay: u32,
 }
 
-/// The domain of a sketch: its limits, candidates for its cycle time, in the order of wish, its guard time, how far its clocks may be apart,
-/// its bridges and stations by name and by number, the plant's directed links by number, and the talkers' links.
+/// The domain of a network file: its limits, the candidates for its cycle time in the order of preference, its guard
+/// band, how far its clocks may differ, its bridges and stations by name and by number, the plan's directed links by
+/// number, and the talkers' links.
 #[derive(Debug, Drop)]
 pub struct SketchDomain {
     limits: Limits,
@@ -70,7 +71,7 @@ impl Model for SketchDomain {
     }) };
 }
 
-/// The longest guard time of some links, where that of each other is this.
+/// Returns the longest guard band of the links. A link without its own has the given one.
 fn longest_of(guard: u32, links: &[Link]) -> u32
     ensures { result ≡ longest_of guard links.now }
 {
@@ -81,7 +82,7 @@ fn longest_of(guard: u32, links: &[Link]) -> u32
     longest
 }
 
-/// The first candidate above a guard time.
+/// Returns the first candidate above a guard band.
 fn first_above(candidates: &[u32], guard: u32) -> Option<u32>
     ensures { result ≡ find (nat_lt guard) candidates.now }
 {
@@ -93,7 +94,7 @@ fn first_above(candidates: &[u32], guard: u32) -> Option<u32>
     None
 }
 
-/// The plant's links, where nodes are few.
+/// Returns the plan's links, if node numbers are in their ranges.
 fn links_of(alloc: Global, edges: &[JoinedEdge]) -> Result<Vec<Link>, Memory>
     requires { All (EdgeInside most_bridges most_stations) edges.now }
     ensures { IfOk result (λ links. links.items ≡ map link_of (plant_of edges.now)) }
@@ -107,7 +108,7 @@ fn links_of(alloc: Global, edges: &[JoinedEdge]) -> Result<Vec<Link>, Memory>
     Ok(links)
 }
 
-/// The talkers' links, where nodes are few.
+/// Returns the talkers' links, if node numbers are in their ranges.
 fn talker_links(alloc: Global, edges: &[JoinedEdge]) -> Result<Vec<TalkerLink>, Memory>
     requires { All (EdgeInside most_bridges most_stations) edges.now }
     ensures { IfOk result (λ talkers. talkers.items ≡ map talker_of (talkers_of edges.now)) }
@@ -121,7 +122,8 @@ fn talker_links(alloc: Global, edges: &[JoinedEdge]) -> Result<Vec<TalkerLink>, 
     Ok(talkers)
 }
 
-/// The links of a draft whose names are numbered, one direction each, or the first check that the draft fails.
+/// Returns the links of a draft whose names are numbered, one for each direction, or the first check that the draft
+/// fails.
 fn checked_edges(
     alloc: Global,
     draft: &SketchDraft,
@@ -139,7 +141,7 @@ fn checked_edges(
 }
 
 impl SketchDomain {
-    /// The domain of a draft whose names are numbered, or the first check that it fails.
+    /// Returns the domain of a draft whose names are numbered, or the first check that it fails.
     fn of_names(
         alloc: Global,
         draft: &SketchDraft,
@@ -166,7 +168,7 @@ impl SketchDomain {
         })
     }
 
-    /// The domain that a draft means, or the first check that it fails.
+    /// Returns the domain of a draft, or the first check that it fails.
     fn of_draft(alloc: Global, draft: &SketchDraft) -> Result<SketchDomain, SketchFault>
         requires { IsReadableSketch draft.now }
         ensures { Gives (SketchFault.Domain DomainFault.Memory) (λ domain. domain) result (checked draft.now) }
@@ -177,20 +179,28 @@ impl SketchDomain {
         SketchDomain::of_names(alloc, draft, bridges, stations)
     }
 
-    /// The domain that a sketch's text means within some limits, or the first fault of the text. Where candidates for the cycle
-    /// time are given, 1 to 1,000 of them and each from 10,000 to 10,000,000 ns, the text's `cycle` isn't read. Keys that mean nothing
-    /// here are passed over.
+    /// Returns the domain of a network file's text within given limits, or the first fault of the text. If candidates
+    /// for the cycle time are given, the text's `cycle` isn't read; there are 1 to 1,000 of them, each from 10,000 to
+    /// 10,000,000 ns. Unknown keys are ignored.
     ///
     /// # Errors
-    /// What is wrong in being read, as of [`read_draft`]; and then, each over the whole before the next: `NameTaken`, of the first name,
-    /// bridges before stations, that stood earlier; `UnknownName`, of the first `from` that names no node, or `to` that names no node
-    /// other than that, and no bridge where `from` is a station; `LinkTwice`, of the first link that leads as an earlier one does, also
-    /// back; `TwoTalkerLinks`, of the first station that gets a second; `GuardTooLong`, where the guard time reaches the greatest
-    /// candidate, and `LinkGuardTooLong`, of the first link of the plant whose own does; `DelayTooLong`, of the first link of the plant
-    /// whose greatest delay and how far clocks may be apart, together, aren't below its guard time, and `GapTooLong`, of the first on
-    /// which the gap behind a frame takes longer; `TooMany`, where there are more bridges, stations or links of the plant than may be;
-    /// and `SyncTooLong`, of the first link of the plant on which clocks may be further apart than a shortest frame and its least delay
-    /// take together. `Memory` where a growth is refused.
+    /// The faults of [`read_draft`] come first. Then each of these checks is made over the whole file before the next:
+    ///
+    /// * `NameTaken`: the first name, bridges before stations, that occurred earlier.
+    /// * `UnknownName`: the first `from` that names no node, or `to` that names no node to which the link can lead:
+    ///   another bridge, or a station if `from` is a bridge.
+    /// * `LinkTwice`: the first link one of whose directions has the ends of an earlier one.
+    /// * `TwoTalkerLinks`: the first station with a second talker's link.
+    /// * `GuardTooLong`: the guard band is at least as long as each candidate.
+    /// * `LinkGuardTooLong`: the first link of the plan whose own guard band is.
+    /// * `DelayTooLong`: the first link of the plan whose greatest delay and how far clocks may differ, together,
+    ///   aren't below its guard band.
+    /// * `GapTooLong`: the first link of the plan on which the gap after a frame takes longer than its guard band.
+    /// * `TooMany`: there are more bridges, stations or links of the plan than the limits allow.
+    /// * `SyncTooLong`: the first link of the plan on which clocks may differ by more than a shortest frame and its
+    ///   least delay take together.
+    ///
+    /// `Memory` if an allocation fails.
     pub fn read(
         alloc: Global,
         text: &[u8],
@@ -205,11 +215,11 @@ impl SketchDomain {
         SketchDomain::of_draft(alloc, &draft)
     }
 
-    /// The plant's domain with a cycle time that is open, in nanoseconds: 10,000 to 10,000,000, and above each guard time. It is
-    /// accepted.
+    /// Returns the plan's domain with an open cycle time, in nanoseconds: from 10,000 to 10,000,000, and above each
+    /// guard band. The domain is accepted.
     ///
     /// # Errors
-    /// `Memory` where a growth is refused.
+    /// `Memory` if an allocation fails.
     pub fn at(&self, alloc: Global, cycle_time: u32) -> Result<Domain, Memory>
         requires { IsOpenCycle self.now cycle_time }
         ensures { IfOk result (λ domain. domain ≡ domain_at self.now cycle_time) }
@@ -228,8 +238,8 @@ impl SketchDomain {
         ))
     }
 
-    /// The candidates for the cycle time, in the order of wish: 1 to 1,000 of them, each from 10,000 to 10,000,000 ns. Each that is
-    /// above each guard time is open.
+    /// Returns the candidates for the cycle time in the order of preference: 1 to 1,000 of them, each from 10,000 to
+    /// 10,000,000 ns. A candidate above each guard band is open.
     pub fn candidates(&self) -> &[u32]
         ensures value { result.now ≡ self.now.candidates }
         ensures few { AreCandidates result.now }
@@ -237,7 +247,7 @@ impl SketchDomain {
         self.candidates.as_slice()
     }
 
-    /// The first candidate above each guard time, in nanoseconds. There is one.
+    /// Returns the first candidate above each guard band, in nanoseconds. There always is one.
     pub fn open_cycle(&self) -> u32
         ensures first { result ≡ open_cycle self.now }
         ensures is_open { IsOpenCycle self.now result }
@@ -251,37 +261,38 @@ impl SketchDomain {
         }
     }
 
-    /// The longest guard time, in nanoseconds: of the links of the plant that have their own, and of all others.
+    /// Returns the longest guard band, in nanoseconds: the longest of the general one and of those that links of the
+    /// plan have of their own.
     pub fn longest_guard(&self) -> u32
         ensures { result ≡ longest_guard self.now }
     {
         longest_of(self.guard, self.links.as_slice())
     }
 
-    /// How far any two clocks may be apart, in nanoseconds.
+    /// Returns how far any two clocks may differ, in nanoseconds.
     pub fn sync(&self) -> u32
         ensures { result ≡ self.now.sync }
     {
         self.sync
     }
 
-    /// The plant's links, by number.
+    /// Returns the plan's links, by number.
     pub fn links(&self) -> &[Link]
         ensures { result.now ≡ self.now.links }
     {
         self.links.as_slice()
     }
 
-    /// Does nothing, and makes known to a proof what was seen to when the sketch was read: each talker's link goes from a station to a
-    /// bridge of the sketch, and no station has two.
+    /// Does nothing at run time. In a proof, it supplies what was checked when the file was read: each talker's link
+    /// leads from a station to a bridge of the file, and no station has two.
     pub fn know(&self)
         ensures there { HasTalkerLinks self.now }
     {
-        // a use of a field: with it the invariant is known
+        // reading a field makes the invariant known
         let _ = &self.talkers;
     }
 
-    /// The talkers' links, each from a station to a bridge of the sketch. No station has two.
+    /// Returns the talkers' links, each from a station to a bridge of the file. No station has two.
     pub fn talkers(&self) -> &[TalkerLink]
         ensures value { result.now ≡ self.now.talkers }
         ensures there { HasTalkerLinks self.now }

@@ -1,4 +1,4 @@
-//! What the text of a sketch's domain says, before it is asked whether a network can be like that.
+//! What the text of a network file's domain says, before any check whether such a network can exist.
 ghost use Rattle.std.specs.Prelude.{◌≡◌, codes, drop, if◌then◌else◌, option_map, ok_or};
 ghost use Rattle.toml.specs.View.{items_view, table_view, view};
 ghost use Rattle.toml.specs.Data.{as_bool, as_table, get_member};
@@ -28,14 +28,14 @@ pub struct OneWay {
     pub times: LinkTimes,
 }
 
-/// A link of a sketch: there, and where it is `duplex` back too.
+/// A link of a network file, in its written direction; if it is `duplex`, also in the opposite one.
 #[derive(Debug, Drop)]
 pub struct SketchLink {
     pub there: OneWay,
     pub duplex: bool,
 }
 
-/// A sketch's domain as its text says it: times in nanoseconds, and links by the names of their ends.
+/// The domain of a network file as its text says it: times in nanoseconds, and links by the names of their ends.
 #[derive(Debug, Drop)]
 pub struct SketchDraft {
     limits: Limits,
@@ -56,14 +56,14 @@ impl Model for SketchDraft {
 }
 
 impl SketchDraft {
-    /// The limits within which it is read.
+    /// Returns the limits within which it is read.
     pub fn limits(&self) -> Limits
         ensures { result ≡ self.now.limits }
     {
         self.limits
     }
 
-    /// The candidates for the cycle time, in the order of wish.
+    /// Returns the candidates for the cycle time, in the order of preference.
     pub fn candidates(&self) -> &[u32]
         ensures { result.now ≡ self.now.candidates }
     {
@@ -101,7 +101,7 @@ impl SketchDraft {
     }
 }
 
-/// The keys that a sketch's domain owes, in reading order.
+/// The required keys of a network file's domain, in reading order.
 const KEYS: [Key; 5] = [
     Key::Cycle,
     Key::Guard,
@@ -110,10 +110,10 @@ const KEYS: [Key; 5] = [
     Key::Links,
 ];
 
-/// The keys that a link's table owes, in reading order.
+/// The required keys of a link's table, in reading order.
 const LINK_KEYS: [Key; 4] = [Key::From, Key::To, Key::Rate, Key::Delay];
 
-/// The way there of a link's table.
+/// Returns the written direction of a link's table.
 fn read_one_way(table: &Table) -> Result<OneWay, TomlFault>
     ensures { result ≡ one_way_read (table_view table.now) }
 {
@@ -123,7 +123,7 @@ fn read_one_way(table: &Table) -> Result<OneWay, TomlFault>
     Ok(OneWay { from, to, times })
 }
 
-/// Whether a value means a way back too.
+/// Whether a value says that a link has both directions.
 fn is_duplex(value: &Value) -> Result<bool, SketchFault>
     ensures { result ≡ ok_or (as_bool (view value.now)) SketchFault.BadDuplex }
 {
@@ -133,14 +133,14 @@ fn is_duplex(value: &Value) -> Result<bool, SketchFault>
     }
 }
 
-/// What stands at `duplex` of a link's table.
+/// Returns the value at `duplex` of a link's table.
 fn duplex_value(table: &Table) -> Option<&Value>
     ensures { option_map (λ v. view v.now) result ≡ get_member (codes "duplex") (table_view table.now) }
 {
     table.get("duplex")
 }
 
-/// Whether a link's table means a way back too.
+/// Whether a link's table says that the link has both directions.
 fn read_duplex(table: &Table) -> Result<bool, SketchFault>
     ensures { result ≡ duplex_at (table_view table.now) }
 {
@@ -150,7 +150,7 @@ fn read_duplex(table: &Table) -> Result<bool, SketchFault>
     }
 }
 
-/// A link's table.
+/// Reads a link's table.
 fn read_link(table: &Table) -> Result<SketchLink, SketchFault>
     ensures { result ≡ link_read (table_view table.now) }
 {
@@ -159,7 +159,7 @@ fn read_link(table: &Table) -> Result<SketchLink, SketchFault>
     Ok(SketchLink { there, duplex })
 }
 
-/// A link, as an element of the array of links.
+/// Reads a link from an element of the array of links.
 fn link_in(value: &Value) -> Result<SketchLink, SketchFault>
     ensures { result ≡ and_then (ok_or (as_table (view value.now)) (sketch_fault (TomlFault.BadValue Key.Links))) link_read }
 {
@@ -169,7 +169,7 @@ fn link_in(value: &Value) -> Result<SketchLink, SketchFault>
     }
 }
 
-/// The elements of the array of links.
+/// Reads the elements of the array of links.
 fn links_in(alloc: Global, values: &[Value]) -> Result<Vec<SketchLink>, SketchFault>
     ensures { Gives (SketchFault.Domain DomainFault.Memory) (λ links. links.items) result (links_from (items_view values.now)) }
 {
@@ -181,7 +181,7 @@ fn links_in(alloc: Global, values: &[Value]) -> Result<Vec<SketchLink>, SketchFa
     Ok(links)
 }
 
-/// The links of a domain's table.
+/// Reads the links of a domain's table.
 fn read_links(alloc: Global, table: &Table) -> Result<Vec<SketchLink>, SketchFault>
     ensures { Gives (SketchFault.Domain DomainFault.Memory) (λ links. links.items) result (links_read (table_view table.now)) }
 {
@@ -192,7 +192,7 @@ fn read_links(alloc: Global, table: &Table) -> Result<Vec<SketchLink>, SketchFau
     links_in(alloc, values)
 }
 
-/// The bridges of a domain's table, of which there is at least one.
+/// Reads the bridges of a domain's table. There must be at least one.
 fn read_bridges(alloc: Global, table: &Table) -> Result<Vec<Name>, TomlFault>
     ensures { Gives TomlFault.Memory (λ names. names.items) result (and_then (names_at Key.Bridges (table_view table.now)) (if_some Key.Bridges)) }
 {
@@ -203,7 +203,7 @@ fn read_bridges(alloc: Global, table: &Table) -> Result<Vec<Name>, TomlFault>
     Ok(bridges)
 }
 
-/// The candidates that are given, or else those of a domain's table.
+/// Returns the candidates that are given; otherwise reads those of a domain's table.
 fn read_candidates(
     alloc: Global,
     table: &Table,
@@ -217,7 +217,7 @@ fn read_candidates(
     }
 }
 
-/// A domain's table.
+/// Reads a domain's table.
 fn read_table(
     alloc: Global,
     table: &Table,
@@ -244,19 +244,20 @@ fn read_table(
     })
 }
 
-/// The keys that a sketch's domain owes: that of the cycle time only where no candidates are given.
+/// Returns the required keys of a network file's domain. `cycle` is among them only if no candidates are given.
 fn owed_keys(keys: &[Key; 5], given: bool) -> &[Key]
     ensures { result.now ≡ (if given then drop 1 keys.now else keys.now) }
 {
     if given { &keys[1..] } else { &keys[..] }
 }
 
-/// What the text of a sketch's domain says that is read within some limits, or its first fault in being read. Where candidates
-/// for the cycle time are given, the text's `cycle` isn't read. Keys that mean nothing here are passed over.
+/// Returns what the text of a network file's domain says, to be checked within given limits, or the first fault of
+/// reading it. If candidates for the cycle time are given, the text's `cycle` isn't read. Unknown keys are ignored.
 ///
 /// # Errors
-/// `NotToml`, `Missing` and `BadValue` as of a plant's domain, where `cycle` may be an array of 1 to 1,000 cycle times, and
-/// `BadDuplex`, behind a link's other keys, where something else than a boolean stands at `duplex`; `Memory` where a growth is refused.
+/// `NotToml`, `Missing` and `BadValue` as for a plan's domain, except that `cycle` may be an array of 1 to 1,000 cycle
+/// times. `BadDuplex` if the value at `duplex` isn't a boolean; it is read after a link's other keys. `Memory` if an
+/// allocation fails.
 pub fn read_draft(
     alloc: Global,
     text: &[u8],

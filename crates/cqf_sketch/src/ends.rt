@@ -1,4 +1,4 @@
-//! Links one direction each, by the numbers of their ends.
+//! Links by the numbers of their ends, one for each direction.
 ghost use Rattle.std.specs.Prelude.{◌≡◌, ◌++◌, OnOk};
 ghost use Rattle.cqf_model.specs.Limits.{most_bridges, most_stations};
 ghost use Rattle.cqf_topology.specs.Fields.{Gives};
@@ -15,7 +15,7 @@ use cqf_units::{Memory, Name};
 use std::alloc::Global;
 use std::marker::Model;
 
-/// A link in one direction, with its element's place in the text.
+/// A link in one direction, with the index of its element in the text.
 #[derive(Clone, Copy)]
 pub(crate) struct JoinedEdge {
     from: End,
@@ -35,7 +35,7 @@ impl Model for JoinedEdge {
     ghost inverse = { λ e. record { from = end_of_joined e.from; to = end_of_joined e.to; times = e.times; element = e.element } };
 }
 
-/// Whether a link may lead from a node to a node.
+/// Whether a link can lead from one node to another.
 fn may_lead(from: End, to: End) -> bool
     ensures { result ≡ may_lead (node_of from) (node_of to) }
 {
@@ -46,7 +46,7 @@ fn may_lead(from: End, to: End) -> bool
     }
 }
 
-/// A link there, by the numbers of its ends.
+/// Returns a link in its written direction, by the numbers of its ends.
 fn join_edge(
     bridges: &NameList,
     stations: &NameList,
@@ -85,28 +85,28 @@ impl JoinedEdge {
         }
     }
 
-    /// The node that it leaves.
+    /// Returns the node that it leaves.
     pub(crate) fn from(self) -> End
         ensures { node_of result ≡ self.from }
     {
         self.from
     }
 
-    /// Both its ends.
+    /// Returns both its ends.
     pub(crate) fn ends(self) -> (End, End)
         ensures { pair_of result ≡ ends_of self }
     {
         (self.from, self.to)
     }
 
-    /// The node that it leaves, twice.
+    /// Returns the node that it leaves, twice.
     pub(crate) fn from_alone(self) -> (End, End)
         ensures { pair_of result ≡ from_alone self }
     {
         (self.from, self.from)
     }
 
-    /// It as a link of the plant.
+    /// Returns it as a link of the plan.
     pub(crate) fn link(self) -> Link
         requires { EdgeInside most_bridges most_stations self }
         ensures { result ≡ link_of self }
@@ -121,7 +121,7 @@ impl JoinedEdge {
         }
     }
 
-    /// It as a talker's link.
+    /// Returns it as a talker's link.
     pub(crate) fn talker(self) -> TalkerLink
         requires { EdgeInside most_bridges most_stations self }
         ensures { result ≡ talker_of self }
@@ -134,21 +134,21 @@ impl JoinedEdge {
         }
     }
 
-    /// Its element's place in the text.
+    /// Returns the index of its element in the text.
     pub(crate) fn element(self) -> usize
         ensures { result ≡ self.element }
     {
         self.element
     }
 
-    /// What its table says beside its ends.
+    /// Returns the members of its table other than its ends.
     pub(crate) fn times(self) -> LinkTimes
         ensures { result ≡ self.times }
     {
         self.times
     }
 
-    /// The same link back.
+    /// Returns the same link in the opposite direction.
     fn back(self) -> JoinedEdge
         ensures { result ≡ back_of self }
     {
@@ -161,7 +161,7 @@ impl JoinedEdge {
     }
 }
 
-/// The number of a node, where there are few.
+/// Returns the number of a node, which is in its range.
 fn small_number(end: End) -> u16
     requires { NodeInside most_bridges most_stations (node_of end) }
     ensures { result ≡ number_of (node_of end) }
@@ -172,7 +172,7 @@ fn small_number(end: End) -> u16
     }
 }
 
-/// The node, where there are few.
+/// Returns the node; its number is in its range.
 fn small_node(end: End) -> Node
     requires { NodeInside most_bridges most_stations (node_of end) }
     ensures { result ≡ node_of end }
@@ -183,7 +183,7 @@ fn small_node(end: End) -> Node
     }
 }
 
-/// Adds the directions of a link to those of others.
+/// Appends the directions of a link to those of others.
 fn add_edges(edges: &mut Vec<JoinedEdge>, edge: JoinedEdge, duplex: bool) -> Result<(), Memory>
     ensures { OnOk result (edges.new.items ≡ edges.old.items ++ edges_of duplex edge) }
 {
@@ -194,7 +194,7 @@ fn add_edges(edges: &mut Vec<JoinedEdge>, edge: JoinedEdge, duplex: bool) -> Res
     Ok(())
 }
 
-/// The links, one direction each, by the numbers of their ends.
+/// Returns the links by the numbers of their ends, one for each direction.
 pub(crate) fn join_edges(
     alloc: Global,
     bridges: &NameList,

@@ -1,4 +1,4 @@
-//! Why a sketch's domain is refused.
+//! Why the domain of a network file is refused.
 ghost use Rattle.std.specs.Prelude.{◌≡◌, Some};
 ghost use Rattle.cqf_sketch.specs.Faults.{sketch_fault, sketch_fault_text};
 
@@ -8,16 +8,16 @@ use std::alloc::AllocFailed;
 use std::fmt;
 use thiserror::Error;
 
-/// Why a sketch's domain is refused: as a plant's is, and for what a plant doesn't have. A fault prints as its name, and
-/// then its value.
+/// Why the domain of a network file is refused: for a reason that can also apply to a plan's domain, or for one that
+/// only a network file has. A fault prints as its name, followed by its value.
 #[derive(Debug, PartialEq, Eq, Drop, Error)]
 pub enum SketchFault {
-    /// What may be wrong with a plant's domain too, want of memory among it. Where a link is told, it is by its element's place
+    /// A fault that a plan's domain can have too, among them `Memory`. A link is named by the index of its element
     /// among the links, from 0.
     Domain(DomainFault),
-    /// What stands at `duplex` of a link is no boolean.
+    /// The value at `duplex` of a link isn't a boolean.
     BadDuplex,
-    /// The first station that gets a second talker's link.
+    /// The first station with a second talker's link.
     TwoTalkerLinks(Name),
 }
 
@@ -33,7 +33,7 @@ impl fmt::Display for SketchFault {
     }
 }
 
-/// A fault of reading, as a sketch has it.
+/// Makes a fault of reading one of a network file.
 impl From<TomlFault> for SketchFault {
     ghost from_gives = { λ early fault. fault ≡ sketch_fault early };
 
@@ -42,7 +42,7 @@ impl From<TomlFault> for SketchFault {
     }
 }
 
-/// A fault of a plant's domain, as a sketch has it.
+/// Makes a fault of a plan's domain one of a network file.
 impl From<DomainFault> for SketchFault {
     ghost use Rattle.cqf_sketch.specs.declared.faults.SketchFault.TheVariants as variant;
 
@@ -53,7 +53,7 @@ impl From<DomainFault> for SketchFault {
     }
 }
 
-/// Want of memory, as a fault.
+/// Makes a failed allocation a fault.
 impl From<Memory> for SketchFault {
     ghost use Rattle.cqf_topology.specs.declared.faults.DomainFault.TheVariants as domain;
     ghost use Rattle.cqf_sketch.specs.declared.faults.SketchFault.TheVariants as variant;
@@ -65,7 +65,7 @@ impl From<Memory> for SketchFault {
     }
 }
 
-/// Want of room for a value, likewise.
+/// Makes a failed allocation for a value a fault.
 impl<T: Drop> From<AllocFailed<T>> for SketchFault {
     ghost use Rattle.cqf_topology.specs.declared.faults.DomainFault.TheVariants as domain;
     ghost use Rattle.cqf_sketch.specs.declared.faults.SketchFault.TheVariants as variant;

@@ -1,4 +1,4 @@
-//! What the table of a sketch's stream lacks.
+//! What the table of a network file's stream lacks.
 ghost use Rattle.std.specs.Prelude.{◌≡◌, ◌∷◌, [], option_and_then};
 ghost use Rattle.toml.specs.Data.{as_table};
 ghost use Rattle.toml.specs.View.{items_view, table_view, view};
@@ -10,7 +10,7 @@ use cqf_topology::{Key, StreamsFault, value_at};
 use cqf_traffic::{FlowsFault, first_owed, traffic_of};
 use toml::{Table, Value};
 
-/// Whether a key of traffic stands in a stream's table.
+/// Whether a stream's table has a key of traffic.
 fn has_traffic(table: &Table) -> bool
     ensures { result ≡ has_traffic (table_view table.now) }
 {
@@ -27,7 +27,7 @@ pub(crate) fn has_path(table: &Table) -> bool
     value_at(table, Key::Path).is_some() || value_at(table, Key::Paths).is_some()
 }
 
-/// The first end that a stream's table lacks.
+/// Returns the first end that a stream's table lacks.
 fn first_absent_end(table: &Table) -> Option<Key>
     ensures { result ≡ first_absent (Key.From ∷ Key.To ∷ []) (table_view table.now) }
 {
@@ -40,7 +40,7 @@ fn first_absent_end(table: &Table) -> Option<Key>
     None
 }
 
-/// The first key that a stream's table lacks, but for its traffic.
+/// Returns the first key that a stream's table lacks, apart from those of traffic.
 fn first_absent_of(table: &Table) -> Option<Key>
     ensures { result ≡ first_absent (owed_keys (table_view table.now)) (table_view table.now) }
 {
@@ -56,7 +56,7 @@ fn first_absent_of(table: &Table) -> Option<Key>
     first_absent_end(table)
 }
 
-/// What a stream's table lacks first.
+/// Returns what a stream's table lacks first.
 fn first_lack(table: &Table) -> Option<FlowsFault>
     ensures { result ≡ first_lack (table_view table.now) }
 {
@@ -69,7 +69,7 @@ fn first_lack(table: &Table) -> Option<FlowsFault>
     }
 }
 
-/// What a value lacks first, where it is a table.
+/// Returns what a value lacks first, if it is a table.
 fn first_lack_from(value: &Value) -> Option<FlowsFault>
     ensures { result ≡ option_and_then first_lack (as_table (view value.now)) }
 {
@@ -79,7 +79,7 @@ fn first_lack_from(value: &Value) -> Option<FlowsFault>
     }
 }
 
-/// What one of the values lacks first, where it is a table.
+/// Returns what the values that are tables lack first.
 fn first_lack_among(values: &[Value]) -> Option<FlowsFault>
     ensures { result ≡ first_lack_within (items_view values.now) }
 {
@@ -92,7 +92,7 @@ fn first_lack_among(values: &[Value]) -> Option<FlowsFault>
     None
 }
 
-/// What a document's streams lack first.
+/// Returns what a document's streams lack first.
 pub(crate) fn first_lack_of(table: &Table) -> Option<FlowsFault>
     ensures { result ≡ first_lack_of (table_view table.now) }
 {

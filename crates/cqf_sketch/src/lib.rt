@@ -1,15 +1,19 @@
-//! Sketches, of which a planner has candidates for the cycle time: their domains, their streams, and ways for these.
+//! Network files, whose cycle time a planner chooses among candidates: their domains, their streams, and paths for
+//! these.
 //!
-//! - **Domains.** [`SketchDomain::read`] gives the domain that a text means, a plant's domain of which the cycle time isn't chosen yet, with each
-//!   [`TalkerLink`], by which talkers send; or a [`SketchFault`], the first thing wrong. `cycle` may be an array of candidates, a link may be
-//!   `duplex`, and it may come from a station. `read_draft` reads the text alone, as a `SketchDraft` of `SketchLink`s, and looks at no names and
-//!   ends.
-//! - **Streams.** [`read_sketch_streams`] gives those of a text, each a [`Stream`] with traffic, a deadline, the ways that are [`WantedWay`], given
-//!   branches or the ends that they go between, and its [`Pacing`]; or the first thing wrong ([`FlowsFault`]).
-//! - **Ways.** A [`Room`] has the links of a network, what each has left, and what a stream costs. [`first_way`] finds the first way from a
-//!   bridge to a node on which each link has room, of those with fewest links, exactly where there is one, and [`first_ways`] those to several
-//!   stations, which are the branches of a tree ([`first_ways_are_a_tree`]), or a [`WaysFault`]. Where there is none for want of room,
-//!   [`first_short`] names the link that lacks it on the first way of all, which is found at a cost of 0 ([`full_ways_have_a_short_link`]).
+//! - **Domains.** [`SketchDomain::read`] returns the domain of a text: a plan's domain whose cycle time isn't chosen
+//!   yet, and each [`TalkerLink`], by which talkers send. Otherwise it returns a [`SketchFault`], the first fault.
+//!   `cycle` may be an array of candidates, a link may be `duplex`, and it may leave a station. `read_draft` only reads
+//!   the text, as a `SketchDraft` of `SketchLink`s; it doesn't check names and ends.
+//! - **Streams.** [`read_sketch_streams`] returns the streams of a text, or the first fault ([`FlowsFault`]). A
+//!   [`Stream`] has traffic, a deadline, a [`WantedWay`], which is given branches or the ends that paths join, and its
+//!   [`Pacing`].
+//! - **Paths.** A [`Room`] has the links of a network, what each has left, and what a stream costs. [`first_way`] finds
+//!   the first path from a bridge to a node on which each link has room, among those with fewest links, if and only if
+//!   there is one. [`first_ways`] finds those to several stations, which are the branches of a tree
+//!   ([`first_ways_are_a_tree`]), or returns a [`WaysFault`]. If there is no path for lack of room, [`first_short`]
+//!   returns the link that lacks it on the first path of all, which is found at a cost of 0
+//!   ([`full_ways_have_a_short_link`]).
 //!
 //! ```text
 //! cycle = [250000, 125000]
@@ -22,8 +26,8 @@
 //! ]
 //! ```
 //!
-//! has two candidates and the plant's links a to b, b to a and b to s, numbered from 0; the way back from s to b is the talker's link of s. With
-//! a third link from s to a it is refused: `TwoTalkerLinks s`.
+//! has two candidates and the plan's links a to b, b to a and b to s, numbered from 0. The link from s to b is the
+//! talker's link of s. With a third link from s to a the file is refused: `TwoTalkerLinks s`.
 //!
 //! ```text
 //! [[streams]]
@@ -34,15 +38,17 @@
 //! size = 704
 //! ```
 //!
-//! is a stream from the talker mic to two listeners. With `path` beside `from` it is refused: `BadValue from`; and with `every` beside
-//! `in-step = true`, which says that its talker is in step with the network: `BadValue every`.
+//! is a stream from the talker mic to two listeners. With `path` and `from` it is refused: `BadValue from`. With
+//! `every` and `in-step = true`, which says that its talker is in step with the network, it is refused too:
+//! `BadValue every`.
 //!
-//! The first way from a to s, with links 0 from bridge a to bridge b, 1 from a to c, 2 from b to station s and 3 from c to s:
+//! The first path from a to s, with links 0 from bridge a to bridge b, 1 from a to c, 2 from b to station s and 3 from
+//! c to s:
 //!
 //! ```text
 //! all have room         0, 2
 //! link 2 has none       1, 3
-//! nor has link 3        none; the first way of all is 0, 2, and its first link without room is 2
+//! nor has link 3        none; the first path of all is 0, 2, and its first link without room is 2
 //! ```
 #![tactic(auto)]
 

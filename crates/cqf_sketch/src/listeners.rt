@@ -1,4 +1,4 @@
-//! The first ways to several stations.
+//! The first paths to several stations.
 ghost use Rattle.std.specs.Prelude.{◌≡◌, IfErr, IfOk, map};
 ghost use Rattle.cqf_sketch.specs.Listeners.{AreFirstWays, IsWaysFault};
 ghost use Rattle.cqf_sketch.specs.Ways.{AreLinks, has_room};
@@ -10,16 +10,16 @@ use cqf_model::Node;
 use cqf_units::Memory;
 use std::alloc::{AllocFailed, Global};
 
-/// Why there aren't ways to all stations.
+/// Why there isn't a path to each station.
 #[derive(Debug, PartialEq, Eq, Drop)]
 pub enum WaysFault {
-    /// The place, from 0, of the first station to which there is no way with room.
+    /// The index, from 0, of the first station to which there is no path with room.
     NoWay(usize),
-    /// A growth was refused.
+    /// An allocation failed.
     Memory,
 }
 
-/// Want of room for a way, as a fault.
+/// Makes a failed allocation for a path a fault.
 impl<T: Drop> From<AllocFailed<T>> for WaysFault {
     ghost use Rattle.std.specs.Prelude.{◌≡◌};
     ghost use Rattle.cqf_sketch.specs.declared.listeners.WaysFault.TheVariants as variant;
@@ -31,11 +31,11 @@ impl<T: Drop> From<AllocFailed<T>> for WaysFault {
     }
 }
 
-/// The first ways from a bridge to some stations, in their order, each as [`first_way`] gives it. Where the stations are all
-/// different, they are the branches of a tree ([`crate::first_ways_are_a_tree`]).
+/// Returns the first paths from a bridge to the stations, in their order, each as [`first_way`] returns it. If the
+/// stations are all different, these paths are the branches of a tree ([`crate::first_ways_are_a_tree`]).
 ///
 /// # Errors
-/// `NoWay` with the place of the first station to which there is none; `Memory` where a growth is refused.
+/// `NoWay` with the index of the first station to which there is no path; `Memory` if an allocation fails.
 pub fn first_ways(
     alloc: Global,
     room: Room,

@@ -1,4 +1,4 @@
-//! In which cycles a stream of a sketch is to be offered.
+//! The cycles in which a stream of a network file is offered.
 ghost use Rattle.std.specs.Prelude.{◌≡◌, codes, ok_or, option_map};
 ghost use Rattle.toml.specs.Data.{as_bool, get_member};
 ghost use Rattle.toml.specs.View.{table_view, view};
@@ -8,16 +8,16 @@ use cqf_topology::{Key, StreamsFault, number_or, value_at};
 use cqf_traffic::FlowsFault;
 use toml::{Table, Value};
 
-/// In which cycles a stream is to be offered.
+/// The cycles in which a stream is offered.
 #[derive(Clone, Copy, Debug)]
 pub enum Pacing {
-    /// In one of `every` cycles, the first of which is `phase`.
+    /// In one of every `every` cycles, the first being `phase`.
     Given { every: u32, phase: u32 },
-    /// Its talker is in step with the network, so the plan says in which.
+    /// Its talker is in step with the network, so the plan chooses the cycles.
     InStep,
 }
 
-/// Whether a value means a talker in step.
+/// Whether a value says that a talker is in step.
 fn is_in_step(value: &Value) -> Result<bool, FlowsFault>
     ensures { result ≡ ok_or (as_bool (view value.now)) FlowsFault.BadInStep }
 {
@@ -27,7 +27,7 @@ fn is_in_step(value: &Value) -> Result<bool, FlowsFault>
     }
 }
 
-/// What stands at `in-step` of a stream's table.
+/// Returns the value at `in-step` of a stream's table.
 fn in_step_value(table: &Table) -> Option<&Value>
     ensures { option_map (λ v. view v.now) result ≡ get_member (codes "in-step") (table_view table.now) }
 {
@@ -44,7 +44,7 @@ fn read_in_step(table: &Table) -> Result<bool, FlowsFault>
     }
 }
 
-/// The first key that stands in a stream's table and says in which cycles it is offered.
+/// Returns the first key in a stream's table that says in which cycles the stream is offered.
 fn first_given(table: &Table) -> Option<Key>
     ensures { result ≡ first_given (table_view table.now) }
 {
@@ -57,7 +57,7 @@ fn first_given(table: &Table) -> Option<Key>
     None
 }
 
-/// The pacing of a stream's table with these cycles, whose talker may be in step.
+/// Returns the pacing of a stream's table with the given cycles, whose talker may be in step.
 fn pacing_by(table: &Table, every: u32, phase: u32, in_step: bool) -> Result<Pacing, FlowsFault>
     ensures { result ≡ pacing_by every phase in_step (table_view table.now) }
 {
@@ -70,7 +70,7 @@ fn pacing_by(table: &Table, every: u32, phase: u32, in_step: bool) -> Result<Pac
     }
 }
 
-/// In which cycles the stream of a table is to be offered.
+/// Reads in which cycles the stream of a table is offered.
 pub(crate) fn read_pacing(table: &Table) -> Result<Pacing, FlowsFault>
     ensures { result ≡ pacing_from (table_view table.now) }
 {

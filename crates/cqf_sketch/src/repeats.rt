@@ -1,4 +1,4 @@
-//! The first pair of ends that stood earlier.
+//! The first pair of ends that occurred earlier.
 ghost use Rattle.std.specs.Prelude.{◌≡◌, ◌<◌, ◌++◌, ◌∷◌, [], false, length, map, IfOk, IfSome, OnOk};
 ghost use Rattle.std.specs.List.{list_any};
 ghost use Rattle.cqf_sketch.specs.Edges.{first_repeat, pair_of, same_pair};
@@ -15,7 +15,7 @@ fn holds(held: &IndexSet<(End, End)>, pair: (End, End)) -> bool
     held.contains(&pair)
 }
 
-/// Holds a pair of ends that isn't held yet.
+/// Adds a pair of ends that isn't held yet.
 fn hold(held: &mut IndexSet<(End, End)>, pair: (End, End)) -> Result<(), Memory>
     requires { list_any (same_pair (pair_of pair)) (map pair_of held.old.keys) ≡ false }
     ensures { OnOk result (map pair_of held.new.keys ≡ map pair_of held.old.keys ++ pair_of pair ∷ []) }
@@ -24,7 +24,7 @@ fn hold(held: &mut IndexSet<(End, End)>, pair: (End, End)) -> Result<(), Memory>
     Ok(())
 }
 
-/// The place of the first pair that stood earlier.
+/// Returns the index of the first pair that occurred earlier.
 pub(crate) fn find_repeat(alloc: Global, pairs: &[(End, End)]) -> Result<Option<usize>, Memory>
     ensures first { IfOk result (λ place. place ≡ first_repeat [] (map pair_of pairs.now)) }
     ensures within { IfOk result (λ place. IfSome place (λ place. place < length pairs.now)) }

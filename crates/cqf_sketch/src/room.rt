@@ -1,12 +1,12 @@
-//! Links, and what a stream that is to be placed costs of each.
+//! Links, and what a stream to be placed costs on each.
 ghost use Rattle.std.specs.Prelude.{◌≡◌, ◌<◌, length};
 ghost use Rattle.cqf_sketch.specs.Ends.{open_to};
 ghost use Rattle.cqf_sketch.specs.Ways.{has_room, led_by};
 
 use cqf_model::{Link, Node};
 
-/// The links of a network by number, what each has left, and what a stream that is to be placed costs of each, in octets a
-/// cycle. A link has room where no less is left of it. At a cost of 0 each has.
+/// The links of a network by number, what each has left, and what a stream to be placed costs on each, in octets per
+/// cycle. A link has room if it has at least the cost left. At a cost of 0 each link has room.
 #[derive(Clone, Copy)]
 pub struct Room<'a> {
     pub links: &'a [Link],
@@ -15,7 +15,7 @@ pub struct Room<'a> {
     pub cost: u32,
 }
 
-/// The node in which a link ends, where it leaves this one.
+/// Returns the node in which a link ends, if the link leaves the given node.
 fn led_from(node: Node, link: &Link) -> Option<Node>
     ensures { result ≡ led_by node link.now }
 {
@@ -27,7 +27,7 @@ fn led_from(node: Node, link: &Link) -> Option<Node>
 }
 
 impl<'a> Room<'a> {
-    /// Whether the link of a number has room.
+    /// Whether the link with a number has room.
     pub(crate) fn has(self, link: usize) -> bool
         ensures { result ≡ has_room self.entry.left.now self.entry.cost link }
     {
@@ -37,7 +37,7 @@ impl<'a> Room<'a> {
         }
     }
 
-    /// The node that the link of a number leads to from a node, where it has room.
+    /// Returns the node to which the link with a number leads from a node, if the link has room.
     pub(crate) fn led(self, node: Node, link: usize) -> Option<Node>
         requires { link < length self.links.now }
         ensures { result ≡ open_to self.entry.links.now (has_room self.entry.left.now self.entry.cost) node link }

@@ -1,4 +1,4 @@
-//! The streams of a sketch.
+//! The streams of a network file.
 ghost use Rattle.std.specs.Prelude.{◌≡◌, [], map, ok_or};
 ghost use Rattle.toml.specs.Data.{as_table};
 ghost use Rattle.toml.specs.View.{items_view, table_view, view};
@@ -18,20 +18,21 @@ use cqf_traffic::{FlowsFault, Traffic, traffic_of};
 use std::alloc::Global;
 use toml::{Table, Value};
 
-/// A stream of a sketch, as its text has it. Whether it can be met is for the plan to say.
+/// A stream of a network file, as its text says it. The plan shows whether its deadline can be met.
 #[derive(Debug, Drop)]
 pub struct Stream {
     pub name: String,
-    /// The reservation, in octets a cycle, where the text says it. Where it doesn't, there is traffic.
+    /// The reservation, in octets per cycle, if the text gives it. Otherwise there is traffic.
     pub octets: Option<u32>,
     pub pacing: Pacing,
     pub way: WantedWay,
-    /// In nanoseconds: from the instant at which a talker's station begins to send a frame, or else from its edge bridge.
+    /// In nanoseconds: from the instant at which a talker's station begins to send a frame; if there is no talker, from
+    /// its edge bridge.
     pub deadline: Option<u32>,
     pub traffic: Option<Traffic>,
 }
 
-/// The octets of a stream's table, where it has them.
+/// Reads the octets of a stream's table, if it has them.
 fn read_octets(table: &Table) -> Result<Option<u32>, StreamsFault>
     ensures { result ≡ octets_from (table_view table.now) }
 {
@@ -44,7 +45,7 @@ fn read_octets(table: &Table) -> Result<Option<u32>, StreamsFault>
     }
 }
 
-/// The traffic of a stream's table, or the fault of its first bad value.
+/// Reads the traffic of a stream's table, or returns the fault of its first bad value.
 fn read_traffic(table: &Table) -> Result<Option<Traffic>, FlowsFault>
     ensures { result ≡ traffic_or (table_view table.now) }
 {
@@ -54,7 +55,7 @@ fn read_traffic(table: &Table) -> Result<Option<Traffic>, FlowsFault>
     }
 }
 
-/// A stream's table.
+/// Reads a stream's table.
 fn read_stream(alloc: Global, table: &Table) -> Result<Stream, FlowsFault>
     ensures { Gives (FlowsFault.Streams StreamsFault.Memory) stream_text result (stream_from (table_view table.now)) }
 {
@@ -74,7 +75,7 @@ fn read_stream(alloc: Global, table: &Table) -> Result<Stream, FlowsFault>
     })
 }
 
-/// A stream, as an element of the array of streams.
+/// Reads a stream from an element of the array of streams.
 fn stream_in(alloc: Global, value: &Value) -> Result<Stream, FlowsFault>
     ensures { Gives (FlowsFault.Streams StreamsFault.Memory) stream_text result
         (and_then (ok_or (as_table (view value.now)) (FlowsFault.Streams (StreamsFault.BadValue Key.Streams))) stream_from) }
@@ -85,7 +86,7 @@ fn stream_in(alloc: Global, value: &Value) -> Result<Stream, FlowsFault>
     }
 }
 
-/// The elements of the array of streams.
+/// Reads the elements of the array of streams.
 fn all_streams_in(alloc: Global, values: &[Value]) -> Result<Vec<Stream>, FlowsFault>
     ensures { Gives (FlowsFault.Streams StreamsFault.Memory) (λ streams. map stream_text streams.items) result (streams_from (items_view values.now)) }
 {
@@ -97,7 +98,7 @@ fn all_streams_in(alloc: Global, values: &[Value]) -> Result<Vec<Stream>, FlowsF
     Ok(streams)
 }
 
-/// The streams of a document.
+/// Reads the streams of a document.
 fn streams_of_table(alloc: Global, table: &Table) -> Result<Vec<Stream>, FlowsFault>
     ensures { Gives (FlowsFault.Streams StreamsFault.Memory) (λ streams. map stream_text streams.items) result (streams_in (table_view table.now)) }
 {
@@ -108,18 +109,24 @@ fn streams_of_table(alloc: Global, table: &Table) -> Result<Vec<Stream>, FlowsFa
     all_streams_in(alloc, values)
 }
 
-/// The streams of a sketch's text, in its order. Keys that mean nothing here are passed over.
+/// Returns the streams of a network file's text, in its order. Unknown keys are ignored.
 ///
-/// `streams` is an array of tables. Of each these keys are read, in this order: `name`, a text; `octets`, an integer from
-/// 0 to 4,294,967,295, owed where no key of traffic stands; `every` and `phase`, such integers, 1 and 0 where nothing stands there;
-/// `in-step`, a boolean; `path`, an array of texts, or `paths`, an array of such arrays; without these `from`, a name, and `to`, a name or an array of 1 to 64 names, all different; `deadline`, an integer from 1 to
-/// 4,294,967,295; and the keys of traffic ([`cqf_traffic::traffic_of`]).
+/// `streams` is an array of tables. These keys of each are read, in this order:
+///
+/// * `name`: a text.
+/// * `octets`: an integer from 0 to 4,294,967,295. It is required if there is no key of traffic.
+/// * `every` and `phase`: such integers; by default 1 and 0.
+/// * `in-step`: a boolean.
+/// * `path`: an array of texts; or `paths`: an array of such arrays. Without either, `from`: a name; and `to`: a name
+///   or an array of 1 to 64 names, all different.
+/// * `deadline`: an integer from 1 to 4,294,967,295.
+/// * The keys of traffic ([`cqf_traffic::traffic_of`]).
 ///
 /// # Errors
-/// `NotToml` where the text isn't TOML; `Missing` of the first key that is owed and absent, stream by stream; `BadValue` of the first
-/// key with another value, stream by stream, and that is `every` or `phase` beside an `in-step` that is true, `paths` beside a good
-/// `path`, and `from` or `to` beside good branches;
-/// `Memory` where a growth is refused.
+/// `NotToml` if the text isn't TOML. `Missing` with the first required key that is absent, stream by stream. `BadValue`
+/// with the first key that has another value, stream by stream. It is also returned for `every` or `phase` with an
+/// `in-step` that is true, for `paths` with a good `path`, and for `from` or `to` with good branches. `Memory` if an
+/// allocation fails.
 pub fn read_sketch_streams(alloc: Global, text: &[u8]) -> Result<Vec<Stream>, FlowsFault>
     ensures { Gives (FlowsFault.Streams StreamsFault.Memory) (λ streams. map stream_text streams.items) result (sketch_streams_of_text text.now) }
 {

@@ -1,4 +1,4 @@
-//! Which way a stream of a sketch is to go.
+//! The path that a stream of a network file is to take.
 ghost use Rattle.std.specs.Prelude.{◌≡◌, ◌∷◌, [], is_none, is_some, Ok, option_and_then};
 ghost use Rattle.toml.specs.Data.{as_array};
 ghost use Rattle.cqf_model.specs.Domain.{is_text};
@@ -13,19 +13,19 @@ use cqf_units::Name;
 use std::alloc::Global;
 use toml::Table;
 
-/// The most listeners that a stream of a sketch may have.
+/// The most listeners that a stream of a network file may have.
 pub const MOST_LISTENERS: usize = 64;
 
-/// Which way a stream is to go.
+/// The path that a stream is to take.
 #[derive(Debug, Drop)]
 pub enum WantedWay {
-    /// Along these branches, each the names of its bridges, in order, and then of the listener's station.
+    /// Along these branches, each the names of its bridges, in order, followed by that of the listener's station.
     Along(Vec<Vec<String>>),
-    /// From a talker's station or an edge bridge to these listeners, 1 to 64 and all different.
+    /// From a talker's station or an edge bridge to these listeners: 1 to 64, all different.
     Between(Name, Vec<Name>),
 }
 
-/// The first end that stands in a stream's table.
+/// Returns the first end in a stream's table.
 fn first_end(table: &Table) -> Option<Key>
     ensures { result ≡ first_end (table_view table.now) }
 {
@@ -45,14 +45,14 @@ fn is_same(name: &Name, other: &Name) -> bool
     name.as_str() == other.as_str()
 }
 
-/// Whether a name is among some.
+/// Whether a name is in a list.
 fn is_among(name: &Name, names: &[Name]) -> bool
     ensures { result ≡ is_among name.now names.now }
 {
     names.iter().any(|other| is_same(name, other))
 }
 
-/// Whether no name stands twice.
+/// Whether no name occurs twice.
 fn are_different(names: &[Name]) -> bool
     ensures { result ≡ is_none (first_taken [] names.now) }
 {
@@ -64,7 +64,7 @@ fn are_different(names: &[Name]) -> bool
     true
 }
 
-/// Listeners, where they aren't too few or too many, and no two are the same.
+/// Returns the listeners if there are 1 to 64 and no two are the same.
 fn if_listeners(names: Vec<Name>) -> Result<Vec<Name>, StreamsFault>
     ensures { Gives StreamsFault.Memory (λ names. names.items) result (if_listeners names.items) }
 {
@@ -77,7 +77,7 @@ fn if_listeners(names: Vec<Name>) -> Result<Vec<Name>, StreamsFault>
     }
 }
 
-/// A listener as the only one.
+/// Returns a single listener as listeners.
 fn one_listener(alloc: Global, name: Name) -> Result<Vec<Name>, StreamsFault>
     ensures { Gives StreamsFault.Memory (λ names. names.items) result (Ok (name ∷ [])) }
 {
@@ -86,7 +86,7 @@ fn one_listener(alloc: Global, name: Name) -> Result<Vec<Name>, StreamsFault>
     Ok(names)
 }
 
-/// Whether an array stands at the listeners' key of a stream's table.
+/// Whether a stream's table has an array at the listeners' key.
 fn has_array(table: &Table) -> bool
     ensures { result ≡ is_some (option_and_then as_array (value_at Key.To (table_view table.now))) }
 {
@@ -96,7 +96,7 @@ fn has_array(table: &Table) -> bool
     }
 }
 
-/// The listeners of a stream's table.
+/// Reads the listeners of a stream's table.
 fn listeners_at(alloc: Global, table: &Table) -> Result<Vec<Name>, StreamsFault>
     ensures { Gives StreamsFault.Memory (λ names. names.items) result (listeners_of (value_at Key.To (table_view table.now))) }
 {
@@ -106,7 +106,7 @@ fn listeners_at(alloc: Global, table: &Table) -> Result<Vec<Name>, StreamsFault>
     one_listener(alloc, name_at(table, Key::To)?)
 }
 
-/// The way of a stream's table that gives branches.
+/// Reads the path of a stream's table that gives branches.
 fn read_along(alloc: Global, table: &Table) -> Result<WantedWay, StreamsFault>
     ensures { Gives StreamsFault.Memory wanted_text result (along_from (table_view table.now)) }
 {
@@ -117,7 +117,7 @@ fn read_along(alloc: Global, table: &Table) -> Result<WantedWay, StreamsFault>
     }
 }
 
-/// The way of a stream's table that gives its ends.
+/// Reads the path of a stream's table that gives its ends.
 fn read_between(alloc: Global, table: &Table) -> Result<WantedWay, StreamsFault>
     ensures { Gives StreamsFault.Memory wanted_text result (between_from (table_view table.now)) }
 {
@@ -126,7 +126,7 @@ fn read_between(alloc: Global, table: &Table) -> Result<WantedWay, StreamsFault>
     Ok(WantedWay::Between(from, to))
 }
 
-/// The way of a stream's table.
+/// Reads the path of a stream's table.
 pub(crate) fn read_wanted(alloc: Global, table: &Table) -> Result<WantedWay, StreamsFault>
     ensures { Gives StreamsFault.Memory wanted_text result (wanted_from (table_view table.now)) }
 {

@@ -1,4 +1,4 @@
-//! Sets of nodes in which a way may end.
+//! Sets of nodes in which a path may end.
 ghost use Rattle.std.specs.Prelude.{◌≡◌, ◌<◌, false, length, slice_index_or};
 ghost use Rattle.cqf_sketch.specs.Ends.{IsMarkedBy, is_in, open_to};
 ghost use Rattle.cqf_sketch.specs.Steps.{AreBefore};
@@ -16,7 +16,7 @@ pub(crate) enum Ends {
     Bridges([bool; MOST_BRIDGES]),
 }
 
-/// Whether the bridge of a number is marked.
+/// Whether the bridge with a number is marked.
 fn is_set(marks: &[bool; MOST_BRIDGES], bridge: u16) -> bool
     ensures { result ≡ slice_index_or marks.now bridge false }
 {
@@ -40,7 +40,7 @@ impl Ends {
         }
     }
 
-    /// Marks the bridge that a link leaves, where it has room and leads into the set.
+    /// Marks the bridge that a link leaves, if the link has room and leads into the set.
     fn mark(&self, room: Room, link: usize, marks: &mut [bool; MOST_BRIDGES])
         requires inside { link < length room.links.now }
         requires links { AreLinks room.links.now }
@@ -52,7 +52,7 @@ impl Ends {
         }
     }
 
-    /// The bridges from which some link with room leads into the set.
+    /// Returns the bridges from which some link with room leads into the set.
     pub fn before(&self, room: Room) -> Ends
         requires { AreLinks room.links.now }
         ensures { AreBefore (open_to room.entry.links.now (has_room room.entry.left.now room.entry.cost)) (is_in self.now) (is_in result) }

@@ -1,4 +1,4 @@
-//! The first way of fewest links with room.
+//! The first path of fewest links with room.
 ghost use Rattle.std.specs.Prelude.{◌≡◌, ◌≤◌, ◌<◌, IfSome, MatchOption, length};
 ghost use Rattle.cqf_sketch.specs.Ends.{is_in, open_to};
 ghost use Rattle.cqf_sketch.specs.Steps.{IsFirstInto, IsFirstStep, NoneLeadsInto, NoneInto};
@@ -9,17 +9,17 @@ use crate::way_ends::Ends;
 use arrayvec::ArrayVec;
 use cqf_model::Node;
 
-/// The most links of a way: a stream's branch has at most so many bridges.
+/// The most links of a path; a stream's branch has at most that many bridges.
 pub const MOST_LINKS: u8 = 16;
 
-/// The first way into a set of nodes, and the node in which it ends.
+/// The first path into a set of nodes, and the node in which it ends.
 #[derive(Drop)]
 struct FirstWay {
     way: ArrayVec<u16, 16>,
     end: Node,
 }
 
-/// The first link with room that leads from a node into a set, and the node in which it ends.
+/// Returns the first link with room that leads from a node into a set, and the node in which it ends.
 fn first_link(room: Room, node: Node, ends: &Ends) -> Option<(u16, Node)>
     requires { AreLinks room.links.now }
     ensures { let next = open_to room.entry.links.now (has_room room.entry.left.now room.entry.cost) in
@@ -35,12 +35,13 @@ fn first_link(room: Room, node: Node, ends: &Ends) -> Option<(u16, Node)>
     None
 }
 
-/// Of the ways with room from a bridge into a set of nodes, of at most so many links, the first: that has fewest links, and of
-/// these the one whose links have the lowest numbers, compared from the first on.
+/// Returns the first path with room of at most `most` links from a bridge into a set of nodes: one with fewest links,
+/// and of these the one whose link numbers are lowest, compared from the first link on.
 ///
-/// It is found layer by layer from its end. Before the set there stand the bridges from which a link leads into it, before
-/// these others, and so on, until the bridge is among them. The first way goes on from the first way into the layer before by
-/// the first link that leads on.
+/// It is found layer by layer from its end. The layer before the set has the bridges from which a link leads into the
+/// set. The layer before that has the bridges from which a link leads into this layer, and so on, until the starting
+/// bridge is in the layer. Then the first path into a set is the first path into the layer before it, followed by the
+/// first link that leads on into the set.
 fn way_into(room: Room, from: u16, ends: &Ends, most: u8) -> Option<FirstWay>
     requires links { AreLinks room.links.now }
     requires short { most ≤ 16 }
@@ -66,9 +67,11 @@ fn way_into(room: Room, from: u16, ends: &Ends, most: u8) -> Option<FirstWay>
     Some(FirstWay { way, end })
 }
 
-/// Of the ways from a bridge to a node on which each link has room, of at most 16 links, the first: that has fewest links, and
-/// of these the one whose links have the lowest numbers, compared from the first on. `None` exactly where there is none
-///. Links are numbered from 0. There are at most 4,096, and they leave the first 1,024 bridges.
+/// Returns the first path of at most 16 links from a bridge to a node on which each link has room; `None` if and only if
+/// there is no such path. The first path is one with fewest links, and of these the one whose link numbers are lowest,
+/// compared from the first link on.
+///
+/// Links are numbered from 0. There are at most 4,096, and they leave the first 1,024 bridges.
 pub fn first_way(room: Room, from: u16, to: Node) -> Option<ArrayVec<u16, 16>>
     requires { AreLinks room.links.now }
     ensures { let roomy = has_room room.entry.left.now room.entry.cost in
@@ -79,7 +82,7 @@ pub fn first_way(room: Room, from: u16, to: Node) -> Option<ArrayVec<u16, 16>>
     Some(found.way)
 }
 
-/// The first link of a way that has no room.
+/// Returns the first link of a path that has no room.
 pub fn first_short(room: Room, way: &[u16]) -> Option<u16>
     ensures { result ≡ short_link room.entry.left.now room.entry.cost way.now }
 {

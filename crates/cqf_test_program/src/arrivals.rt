@@ -1,10 +1,10 @@
-//! Arrivals read, or refused.
+//! Tests of reading arrivals.
 use cqf_model::Arrival;
 use cqf_report::{TableFault, read_arrivals};
 use cqf_units::Nanos;
 use std::alloc::Global;
 
-/// The arrival that most texts begin with.
+/// The arrival with which most texts begin.
 const FIRST: Arrival = Arrival {
     at: Nanos(10),
     class: 6,
@@ -12,7 +12,7 @@ const FIRST: Arrival = Arrival {
     frame: 1,
 };
 
-/// An arrival whose numbers are the greatest.
+/// An arrival whose numbers are the greatest that are allowed.
 const GREATEST: Arrival = Arrival {
     at: Nanos(10),
     class: 7,
@@ -20,14 +20,14 @@ const GREATEST: Arrival = Arrival {
     frame: u32::MAX,
 };
 
-/// Texts, and the arrivals that they have, or the first fault of each.
+/// Texts, and their arrivals or the first fault of each.
 const CASES: &[(&[u8], Result<&[Arrival], TableFault>)] = &[
     // rows in order
     (
         b"at,class,octets,frame\n10,6,64,1\n10,7,1522,4294967295\n",
         Ok(&[FIRST, GREATEST]),
     ),
-    // quotes, line ends and empty lines as csv has them
+    // quotes, line ends and empty lines, as CSV allows
     (
         b"\"at\",class,octets,frame\r\n\"10\",6,0064,1\r\n",
         Ok(&[FIRST]),
@@ -78,7 +78,7 @@ const CASES: &[(&[u8], Result<&[Arrival], TableFault>)] = &[
     ),
 ];
 
-/// Whether the text has exactly these arrivals, or is refused for this fault.
+/// Whether the text has exactly these arrivals, or is refused with this fault.
 fn is_answered(alloc: Global, text: &[u8], wanted: Result<&[Arrival], TableFault>) -> bool {
     match read_arrivals(alloc, text) {
         Ok(arrivals) => matches!(wanted, Ok(rows) if arrivals.as_slice() == rows),

@@ -1,4 +1,4 @@
-//! Background frames read, or refused.
+//! Tests of reading background frames.
 use cqf_model::Background;
 use cqf_report::{TableFault, read_background};
 use cqf_test_fixtures::one_link;
@@ -7,7 +7,7 @@ use cqf_units::Nanos;
 use std::alloc::Global;
 use std::process::Abort;
 
-/// Texts, and the background frames that they have, all of the first link, or the first fault of each.
+/// Texts, and their background frames, all of the first link, or the first fault of each.
 const CASES: &[(&str, Result<&[Background], TableFault>)] = &[
     (
         "at,from,to,class,octets\n120000,a,s,0,1522\n999999999999,a,s,5,64",
@@ -67,7 +67,7 @@ const CASES: &[(&str, Result<&[Background], TableFault>)] = &[
     ("", Err(TableFault::BadHeader)),
 ];
 
-/// Whether the text has exactly these frames, or is refused for this fault.
+/// Whether the text has exactly these frames, or is refused with this fault.
 fn is_answered(
     alloc: Global,
     domain: &Domain,
@@ -80,7 +80,7 @@ fn is_answered(
     }
 }
 
-/// Asserts what each text is answered with over the domain of another, which is read.
+/// Asserts the expected result of each text, over the domain of `text`.
 fn answers_over(rt: &impl Abort, alloc: Global, text: &str) -> bool {
     match Domain::read(alloc, text.as_bytes()) {
         Ok(domain) => {

@@ -1,4 +1,5 @@
-//! The program over readers and writers that fail, and over each front of its input: a frame of one stream goes along three bridges.
+//! The program over readers and writers that fail, and over each prefix of its input: a frame of one stream goes along
+//! three bridges.
 
 ghost use Rattle.std.specs.Prelude.{⊤};
 
@@ -23,23 +24,23 @@ const TOLD: &str = "0 admit x accepted 0 0\n1 seal\n1 seal\n1 seal\n1 seal\n1 se
     what,cycle,where,frame,octets,detail\n\
     start,1,a>b,1,64,125000\nstart,2,b>c,1,64,250000\nstart,3,c>s,1,64,375000\n";
 
-/// The output where nothing is offered.
+/// The output if nothing is offered.
 const NOTHING_OFFERED: &str = "0 admit x accepted 0 0\n1 seal\n1 seal\n1 seal\n1 seal\n1 seal\n%%\n\
     what,cycle,where,frame,octets,detail\n";
 
-/// The words that stand in the first line.
+/// The words in the first line.
 const WORDS: &[&str] = &["run", "--cycles", "5"];
 
-/// How many bytes of the input are the words and the end of their line.
+/// The number of bytes of the words and the end of their line.
 const WORDS_END: usize = 15;
 
-/// The words of the sums by link.
+/// The words for the sums by link.
 const REPORT: &[&str] = &["report", "--cycles", "5"];
 
 /// The sums by link.
 const SUMS: &str = "link,frames,octets,most\na>b,1,64,64\nb>c,1,64,64\nc>s,1,64,64\n";
 
-/// A reader that gives a text in pieces of at most 7 bytes, and fails once it was read so many times.
+/// A reader that returns a text in pieces of at most 7 bytes, and fails after a number of reads.
 #[derive(Drop)]
 struct Breaks {
     text: &'static [u8],
@@ -58,7 +59,7 @@ impl Read for Breaks {
     }
 }
 
-/// It may fail for anything.
+/// It may fail with any error.
 impl Source for Breaks {
     ghost fails = { λ _. ⊤ };
 
@@ -77,7 +78,7 @@ impl Read for Endless {
     }
 }
 
-/// It may fail for anything.
+/// It may fail with any error.
 impl Source for Endless {
     ghost fails = { λ _. ⊤ };
 
@@ -86,7 +87,7 @@ impl Source for Endless {
     }
 }
 
-/// How a writer refuses, once it has no room: it fails, takes nothing without failing, or fails when it is flushed alone.
+/// How a writer refuses once it has no room: it fails, takes nothing without failing, or fails only when it is flushed.
 #[derive(Clone, Copy)]
 enum Refusal {
     Fails,
@@ -94,7 +95,7 @@ enum Refusal {
     FailsWhenFlushed,
 }
 
-/// A writer that takes so many bytes, and then refuses.
+/// A writer that takes a number of bytes, and then refuses.
 #[derive(Drop)]
 struct Narrow {
     room: usize,
@@ -120,7 +121,7 @@ impl Write for Narrow {
     }
 }
 
-/// It may refuse for anything.
+/// It may refuse with any error.
 impl Sink for Narrow {
     ghost refuses = { λ _. ⊤ };
 
@@ -136,8 +137,8 @@ impl Sink for Narrow {
 /// More bytes than any text here has.
 const WIDE: usize = 100_000;
 
-/// What a run is to end with: its status, what stands on its output, whether that has refused anything, and what stands on the writer of
-/// faults. Where no text of faults is given, there is one exactly where the status isn't 0.
+/// The expected end of a run: its status, the text on its output, whether the output has refused anything, and the text
+/// on the writer of faults. If no text of faults is given, there is one if and only if the status isn't 0.
 #[derive(Clone, Copy)]
 struct End {
     status: u8,
@@ -146,7 +147,7 @@ struct End {
     faults: Option<&'static str>,
 }
 
-/// All is told.
+/// All is written.
 const DONE: End = End {
     status: 0,
     output: TOLD,
@@ -170,7 +171,7 @@ const OUTPUT_FAULT: End = End {
     ..DONE
 };
 
-/// The input is refused, whatever its line is.
+/// The input is refused, with any line.
 const REFUSED: End = End {
     status: 1,
     output: "",
@@ -178,7 +179,7 @@ const REFUSED: End = End {
     ..DONE
 };
 
-/// Whether a run that ended so is one that is wanted.
+/// Whether a run ended as expected.
 fn is_end(status: u8, output: &Told<Narrow>, faults: &Told<Narrow>, wanted: End) -> bool {
     let line = faults.writer().taken.as_slice();
     let is_told = match wanted.faults {
@@ -191,7 +192,8 @@ fn is_end(status: u8, output: &Told<Narrow>, faults: &Told<Narrow>, wanted: End)
         && output.writer().taken.as_slice() == wanted.output.as_bytes()
 }
 
-/// Whether a run ends so, where its output has so much room, and refuses so, and its writer of faults has so much room.
+/// Whether a run ends as expected, if its output and its writer of faults have this room, and its output refuses in
+/// this way.
 fn ends<R: Source + Drop>(
     rt: &(impl Threads + Wait + Sync),
     alloc: Global,
@@ -216,16 +218,16 @@ fn ends<R: Source + Drop>(
     is_end(status, &output, &faults, wanted)
 }
 
-/// Writers that take all.
+/// Writers that take everything.
 const OPEN: (usize, Refusal, usize) = (WIDE, Refusal::Fails, WIDE);
 
-/// How a run over the input without its last bytes ends, so many. There is a table of offers where its header is whole, and an offer
-/// where its octets are 64.
+/// Returns how a run over the input without its last `missing` bytes ends. There is a table of offers if its header is
+/// complete, and an offer if its octets are 64.
 fn end_without(missing: usize) -> End {
     match missing {
         // the line feed of the last row may be missing
         0 | 1 => DONE,
-        // so may the row, and the line feed of the header
+        // so may the row, and also the line feed of the header
         9 | 10 => End {
             output: NOTHING_OFFERED,
             ..DONE
@@ -234,7 +236,7 @@ fn end_without(missing: usize) -> End {
     }
 }
 
-/// How a run over the first bytes of the input ends, so many: where the words are cut short, they are a mistake.
+/// Returns how a run over the first `cut` bytes of the input ends. If the words are cut short, they are a mistake.
 fn end_of_front(cut: usize) -> End {
     if cut < WORDS_END - 1 {
         return End {
@@ -269,10 +271,10 @@ fn each_front_of_the_parts_ends_with_its_first_fault(rt: HostRuntime) {
     }
 }
 
-/// How many reads give all of the input, 368 bytes, and then its end.
+/// The number of reads that return all of the input, 368 bytes, and then its end.
 const READS: usize = 54;
 
-/// Whether a run that reads so often ends so.
+/// Whether a run with this number of reads ends as expected.
 fn read_ends(
     rt: &(impl Threads + Wait + Sync),
     alloc: Global,
@@ -311,7 +313,7 @@ fn a_reader_that_never_ends_is_left(rt: HostRuntime) {
     assert!(rt; ends(&rt, rt.alloc(), &["compile"], Endless, OPEN, end));
 }
 
-/// How a run whose output has so much room ends, where all of it is this text.
+/// Returns how a run ends whose output has this room and whose whole output is this text.
 fn end_in_room(room: usize, text: &'static str) -> End {
     match text.get(..room) {
         Some(front) if room < text.len() => End {
@@ -325,7 +327,8 @@ fn end_in_room(room: usize, text: &'static str) -> End {
     }
 }
 
-/// Whether a run whose output refuses so, at any place, leaves just the front of this text up to there.
+/// Whether a run whose output refuses in this way, at any index, leaves exactly the prefix of this text up to that
+/// index.
 fn leaves_each_front(
     rt: &(impl Threads + Wait + Sync),
     alloc: Global,

@@ -1,5 +1,6 @@
-//! Tests of tables and words, and of the program over readers and writers that fail, with values from outside. A crate that has tests is
-//! proved twice, so these stand in one of their own; what the program writes for its words and input is in the stored runs of `runs/`.
+//! Tests of tables and words, and of the program over readers and writers that fail, with values from outside. A crate
+//! with tests is proved twice, so they have their own crate. The stored runs of `runs/` have what the program writes
+//! for its words and input.
 #![tactic(auto)]
 
 #[cfg(test)]

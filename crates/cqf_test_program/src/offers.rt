@@ -1,4 +1,4 @@
-//! Offers read, or refused.
+//! Tests of reading offers.
 use cqf_model::Offer;
 use cqf_report::{TableFault, read_offers};
 use cqf_test_fixtures::line;
@@ -9,7 +9,7 @@ use std::process::Abort;
 /// An offer: its instant, its bridge, its stream and its octets.
 type Offering = (u64, u16, &'static str, u32);
 
-/// Texts, and the offers that they have, or the first fault of each.
+/// Texts, and their offers or the first fault of each.
 const CASES: &[(&[u8], Result<&[Offering], TableFault>)] = &[
     (
         b"at,bridge,stream,octets\n0,a,y,64\n0,b,x,1522\n999999999999,c,x,64\n",
@@ -67,7 +67,7 @@ fn are_offers(offers: &[Offer], rows: &[Offering]) -> bool {
         })
 }
 
-/// Whether the text has exactly these offers, or is refused for this fault.
+/// Whether the text has exactly these offers, or is refused with this fault.
 fn is_answered(
     alloc: Global,
     domain: &Domain,
@@ -80,7 +80,7 @@ fn is_answered(
     }
 }
 
-/// Asserts what each text is answered with over the domain of another, which is read.
+/// Asserts the expected result of each text, over the domain of `text`.
 fn answers_over(rt: &impl Abort, alloc: Global, text: &str) -> bool {
     match Domain::read(alloc, text.as_bytes()) {
         Ok(domain) => {

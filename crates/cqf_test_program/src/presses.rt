@@ -1,4 +1,4 @@
-//! Text that is told in sheets, to writers in memory and to some that refuse a write.
+//! Text that is written in sheets, to writers in memory and to some that refuse a write.
 
 ghost use Rattle.std.specs.Prelude.{⊤};
 
@@ -8,7 +8,7 @@ use std::io;
 use std::io::{ErrorKind, Write};
 use std::test::Fail;
 
-/// A writer that keeps count of its writes, bytes and flushes, and refuses the write of this number, from 0, and no other.
+/// A writer that counts its writes, bytes and flushes, and refuses only the write with this number, from 0.
 #[derive(Drop)]
 struct Refuses {
     at: u32,
@@ -18,7 +18,7 @@ struct Refuses {
 }
 
 impl Refuses {
-    /// A writer that was asked for nothing yet.
+    /// Returns a writer that has taken nothing yet.
     fn new(at: u32) -> Refuses {
         Refuses {
             at,
@@ -46,7 +46,7 @@ impl Write for Refuses {
     }
 }
 
-/// It may refuse for anything.
+/// It may refuse with any error.
 impl Sink for Refuses {
     ghost refuses = { λ _. ⊤ };
 
@@ -59,7 +59,7 @@ impl Sink for Refuses {
     }
 }
 
-/// Tells the numbers from 100,000 on, so many, each on a line of its own.
+/// Writes `many` numbers from 100,000 on, each on its own line.
 fn tell_numbers<W: Sink>(told: &mut Told<W>, sheet: Sheet, many: u64) {
     let mut press = Press::new(told, sheet);
     for number in 0..many {
@@ -69,7 +69,7 @@ fn tell_numbers<W: Sink>(told: &mut Told<W>, sheet: Sheet, many: u64) {
     let _told = press.close();
 }
 
-/// What a press tells of pieces of each kind.
+/// Returns what a press writes for pieces of each kind.
 fn pieces(alloc: Global, long: &[u8]) -> Result<Vec<u8>, Fail> {
     let mut told = Told::new(Vec::new(alloc));
     let mut press = Press::new(&mut told, Sheet::new(alloc)?);
@@ -92,7 +92,7 @@ fn pieces_are_told_in_their_order(rt: HostRuntime) -> Result<(), Fail> {
     Ok(())
 }
 
-/// A text that is longer than a piece may be stands between what was put before and behind it.
+/// A text that is longer than the longest piece is written between what was put before and after it.
 #[test]
 fn long_text_is_told_past_the_sheet(rt: HostRuntime) -> Result<(), Fail> {
     let text = pieces(rt.alloc(), &[b'x'; 700])?;
@@ -117,7 +117,7 @@ fn text_is_told_in_sheets(rt: HostRuntime) -> Result<(), Fail> {
     Ok(())
 }
 
-/// Where a write is refused, none comes behind it, and no flush.
+/// After a refused write there is no other write, and no flush.
 #[test]
 fn nothing_is_told_behind_a_refusal(rt: HostRuntime) -> Result<(), Fail> {
     for at in 0..3 {

@@ -11,7 +11,8 @@ const OFFERS: &str = "at,bridge,stream,octets\n124999,a,x,64\n";
 
 const BOOK: &str = "what,cycle,where,frame,octets,detail\nstart,1,a>s,1,64,125000\n";
 
-/// A reader that gives a text in pieces of at most 7 octets, each of them at the second try: a signal interrupts the first.
+/// A reader that returns a text in pieces of at most 7 octets, each of them at the second try: a signal interrupts the
+/// first.
 #[derive(Drop)]
 struct Interrupted {
     text: &'static [u8],
@@ -30,7 +31,7 @@ impl Read for Interrupted {
     }
 }
 
-/// It may fail for anything.
+/// It may fail with any error.
 impl Source for Interrupted {
     ghost fails = { λ _. ⊤ };
 
@@ -64,7 +65,7 @@ impl Write for Interrupting {
     }
 }
 
-/// It may refuse for anything.
+/// It may refuse with any error.
 impl Sink for Interrupting {
     ghost refuses = { λ _. ⊤ };
 

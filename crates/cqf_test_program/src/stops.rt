@@ -1,10 +1,10 @@
-//! How a run ends early.
+//! Runs that end early.
 use cqf_press::Stop;
 use std::alloc::Global;
 use std::io;
 use std::io::ErrorKind;
 
-/// Whether an end has this status and this text.
+/// Whether a stop has this status and this text.
 fn ends(stop: &Stop, status: u8, text: &str) -> bool {
     stop.status == status && stop.text.as_slice() == text.as_bytes()
 }
@@ -21,7 +21,7 @@ fn want_of_memory_is_told_by_its_status_alone(rt: HostRuntime) {
     assert!(rt; ends(&stop, 3, ""));
 }
 
-/// Whether a run whose words can't be had for such an error ends with this status and this text.
+/// Whether a run whose words can't be read, for such an error, ends with this status and this text.
 fn ends_without_words(alloc: Global, kind: ErrorKind, status: u8, text: &str) -> bool {
     let stop = Stop::without_words(alloc, &io::Error::from(kind));
     ends(&stop, status, text)

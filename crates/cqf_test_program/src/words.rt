@@ -1,10 +1,11 @@
-//! Words read.
+//! Tests of reading words.
 use cqf_press::{DONE, USAGE};
 use cqf_program_words::{Format, Job, candidates_named, read_words};
 use cqf_units::Rate;
 use std::alloc::Global;
 
-/// A job whose words name no stream, no bridge and no candidates: a job of `cqf_program_words` may hold what no table can.
+/// A job whose words name no stream, bridge or candidates: a job of `cqf_program_words` can have what a constant table
+/// can't.
 enum Meant {
     Port { until: u64, rate: Rate },
     Line { cycles: u32 },
@@ -73,7 +74,7 @@ const AS_SCRIPT: Meant = Meant::CompileTc { is_software: false };
 
 const IN_SOFTWARE: Meant = Meant::CompileTc { is_software: true };
 
-/// Words, the job that they mean, and the status that they end with where they mean none.
+/// Words, and the job that they mean or the status with which they end.
 const CASES: &[(&[&str], Option<Meant>, u8)] = &[
     (&["port", "--until", "5"], Some(FIVE), DONE),
     (
@@ -109,7 +110,7 @@ const CASES: &[(&[&str], Option<Meant>, u8)] = &[
         Some(Meant::CompileJson),
         DONE,
     ),
-    // a bridge goes with `env` alone, and software with `tc`
+    // a bridge is given only with `env`, and software only with `tc`
     (&["compile", "--format", "env"], None, USAGE),
     (&["compile", "--bridge", "a"], None, USAGE),
     (&["compile", "--format", "tc", "--bridge", "a"], None, USAGE),
@@ -132,7 +133,7 @@ const CASES: &[(&[&str], Option<Meant>, u8)] = &[
     ),
     (&["load", "--bridge", "a"], None, USAGE),
     (&["latency", "--software"], None, USAGE),
-    // the format is of `compile` alone, has one of four values, and stands once
+    // the format is an option of `compile` only, has one of four values, and occurs once
     (&["compile", "--format"], None, USAGE),
     (&["compile", "--format", "TC"], None, USAGE),
     (&["compile", "--format", "lists"], None, USAGE),
@@ -215,7 +216,7 @@ const CASES: &[(&[&str], Option<Meant>, u8)] = &[
     (&["check", "--cycles", "3", "--strict"], None, USAGE),
     (&["run"], None, USAGE),
     (&["run", "--cycles", "100001"], None, USAGE),
-    // the flag is of `run` alone, takes no value, stands once and in full
+    // the flag is one of `run` only, takes no value, and occurs once, with its full name
     (&["run", "--threads"], None, USAGE),
     (&["line", "--cycles", "3", "--threads"], None, USAGE),
     (&["report", "--cycles", "3", "--threads"], None, USAGE),
@@ -312,7 +313,7 @@ fn words_mean_a_job_or_are_misuse(rt: HostRuntime) {
     }
 }
 
-/// Whether the words mean hops of the frames of this stream.
+/// Whether the words mean `hops` for the frames of this stream.
 fn is_of_stream(alloc: Global, words: &[&str], name: &str) -> bool {
     match read_words(alloc, words) {
         Ok(
@@ -340,7 +341,7 @@ fn hops_are_of_a_stream_of_any_name(rt: HostRuntime) {
     assert!(rt; is_of_stream(alloc, &["hops", "--stream=-x", "--cycles=5"], "-x"));
 }
 
-/// Whether a format is that of the variables of the bridge of this name.
+/// Whether a format is that of the variables of the bridge with this name.
 fn is_env_of(format: &Format, name: &str) -> bool {
     match *format {
         Format::Env { ref bridge } => bridge.as_str() == name,
@@ -348,7 +349,7 @@ fn is_env_of(format: &Format, name: &str) -> bool {
     }
 }
 
-/// Whether a job is to write the variables of the bridge of this name.
+/// Whether a job writes the variables of the bridge with this name.
 fn writes_env_of(job: &Job, name: &str) -> bool {
     match *job {
         Job::Compile { ref format } => is_env_of(format, name),
@@ -356,7 +357,7 @@ fn writes_env_of(job: &Job, name: &str) -> bool {
     }
 }
 
-/// Whether the words mean that.
+/// Whether the words mean such a job.
 fn is_of_bridge(alloc: Global, words: &[&str], name: &str) -> bool {
     match read_words(alloc, words) {
         Ok(job) => writes_env_of(&job, name),
@@ -377,7 +378,7 @@ fn variables_are_of_a_bridge(rt: HostRuntime) {
     assert!(rt; is_of_bridge(alloc, &["compile", "--bridge=-x", "--format=env"], "-x"));
 }
 
-/// Words that clap takes and that mean no job, and what their line says.
+/// Words that clap accepts and that mean no job, and the text of their line.
 const MISTAKES: &[(&[&str], &str)] = &[
     (
         &["plan", "--cycle", "125us"],
@@ -425,14 +426,14 @@ fn mistakes_say_what_is_wanted(rt: HostRuntime) {
     }
 }
 
-/// Words for candidates, and the cycle times that they name: none where they name none.
+/// Words for candidates, and the cycle times that they name; none if they name none.
 const CANDIDATES: &[(&str, &[u32])] = &[
     ("10000", &[10_000]),
     ("00000000000010000000", &[10_000_000]),
     ("20000..100000/40000", &[20_000, 60_000, 100_000]),
     ("20000..99999/40000", &[20_000, 60_000]),
     ("10000..10000/1", &[10_000]),
-    // a step beyond the last one leaves the first alone, however many digits it has
+    // a step beyond the last one leaves only the first, regardless of its number of digits
     ("200000..300000/100001", &[200_000]),
     ("200000..300000/99999999999999999999", &[200_000]),
     ("200000..300000/100000000000000000000", &[]),
@@ -472,7 +473,7 @@ fn words_name_candidates(rt: HostRuntime) {
     }
 }
 
-/// How many candidates the word for `plan` gives, and its first and last.
+/// Returns how many candidates the word for `plan` gives, with the first and the last.
 fn given_by(alloc: Global, word: &str) -> Option<(usize, u32, u32)> {
     let Ok(
         Job::Plan {
@@ -498,7 +499,7 @@ fn a_plan_is_given_at_most_1000_candidates(rt: HostRuntime) {
     assert!(rt; given_by(alloc, "10000..11000/1").is_none());
 }
 
-/// Whether the help that the words ask for has this text in it.
+/// Whether the help that the words request contains this text.
 fn help_has(alloc: Global, words: &[&str], text: &str) -> bool {
     match read_words(alloc, words) {
         Ok(_) => false,
@@ -509,10 +510,10 @@ fn help_has(alloc: Global, words: &[&str], text: &str) -> bool {
     }
 }
 
-/// Words that ask for help, and a text in it.
+/// Words that request help, and a text that the help contains.
 const HELP: &[(&[&str], &str)] = &[
     (&["--help"], "Usage: cqf <COMMAND>"),
-    // of an empty line too
+    // for an empty line too
     (&[""], "Usage: cqf <COMMAND>"),
     (&["compile", "--help"], "--bridge <NAME> "),
     (&["compile", "--help"], "--software "),

@@ -28,7 +28,7 @@ use Rattle.cqf_program_runs.specs.Deliveries.{deliveries_of, fate_of}
 use Rattle.cqf_program_runs.specs.Deliveries.Text.{text_of_listeners_latency}
 use Rattle.cqf_program_runs.specs.Check.RefusedCalls.{first_refused, refused_call_line}
 
--- the fates of which a check ends: a drop, and a frame that is late
+-- the fates for which a check ends: a drop, and a late frame
 abbrev pub is_bad : Fate → Bool
 is_bad fate.Delivered = false
 is_bad fate.Late = true
@@ -47,7 +47,7 @@ is_delivered fate.Late = false
 is_delivered fate.UnderWay = false
 is_delivered (fate.Dropped reason) = false
 
--- whether there is a deadline
+-- whether a frame that goes to a listener has a deadline
 abbrev pub is_timed : Passage → Bool
 is_timed (passage.Dropped reason) = false
 is_timed (passage.Goes journey) = is_some journey.deadline
@@ -60,7 +60,7 @@ complaint_of at (passage.Goes journey) =
     ++ (journey.listener
     ++ (codes ", " ++ (text_of_listeners_latency at journey.whole ++ (codes " after its offer, deadline " ++ text_of_deadline journey.deadline))))
 
--- and its line
+-- the line with that
 abbrev pub complaint_line : Delivery → List ℕ
 complaint_line delivery = fault_line (codes "check")
     (codes "frame "
@@ -70,16 +70,16 @@ complaint_line delivery = fault_line (codes "check")
     ++ (codes ", offered to "
     ++ (delivery.bridge ++ (codes " at " ++ (decimal delivery.at.0 ++ (codes ": " ++ complaint_of delivery.at.0 delivery.passage)))))))))
 
--- for how many cycles behind its own a frame of one of some rows may be under way
+-- the most cycles after its own for which a frame of one of the rows can be under way
 abbrev pub deepest : List Row → ℕ
 deepest rows = fold (λ most (row : Row). max most (residence row)) 0 rows
 
--- the cycle of the latest offer
+-- the cycle of the latest offer; 0 if there is none
 abbrev pub latest_cycle : Domain → List Offer → ℕ
 latest_cycle d offers = fold (λ most (offer : Offer). max most (cycle_at d.cycle_time offer.at.0)) 0 offers
 
--- how many offers there are in a run over so many cycles, how many are of cycles that aren't run, and how many cycles would do: as many that a
--- frame of the latest offer comes to each listener of its row, whichever of these that is
+-- the number of offers in a run over some cycles; how many are of cycles that aren't run; and a number of cycles after
+-- which a frame of the latest offer has reached each listener of its row, whichever row that is
 abbrev pub offer_counts : Domain → ℕ → List Row → List Offer → OfferCounts
 offer_counts d cycles rows offers = record {
   frames = length offers;
@@ -87,7 +87,7 @@ offer_counts d cycles rows offers = record {
   enough = latest_cycle d offers + deepest rows + 1;
 }
 
--- the counts of some deliveries beside those of the offers
+-- the counts of deliveries, together with those of the offers
 abbrev pub counts_of : OfferCounts → List Delivery → CheckCounts
 counts_of offers deliveries = record {
   offers = offers;
@@ -96,15 +96,15 @@ counts_of offers deliveries = record {
   timed = count_by (λ (delivery : Delivery). is_delivered (fate_of delivery) && is_timed delivery.passage) deliveries;
 }
 
--- the line where nothing is offered
+-- the line if nothing is offered
 abbrev pub none_offered_line : List ℕ
 none_offered_line = fault_line (codes "check") (codes "no frame is offered")
 
--- where nothing has come, and how many cycles would do
+-- the line if nothing has arrived, with the number of cycles that would do
 abbrev pub none_come_line : CheckCounts → List ℕ
 none_come_line counts = fault_line (codes "check") (codes "no frame; " ++ (decimal counts.offers.enough ++ codes " cycles would do"))
 
--- and where not all has come
+-- the line if some deliveries haven't arrived or some offers are of cycles that aren't run
 abbrev pub some_come_line : CheckCounts → List ℕ
 some_come_line counts =
     fault_line (codes "check") (codes "unfinished, under way " ++ (decimal counts.under_way ++ (codes ", not run " ++ decimal counts.offers.later)))
@@ -112,35 +112,36 @@ some_come_line counts =
 abbrev pub unfinished_line : CheckCounts → List ℕ
 unfinished_line counts = if counts.delivered == 0 then none_come_line counts else some_come_line counts
 
--- the line where all is well
+-- the line if all is well
 abbrev pub well_line : CheckCounts → List ℕ
 well_line counts = line_of
     (codes "well: frames "
     ++ (decimal counts.offers.frames ++ (codes ", deliveries " ++ (decimal counts.delivered ++ (codes ", with a deadline " ++ decimal counts.timed)))))
 
--- whether all has come
+-- whether no delivery is under way and no offer is of a cycle that isn't run
 abbrev pub is_finished : CheckCounts → Bool
 is_finished counts = (counts.under_way == 0) && (counts.offers.later == 0)
 
--- all is well where something is offered, and all of it has come
+-- all is well if something is offered and all of it has arrived; otherwise the line that says why not
 abbrev pub finished : CheckCounts → Result (List ℕ) (List ℕ)
 finished counts =
     if counts.offers.frames == 0 then Err none_offered_line else (if is_finished counts then Ok (well_line counts) else Err (unfinished_line counts))
 
--- the line of the first delivery that is bad; else that of what has not come; else all is well
+-- the line of the first bad delivery if there is one; otherwise the result of the counts
 abbrev pub checked_by : List Delivery → CheckCounts → Result (List ℕ) (List ℕ)
 checked_by deliveries counts = refuse (find (λ (delivery : Delivery). is_bad (fate_of delivery)) deliveries) complaint_line (finished counts)
 
--- what is counted of the offers of a run, whose history granted these rows
+-- the counts of the offers of a run whose history granted these rows
 abbrev pub run_offers : List Row → Run → OfferCounts
 run_offers rows run = offer_counts run.domain (length run.tables) rows run.offers
 
--- of the frames of a run, by its book
+-- the check of the frames of a run, by its book
 abbrev pub checked_deliveries : List Row → Run → List PlannedText → Contents → Result (List ℕ) (List ℕ)
 checked_deliveries rows run streams book =
     checked_by (deliveries_of run streams book) (counts_of (run_offers rows run) (deliveries_of run streams book))
 
--- of a history and its run, by the run's book: where a call is refused, the line of the first; else what is told of the frames
+-- the check of a history and its run, by the run's book: the line of the first refused call if there is one; otherwise
+-- the check of the frames
 abbrev pub checked_run : List Recorded → Run → List PlannedText → Contents → Result (List ℕ) (List ℕ)
 checked_run entries run streams book =
     refuse (first_refused entries) refused_call_line (checked_deliveries (streams_of run.domain entries) run streams book)

@@ -1,4 +1,4 @@
--- What a check has looked at so far.
+-- What a check has examined so far.
 use Rattle.std.specs.Prelude.{ℕ, ◌≡◌, ◌*◌, ◌≤◌, List, None, Result, find, take}
 use Rattle.cqf_model.specs.Traffic.{numbered}
 use Rattle.cqf_program_runs.specs.declared.check.checked.CheckCounts.{CheckCounts}
@@ -8,21 +8,21 @@ use Rattle.cqf_program_runs.specs.Check.Checked.{checked_by, counts_of, is_bad}
 use Rattle.cqf_program_runs.specs.Deliveries.{fate_of}
 use Rattle.cqf_program_runs.specs.Deliveries.Ending.{Over, deliveries_among, deliveries_over}
 
--- the counts are those of the deliveries of so many offers, each of which has at most 200
+-- the counts are bounded as those of the deliveries of `place` offers, at most 200 for each
 pub record AreCountsBefore (place : ℕ) (counts : CheckCounts) : Type 0 where
   pub under_way : counts.under_way ≤ 200 * place
   pub delivered : counts.delivered ≤ 200 * place
   pub timed : counts.timed ≤ 200 * place
 
--- what is told of a run that is over, of whose offers this is counted
+-- the check of a run that is over, with these counts of its offers
 abbrev pub checked_over : Over → OfferCounts → Result (List ℕ) (List ℕ)
 checked_over over offers = checked_by (deliveries_over over) (counts_of offers (deliveries_over over))
 
--- none of some deliveries is bad
+-- none of the deliveries is bad
 abbrev pub NoneBad : List Delivery → Type 0
 NoneBad deliveries = find (λ (delivery : Delivery). is_bad (fate_of delivery)) deliveries ≡ None
 
--- none of the deliveries of the first offers is bad, and all are counted
+-- none of the deliveries of the first `place` offers is bad, and all are counted
 pub record GoesWellSoFar (over : Over) (offers : OfferCounts) (place : ℕ) (counts : CheckCounts) : Type 0 where
   pub well : NoneBad (deliveries_among over (take place (numbered over.offers)))
   pub counted : counts ≡ counts_of offers (deliveries_among over (take place (numbered over.offers)))

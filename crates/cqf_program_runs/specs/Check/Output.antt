@@ -1,4 +1,4 @@
--- What the command `check` tells of its input.
+-- What the command `check` reports of its input.
 use Rattle.cqf_model.specs.declared.limits.Limits.{Limits}
 use Rattle.std.specs.Prelude.{ℕ, ◌≡◌, ◌⊎◌, List, [], Result, Ok, Err}
 use Rattle.cqf_model.specs.Book.{Contents}
@@ -10,22 +10,23 @@ use Rattle.cqf_press.specs.declared.stops.Stop.{Stop}
 use Rattle.cqf_program_runs.specs.Check.Checked.{checked_run}
 use Rattle.cqf_program_runs.specs.Deliveries.PlannedScenario.{planned_scenario, run_of_scenario}
 
--- what was found is what is told of a scenario, by its history and its one-thread book
+-- the result is the check of a scenario, by its history and its one-thread book
 pub record IsCheckedScenario (cycles : ℕ) (s : Scenario) (streams : List PlannedText) (found : Result (List ℕ) (List ℕ)) : Type 0 where
   pub book : Contents
   pub is_book : IsBookOfScenario cycles s book
   pub told : checked_run (history_of cycles s) (run_of_scenario cycles s) streams book ≡ found
 
--- of what was read: of an input that is refused it is the line of the first fault
+-- the result for what was read; for an input that is refused, the line of the first fault
 abbrev pub IsCheckedOf : ℕ → Result (Scenario × List PlannedText) (List ℕ) → Result (List ℕ) (List ℕ) → Type 0
 IsCheckedOf cycles (Ok read) found = IsCheckedScenario cycles read.0 read.1 found
 IsCheckedOf cycles (Err line) found = Err line ≡ found
 
--- what is told of an input: where all is well, the line that says so; else the line that ends the run
+-- the result for an input: if all is well, the line that says so; otherwise the line that ends the run
 abbrev pub IsChecked : Limits → ℕ → List ℕ → Result (List ℕ) (List ℕ) → Type 0
 IsChecked limits cycles input found = IsCheckedOf cycles (planned_scenario limits cycles input) found
 
--- not all is well, and the run ends with status 1 and the line that tells why, or lacks memory
+-- not all is well, and the run ends with status 1 and the line that says why; or it ends with status 3 for lack of
+-- memory
 pub record IsCheckRefusal (limits : Limits) (cycles : ℕ) (input : List ℕ) (stop : Stop) : Type 0 where
   pub statuses : (stop.status ≡ 1) ⊎ (stop.status ≡ 3)
   pub line : stop.status ≡ 1 → IsChecked limits cycles input (Err stop.text.items)

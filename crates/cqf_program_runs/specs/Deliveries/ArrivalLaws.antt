@@ -1,4 +1,4 @@
--- Which deliveries have come.
+-- Which deliveries have arrived.
 use Rattle.std.specs.Prelude.{ℕ, ◌≡◌, ◌∷◌, ◌<◌, ◌==◌, Bool, true, false, Some, Contains, List, [], count_by, filter, length}
 use Rattle.cqf_model.specs.declared.frames.Offered.{Offered}
 use Rattle.cqf_model.specs.declared.frames.Reason.{Reason}
@@ -31,8 +31,8 @@ has_come fate.Late = true
 has_come fate.UnderWay = false
 has_come (fate.Dropped reason) = false
 
--- a delivery tells of a covered frame that leaves, as the shift has it, on the link of a hop to a listener: when it is whole there by
--- its start in the book
+-- a delivery is of a covered frame that leaves on the link of a hop to a listener, as the shift requires. It is whole
+-- there by its start in the book
 pub record IsArrivalOfOffer (run : Run) (streams : List PlannedText) (book : Contents) (delivery : Delivery) : Type 0 where
   pub x : Offered
   pub row : Row
@@ -48,7 +48,7 @@ pub record IsArrivalOfOffer (run : Run) (streams : List PlannedText) (book : Con
     deadline = deadline_named streams x.offer.stream;
   }))
 
--- a frame has come to the listener at the end of a link
+-- a frame has arrived at the listener at the end of a link
 pub record HasArrived (run : Run) (streams : List PlannedText) (book : Contents) (frame link : ℕ) : Type 0 where
   pub delivery : Delivery
   pub listed : Contains (deliveries_of run streams book) delivery
@@ -57,23 +57,24 @@ pub record HasArrived (run : Run) (streams : List PlannedText) (book : Contents)
   pub of_frame : arrival.x.frame ≡ frame
   pub on_link : arrival.hop.link ≡ link
 
--- the deliveries that have come are exactly the shift's frames on links to stations
+-- the deliveries that have arrived are exactly the shift's frames on links to stations
 pub record AreTheShift (run : Run) (streams : List PlannedText) (book : Contents) : Type 0 where
   pub only : (delivery : Delivery) → Contains (deliveries_of run streams book) delivery → has_come (fate_of delivery) ≡ true →
       IsArrivalOfOffer run streams book delivery
   pub each : (frame link cycle : ℕ) → InShift run (length run.tables) frame link cycle → is_station (end_of run.domain link) ≡ true →
       HasArrived run streams book frame link
 
--- where a book says the shift
+-- if a book says the shift
 abbrev pub ArrivalsAreTheShift : Type 0
 ArrivalsAreTheShift = (run : Run) (streams : List PlannedText) (book : Contents) → SaysTheShift run book → AreTheShift run streams book
 
--- the deliveries that tell of a frame, in their order
+-- the deliveries of a frame, in their order
 abbrev pub told_of_frame : Run → List PlannedText → Contents → ℕ → List Delivery
 told_of_frame run streams book frame = filter (λ (delivery : Delivery). delivery.frame == frame) (deliveries_of run streams book)
 
--- what is told of an offer of a cycle that is run, and nothing else: where a row covers it, one delivery to the end of each hop of the
--- row that leads to a listener, in the order of its tree; and else its one drop, for the first reason that fits
+-- the deliveries of the frame of an offer whose cycle is run. If a row covers the offer, they are one delivery to the
+-- end of each hop of the row that leads to a listener, in the order of its tree. Otherwise they are its one drop, for
+-- the first reason that applies
 pub record IsToldOnce (run : Run) (streams : List PlannedText) (book : Contents) (x : Offered) : Type 0 where
   pub as_covered : (row : Row) → IsCovered run x row → told_of_frame run streams book x.frame
       ≡ deliveries_to run.domain (whole_on run.domain book.starts x.frame) (deadline_named streams x.offer.stream) x row
@@ -84,17 +85,18 @@ abbrev pub EachIsToldOnce : Type 0
 EachIsToldOnce = (run : Run) (streams : List PlannedText) (book : Contents) (x : Offered) → SaysTheShift run book → Contains (numbered run.offers) x →
     offer_cycle run.domain x < length run.tables → IsToldOnce run streams book x
 
--- whether a frame goes to the listener of a name
+-- whether a frame goes to the listener with a name
 abbrev pub goes_to : List ℕ → Passage → Bool
 goes_to listener (passage.Dropped reason) = false
 goes_to listener (passage.Goes journey) = is_text journey.listener listener
 
--- how many of the deliveries that tell of a frame go there
+-- how many of a frame's deliveries go to the listener with a name
 abbrev pub told_to : Run → List PlannedText → Contents → ℕ → List ℕ → ℕ
 told_to run streams book frame listener =
     count_by (λ (delivery : Delivery). goes_to listener delivery.passage) (told_of_frame run streams book frame)
 
--- so just one goes to each listener of the row, by its name: the names of a domain are apart, and no tree reaches a node twice
+-- exactly one delivery goes to each listener of the row, by its name: the names of a domain differ, and no tree reaches
+-- a node twice
 abbrev pub EachListenerIsToldOnce : Type 0
 EachListenerIsToldOnce = (run : Run) (streams : List PlannedText) (book : Contents) (x : Offered) (row : Row) (hop : Hop) → IsDomain run.domain →
     AreOrderly run.domain run.tables → SaysTheShift run book → Contains (numbered run.offers) x → offer_cycle run.domain x < length run.tables →

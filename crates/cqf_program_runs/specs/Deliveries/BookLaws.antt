@@ -1,4 +1,4 @@
--- What a book tells of its deliveries.
+-- Deliveries by verdicts, and by a book.
 use Rattle.std.specs.Prelude.{ℕ, ◌≡◌, List, Option, length}
 use Rattle.cqf_model.specs.declared.frames.Offered.{Offered}
 use Rattle.cqf_model.specs.Book.{Contents}
@@ -10,8 +10,8 @@ use Rattle.cqf_laws_coverage.specs.Counted.{AreDecided}
 use Rattle.cqf_program_runs.specs.Deliveries.ByVerdict.{deliveries_of_all, known_by}
 use Rattle.cqf_program_runs.specs.Deliveries.{deadline_named, deliveries_of, whole_on}
 
--- where a book says the shift, its deliveries are those by verdicts that are so: an offer that is covered goes to each listener of the
--- row that covers it, and every other is dropped for the first reason that fits
+-- if a book says the shift, its deliveries are those by correct verdicts: a covered offer goes to each listener of the
+-- row that covers it, and every other is dropped for the first reason that applies
 abbrev pub VerdictsTellDeliveries : Type 0
 VerdictsTellDeliveries =
     (run : Run) (streams : List PlannedText) (book : Contents) (due : List ℕ → Option ℕ) (verdict : Offered → Verdict) → SaysTheShift run book →

@@ -1,14 +1,14 @@
--- Streams that were read, each request with its deadline.
+-- Streams that were read: requests with their deadlines.
 use Rattle.std.specs.Prelude.{ℕ, List, Option, None, slice_index_or}
 use Rattle.std.specs.Option.{option_and_then}
 use Rattle.cqf_topology.specs.declared.paced.PacedRequest.{PacedRequest}
 use Rattle.cqf_admission.specs.Names.{place_named}
 
--- requests, and their deadlines by the same places
+-- requests, and their deadlines by the same indexes
 pub record Due : Type 0 where
   pub requests : List PacedRequest
   pub deadlines : List (Option ℕ)
 
--- the deadline of a name: that of the first request of it
+-- the deadline of a name: that of the first request with this name
 abbrev pub deadline_in : Due → List ℕ → Option ℕ
 deadline_in due name = option_and_then (λ (place : ℕ). slice_index_or due.deadlines place None) (place_named due.requests name)

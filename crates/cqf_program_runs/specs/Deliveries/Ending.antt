@@ -1,4 +1,4 @@
--- What the deliveries of a run that is over are told from.
+-- The data from which the deliveries of a run that is over are derived.
 use Rattle.std.specs.Prelude.{ℕ, ◌≡◌, ◌≤◌, List, Option, length, map}
 use Rattle.cqf_units.specs.declared.timing.Nanos.{Nanos}
 use Rattle.cqf_instants_run.specs.Columns.{verdict_at}
@@ -17,8 +17,8 @@ use Rattle.cqf_program_runs.specs.declared.deliveries.made.CompletedRun.{Complet
 use Rattle.cqf_program_runs.specs.Deliveries.ByVerdict.{Known, deliveries_of_all, deliveries_within, known_by}
 use Rattle.cqf_program_runs.specs.Deliveries.Deadlines.{Due, deadline_in}
 
--- a run that is over: its domain and cycles, its offers, the rows and the verdicts on the offers by them, the deadlines of names and of each
--- offer's frame, and when a frame is whole at the end of a link
+-- a run that is over: its domain and cycles, its offers, the rows and the verdicts on the offers by them, the deadlines
+-- of names and of each offer's frame, and when a frame is whole at the end of a link
 pub record Over : Type 0 where
   pub domain : Domain
   pub cycles : ℕ
@@ -29,7 +29,7 @@ pub record Over : Type 0 where
   pub dues : List (Option ℕ)
   pub whole : ℕ → ℕ → Option Nanos
 
--- the deliveries of an offer, and of some
+-- the deliveries of an offer, and of a list of offers
 abbrev pub known_over : Over → Known
 known_over over = known_by (deadline_in over.due) over.whole
 
@@ -39,22 +39,22 @@ deliveries_at over x = deliveries_within over.domain over.cycles (known_over ove
 abbrev pub deliveries_among : Over → List Offered → List Delivery
 deliveries_among over offers = deliveries_of_all over.domain over.cycles (known_over over) (verdict_at over.domain over.rows over.edge_verdicts) offers
 
--- and of all
+-- the deliveries of all offers
 abbrev pub deliveries_over : Over → List Delivery
 deliveries_over over = deliveries_among over (numbered over.offers)
 
--- the offers are those of its domain, few enough, and each has its verdict and its deadline
+-- the offers are those of its domain and at most `most_rows`, and each has its verdict and its deadline
 pub record IsOver (over : Over) : Type 0 where
   pub offers : AreOffers over.domain over.offers
   pub few : length over.offers ≤ most_rows
   pub judged : length over.edge_verdicts ≡ length over.offers
   pub due : over.dues ≡ map (λ (offer : Offer). deadline_in over.due offer.stream) over.offers
 
--- the deadlines of names that go with what was lent
+-- the deadlines by name, in borrowed data
 abbrev pub due_of : CompletedRun → Due
 due_of ended = record { requests = ended.requests.now; deadlines = ended.deadlines.now }
 
--- the run of what was lent, and of what is owned, where frames are whole by these instants
+-- the run, from borrowed and from owned data, with the given instants at which frames are whole
 abbrev pub over_of : CompletedRun → (ℕ → ℕ → Option Nanos) → Over
 over_of ended whole = record {
   domain = ended.domain.now;

@@ -1,4 +1,4 @@
--- A run that is over, followed offer by offer while its starts are told.
+-- A run that is over, followed offer by offer while a pass returns its starts.
 use Rattle.std.specs.Prelude.{ℕ, ◌≡◌, ◌+◌, ◌≤◌, ◌<◌, All, List, Option, Some, length, slice_get}
 use Rattle.cqf_units.specs.Timing.{cycle_at}
 use Rattle.cqf_units.specs.declared.timing.Nanos.{Nanos}
@@ -19,21 +19,22 @@ use Rattle.cqf_program_runs.specs.Deliveries.Text.{text_of_deliveries}
 use Rattle.cqf_program_runs.specs.Deliveries.Ending.{IsOver, Over, deliveries_over, over_by, over_of}
 use Rattle.cqf_program_runs.specs.Deliveries.UnderWay.{AreSlots, IsInTime, IsWideFor, slots_of, starts_told}
 
--- a start of an offer's frame is of a cycle behind the offer's, and at most so many behind it
+-- a start of an offer's frame is of a cycle after the offer's, and at most `depth` cycles after it
 pub record IsBehind (cycle_time depth : ℕ) (offers : List Offer) (s : Started) : Type 0 where
   pub later : (place : ℕ) (offer : Offer) → slice_get offers place ≡ Some offer → s.frame ≡ place + 1 →
       cycle_at cycle_time offer.at.0 < s.cycle.0
   pub soon : (place : ℕ) (offer : Offer) → slice_get offers place ≡ Some offer → s.frame ≡ place + 1 →
       s.cycle.0 ≤ cycle_at cycle_time offer.at.0 + depth
 
--- frames are whole by the starts of a run that the pass is of, each of which is in time, and behind its offer
+-- frames are whole by the starts of a run to which the pass belongs; each start is in time and follows its offer
 pub record IsBookBehind (over : Over) (depth : ℕ) (basis : Basis) (given : GivenRun) : Type 0 where
   pub is : IsBasisOf given basis
   pub whole : over.whole ≡ whole_on over.domain (starts_told given basis.cycles)
   pub in_time : All (IsInTime over.domain) (starts_told given basis.cycles)
   pub behind : All (IsBehind over.domain.cycle_time depth over.offers) (starts_told given basis.cycles)
 
--- the run is followed from the offer at a place on: what is kept are the frames under way from there on, and no start of one behind them is told
+-- the run is followed from the offer at index `place` on: the frames under way from there on are kept, and the pass has
+-- returned no start of a frame after these
 pub record IsFollowed (over : Over) (place : ℕ) (under_way : UnderWay) : Type 0 where
   pub given : GivenRun
   pub width : ℕ
@@ -48,36 +49,36 @@ pub record IsFollowed (over : Over) (place : ℕ) (under_way : UnderWay) : Type 
   pub early : (later : ℕ) (offer : Offer) → place ≤ later → slice_get over.offers later ≡ Some offer →
       under_way.told ≤ cycle_at over.domain.cycle_time offer.at.0 + under_way.depth + 1
 
--- what was lent can be followed so
+-- borrowed data can be followed in this way
 pub record CanFollow (ended : CompletedRun) (place : ℕ) (under_way : UnderWay) : Type 0 where
   pub whole : ℕ → ℕ → Option Nanos
   pub is : IsFollowed (over_of ended whole) place under_way
 
--- what is noted of a scenario can be followed from the first offer on, and tells its deliveries
+-- what is noted of a scenario can be followed from the first offer on, and yields its deliveries
 pub record IsNotedOf (cycles : ℕ) (planned : PlannedGiven) (noted : Noted) (under_way : UnderWay) : Type 0 where
   pub whole : ℕ → ℕ → Option Nanos
   pub followed : IsFollowed (over_by planned cycles noted whole) 0 under_way
   pub are : AreDeliveriesOf cycles planned (deliveries_over (over_by planned cycles noted whole))
 
--- what an output of deliveries is told from
+-- the data from which the output of deliveries is written
 pub record Ending : Type 0 where
   pub planned : PlannedGiven
   pub cycles : ℕ
   pub noted : Noted
   pub under_way : UnderWay
 
--- it can be told
+-- the output can be written
 pub record CanBeTold (ending : Ending) : Type 0 where
   pub whole : ℕ → ℕ → Option Nanos
   pub followed : IsFollowed (over_by ending.planned ending.cycles ending.noted whole) 0 ending.under_way
 
--- the text of an output: of the deliveries by what is followed
+-- the text of an output: that of the deliveries by what is followed
 pub record AreDeliveriesTold (ending : Ending) (text : List ℕ) : Type 0 where
   pub whole : ℕ → ℕ → Option Nanos
   pub followed : IsFollowed (over_by ending.planned ending.cycles ending.noted whole) 0 ending.under_way
   pub is : text ≡ text_of_deliveries (deliveries_over (over_by ending.planned ending.cycles ending.noted whole))
 
--- an output tells the deliveries of what was read
+-- an output writes the deliveries of what was read
 abbrev pub TellsDeliveriesOf : ℕ → PlannedGiven → Ending → Type 0
 TellsDeliveriesOf cycles planned ending = (text : List ℕ) × AreDeliveriesTold ending text
     × (deliveries : List Delivery) × AreDeliveriesOf cycles planned deliveries × (text ≡ text_of_deliveries deliveries)

@@ -1,4 +1,4 @@
--- A scenario that was read with its streams, and the deliveries that were made of it.
+-- A scenario that was read with its streams, and its deliveries.
 use Rattle.cqf_model.specs.declared.limits.Limits.{Limits}
 use Rattle.std.specs.Prelude.{ℕ, ◌≡◌, List, Option, Ok, map}
 use Rattle.cqf_admission.specs.Asking.{asked_paced}
@@ -16,7 +16,7 @@ use Rattle.cqf_program_runs.specs.Deliveries.{deliveries_of}
 use Rattle.cqf_program_runs.specs.declared.deliveries.reading.PlannedGiven.{PlannedGiven}
 use Rattle.cqf_program_runs.specs.Deliveries.PlannedScenario.{planned_scenario, planned_scenario_of, run_of_scenario}
 
--- requests and deadlines, by the same places, are those of some streams
+-- requests and deadlines, by the same indexes, are those of the streams
 pub record ArePlannedBeside (streams : List PlannedText) (requests : List PacedRequest) (deadlines : List (Option ℕ)) : Type 0 where
   pub asked : map asked_paced requests ≡ asked_in streams
   pub ends : deadlines ≡ deadlines_in streams
@@ -27,7 +27,7 @@ pub record ArePlannedIn (text : List ℕ) (requests : List PacedRequest) (deadli
   pub holds : planned_of_text text ≡ Ok streams
   pub planned : ArePlannedBeside streams requests deadlines
 
--- what a run is given is what some parts have, and may be run; what its orders name stands there
+-- the run's input is that of the parts, and it may be run; its orders refer to what is there
 pub record IsPlannedIn (limits : Limits) (cycles : ℕ) (texts : RunTexts) (made : PlannedGiven) : Type 0 where
   pub streams : List PlannedText
   pub holds : planned_scenario_of limits cycles texts ≡ Ok (scenario_given made.given, streams)
@@ -35,7 +35,7 @@ pub record IsPlannedIn (limits : Limits) (cycles : ℕ) (texts : RunTexts) (made
   pub may : MayBeRun cycles (scenario_given made.given)
   pub stand : HasOrders made.given
 
--- it is what the input has
+-- it is that of the input
 pub record IsPlannedGiven (limits : Limits) (cycles : ℕ) (input : List ℕ) (made : PlannedGiven) : Type 0 where
   pub streams : List PlannedText
   pub holds : planned_scenario limits cycles input ≡ Ok (scenario_given made.given, streams)
@@ -49,7 +49,7 @@ pub record AreDeliveries (cycles : ℕ) (s : Scenario) (streams : List PlannedTe
   pub is_book : IsBookOfScenario cycles s book
   pub are : deliveries ≡ deliveries_of (run_of_scenario cycles s) streams book
 
--- they are, for whatever streams the requests and the deadlines are those of
+-- they are, for any streams with these requests and deadlines
 abbrev pub AreDeliveriesOf : ℕ → PlannedGiven → List Delivery → Type 0
 AreDeliveriesOf cycles planned deliveries = (streams : List PlannedText) → ArePlannedBeside streams planned.given.requests.items planned.deadlines.items →
     AreDeliveries cycles (scenario_given planned.given) streams deliveries

@@ -19,14 +19,14 @@ abbrev pub deliveries_header : Fields
 deliveries_header =
     codes "frame" ∷ codes "stream" ∷ codes "octets" ∷ codes "at" ∷ codes "listener" ∷ codes "whole" ∷ codes "latency" ∷ codes "deadline" ∷ codes "what" ∷ []
 
--- what becomes of an offer, by its word; of one that is dropped that is the reason's
+-- the word for what becomes of an offer; of a dropped offer, the reason's word
 abbrev pub name_of_fate : Fate → List ℕ
 name_of_fate fate.Delivered = codes "delivered"
 name_of_fate fate.Late = codes "late"
 name_of_fate fate.UnderWay = codes "under-way"
 name_of_fate (fate.Dropped reason) = name_of_reason reason
 
--- the listener, the instant and the latency of its being whole there, and the deadline: each is empty where there is none
+-- the instant at which a frame is whole, the latency, and all fields of a passage; each is empty if it is absent
 abbrev pub text_of_instant : Option Nanos → List ℕ
 text_of_instant whole = option_map_or (λ (t : Nanos). decimal t.0) whole []
 
@@ -44,7 +44,7 @@ delivery_fields delivery =
     decimal delivery.frame ∷ delivery.stream ∷ decimal delivery.octets ∷ decimal delivery.at.0
     ∷ passage_fields delivery.at.0 delivery.passage (name_of_fate (fate_of delivery) ∷ [])
 
--- one line a delivery, in their order
+-- one line for each delivery, in order
 abbrev pub lines_of_deliveries : List Delivery → List ℕ
 lines_of_deliveries deliveries = flat_map (λ (delivery : Delivery). line_of_fields (delivery_fields delivery)) deliveries
 

@@ -1,4 +1,4 @@
--- The frames under way: what is kept of them while the starts of a run are told.
+-- The frames under way: what is kept of them while a pass returns the starts of a run.
 use Rattle.std.specs.Prelude.{ℕ, ◌≡◌, ◌≢◌, ◌+◌, ◌^◌, ◌≤◌, ◌<◌, ◌++◌, ◌==◌, All, Contains, List, [], ◌∷◌, Option, Some, None}
 use Rattle.std.specs.Prelude.{drop, length, map, position, slice_get, slice_index_or}
 use Rattle.std.specs.Global.{Global}
@@ -23,11 +23,11 @@ use Rattle.cqf_program_plans.specs.Latency.Text.{listeners_of}
 use Rattle.cqf_program_runs.specs.declared.deliveries.under_way.UnderWay.{UnderWay}
 use Rattle.cqf_program_runs.specs.Deliveries.{whole_on}
 
--- a start on a link of the domain is whole in time to be told
+-- a start's frame is whole at an instant that fits in 64 bits
 abbrev pub IsInTime : Domain → Started → Type 0
 IsInTime d s = whole_of d s < 2 ^ 64
 
--- the place of the listener at the end of a link among those of a row
+-- the index, among a row's listeners, of the listener at the end of a link
 abbrev pub column_of : Domain → Row → ℕ → Option ℕ
 column_of d row link = position (λ (hop : Hop). hop.link == link) (listeners_of d row)
 
@@ -35,7 +35,7 @@ column_of d row link = position (λ (hop : Hop). hop.link == link) (listeners_of
 abbrev pub whole_in : Domain → Row → List (Option Nanos) → ℕ → Option Nanos
 whole_in d row slot link = option_and_then (λ (column : ℕ). slice_index_or slot column None) (column_of d row link)
 
--- the row by which an offer goes on that is judged so, and the offer at a place
+-- the row by which an offer with this verdict goes on, and that of the offer at an index
 abbrev pub row_judged : List Row → EdgeVerdict → Option Row
 row_judged rows (Covered place) = slice_get rows place
 row_judged rows (Dropped reason) = None
@@ -47,16 +47,17 @@ row_at rows edge_verdicts place = option_and_then (row_judged rows) (slice_get e
 abbrev pub slots_of : List (Vec (Option Nanos) Global) → List (List (Option Nanos))
 slots_of slots = map (λ (slot : Vec (Option Nanos) Global). slot.items) slots
 
--- what is kept of a frame of a row tells when it is whole at each of the row's listeners
+-- what is kept of a frame of a row says when it is whole at each of the row's listeners
 abbrev pub TellsWhole : Domain → Option Row → List (Option Nanos) → (ℕ → Option Nanos) → Type 0
 TellsWhole d found slot whole = (row : Row) (link column : ℕ) → found ≡ Some row → column_of d row link ≡ Some column →
     slice_index_or slot column None ≡ whole link
 
--- a row has no more listeners than are kept
+-- no row has more than `width` listeners
 abbrev pub HaveListeners : Domain → List Row → ℕ → Type 0
 HaveListeners d rows width = (row : Row) → Contains rows row → length (listeners_of d row) ≤ width
 
--- slots of one width, which has room for each row, tell by some starts when the frames of the offers from a place on are whole
+-- slots of one width, with room for each row, say by the given starts when the frames of the offers from index `place`
+-- on are whole
 pub record AreSlots (d : Domain) (rows : List Row) (edge_verdicts : List EdgeVerdict) (starts : List Started) (place width : ℕ)
     (slots : List (List (Option Nanos))) : Type 0 where
   pub room : HaveListeners d rows width
@@ -64,19 +65,19 @@ pub record AreSlots (d : Domain) (rows : List Row) (edge_verdicts : List EdgeVer
   pub tell : (behind : ℕ) → behind < length slots →
       TellsWhole d (row_at rows edge_verdicts (place + behind)) (slice_index_or slots behind []) (whole_on d starts (place + behind + 1))
 
--- an instant is kept in a column in which none is kept yet
+-- an instant is kept in a column if none is kept there yet
 pub record KeepsFirst (before after : List (Option Nanos)) (column : ℕ) (whole : Nanos) : Type 0 where
   pub as_many : length after ≡ length before
   pub own : column < length before → slice_index_or after column None ≡ option_or (slice_index_or before column None) (Some whole)
   pub others : (other : ℕ) → other ≢ column → slice_index_or after other None ≡ slice_index_or before other None
 
--- in the slot at a place
+-- the same, in the slot at an index
 pub record KeepsInSlot (before after : List (List (Option Nanos))) (behind column : ℕ) (whole : Nanos) : Type 0 where
   pub as_many : length after ≡ length before
   pub own : KeepsFirst (slice_index_or before behind []) (slice_index_or after behind []) column whole
   pub others : (other : ℕ) → other ≢ behind → slice_index_or after other [] ≡ slice_index_or before other []
 
--- some starts are noted behind whatever starts were
+-- the starts `more` are noted after any earlier starts
 pub record NotesAll (d : Domain) (rows : List Row) (edge_verdicts : List EdgeVerdict) (place : ℕ) (more : List Started)
     (before after : List (List (Option Nanos))) : Type 0 where
   pub as_many : length after ≡ length before
@@ -87,19 +88,19 @@ pub record NotesAll (d : Domain) (rows : List Row) (edge_verdicts : List EdgeVer
 abbrev pub starts_told : GivenRun → ℕ → List Started
 starts_told given cycles = starts_of given.run.domain cycles given.net.carried
 
--- all that a pass tells are in time
+-- all starts that a pass returns are in time
 pub record TellsInTime (d : Domain) (basis : Basis) : Type 0 where
   pub given : GivenRun
   pub is : IsBasisOf given basis
   pub in_time : All (IsInTime d) (starts_told given basis.cycles)
 
--- the starts of so many cycles are told and noted, of each run that the pass is of
+-- the starts that the pass has returned are noted, for each run to which the pass belongs
 abbrev pub NotesTold : Domain → List Row → List EdgeVerdict → ℕ → UnderWay → UnderWay → Type 0
 NotesTold d rows edge_verdicts place old new = (given : GivenRun) (width : ℕ) → IsBasisOf given old.pass.basis →
     AreSlots d rows edge_verdicts (starts_told given old.pass.told) place width (slots_of old.slots.items) →
     AreSlots d rows edge_verdicts (starts_told given new.pass.told) place width (slots_of new.slots.items)
 
--- the starts of the cycles up to one are told
+-- the starts of the cycles up to `last` are returned
 pub record TellsUpTo (d : Domain) (rows : List Row) (edge_verdicts : List EdgeVerdict) (place last : ℕ) (old new : UnderWay) : Type 0 where
   pub basis : new.pass.basis ≡ old.pass.basis
   pub depth : new.depth ≡ old.depth
@@ -110,7 +111,7 @@ pub record TellsUpTo (d : Domain) (rows : List Row) (edge_verdicts : List EdgeVe
   pub all : (cycle : ℕ) → cycle ≤ last → cycle < old.pass.basis.cycles → cycle < new.told
   pub noted : NotesTold d rows edge_verdicts place old new
 
--- the first slot is emptied, and is the last one then
+-- the first slot is emptied and becomes the last
 pub record GoesOn (old new : UnderWay) : Type 0 where
   pub pass : new.pass ≡ old.pass
   pub told : new.told ≡ old.told
@@ -121,22 +122,22 @@ pub record GoesOn (old new : UnderWay) : Type 0 where
   pub none : (column : ℕ) → slice_index_or emptied column None ≡ None
   pub slots : slots_of new.slots.items ≡ drop 1 (slots_of old.slots.items) ++ emptied ∷ []
 
--- where an offer stands so many places behind another, its cycle is as deep as a tree behind the other's
+-- if one offer comes `frames` positions after another, its cycle is at least `depth` cycles after the other's
 abbrev pub IsWideFor : ℕ → ℕ → List Offer → ℕ → Type 0
 IsWideFor cycle_time depth offers frames = (place : ℕ) (early late : Offer) → slice_get offers place ≡ Some early →
     slice_get offers (place + frames) ≡ Some late → cycle_at cycle_time early.at.0 + depth ≤ cycle_at cycle_time late.at.0
 
--- no frame of a row is under way for longer than so many cycles
+-- no frame of a row is under way for more than `depth` cycles
 abbrev pub NoneIsDeeper : List Row → ℕ → Type 0
 NoneIsDeeper rows depth = (row : Row) → Contains rows row → residence row ≤ depth
 
--- so many slots, in which nothing is kept
+-- `many` slots in which nothing is kept
 pub record AreEmptySlots (width many : ℕ) (slots : List (List (Option Nanos))) : Type 0 where
   pub count : length slots ≡ many
   pub wide : (behind : ℕ) → behind < many → length (slice_index_or slots behind []) ≡ width
   pub none : (behind column : ℕ) → slice_index_or (slice_index_or slots behind []) column None ≡ None
 
--- nothing is told yet, and there is room for all that is going to be kept
+-- no start is returned yet, and there is room for all that will be kept
 pub record IsLaid (d : Domain) (rows : List Row) (offers : List Offer) (under_way : UnderWay) : Type 0 where
   pub width : ℕ
   pub fresh : under_way.told ≡ 0

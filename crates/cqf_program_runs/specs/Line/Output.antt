@@ -1,5 +1,5 @@
--- What the command `line` gives for its input: the book of the smallest network, or the line of the input's
--- first fault.
+-- What the command `line` returns for its input: the book of the smallest network, or the line of the input's first
+-- fault.
 use Rattle.std.specs.Prelude.{ℕ, ◌≡◌, List, Result, Ok}
 use Rattle.cqf_model.specs.Book.{Contents}
 use Rattle.cqf_model.specs.Domain.{Domain}
@@ -24,8 +24,8 @@ offers_input d input = and_then (one_part (parts_of input)) (λ part. or_line of
 abbrev pub line_input : List ℕ → Result (List Offer) (List ℕ)
 line_input input = offers_input line_domain input
 
--- the text is that of the one-thread book of the line's history over these offers, and of no other: there is just one. By that
--- history the stream is live in every cycle
+-- the text is that of the one-thread book of the line's history over these offers; there is exactly one such book. By
+-- that history the stream is live in every cycle
 pub record IsBookText (cycles : ℕ) (offers : List Offer) (text : List ℕ) : Type 0 where
   pub book : Contents
   pub is_book : IsBookOfScenario cycles (line_scenario offers) book

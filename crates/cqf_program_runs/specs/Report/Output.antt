@@ -1,4 +1,4 @@
--- What the command `report` gives for its input: what each link carries.
+-- What the command `report` returns for its input: what each link carries.
 use Rattle.cqf_model.specs.declared.limits.Limits.{Limits}
 use Rattle.std.specs.Prelude.{ℕ, ◌≡◌, List, Ok}
 use Rattle.cqf_model.specs.Book.{Contents}

@@ -1,4 +1,4 @@
--- What the command `run` gives for its input: the history of a scenario, and its book.
+-- What the command `run` returns for its input: the history of a scenario, and its book.
 use Rattle.cqf_model.specs.declared.limits.Limits.{Limits}
 use Rattle.std.specs.Prelude.{ℕ, ◌≡◌, ◌++◌, List, Ok, codes}
 use Rattle.cqf_model.specs.Book.{Contents}
@@ -11,7 +11,7 @@ use Rattle.cqf_program_scenario.specs.Calls.{history_of}
 use Rattle.cqf_program_scenario.specs.Scenario.{Scenario, scenario_input}
 use Rattle.cqf_press.specs.Stops.{line_of}
 
--- the text of a history and of a book, and between them the line that divides parts
+-- the texts of a history and of a book, separated by the line that divides parts
 abbrev pub run_text : Domain → List Recorded → Contents → List ℕ
 run_text d entries book = history_text entries ++ (line_of (codes "%%") ++ text_of_book d book)
 

@@ -1,4 +1,4 @@
--- What the output of the command `run` tells.
+-- What the output of the command `run` writes.
 use Rattle.std.specs.Prelude.{ℕ, ◌≡◌, List}
 use Rattle.cqf_model.specs.Book.{Contents}
 use Rattle.cqf_admission.specs.declared.logs.Logged.{Logged}
@@ -10,17 +10,17 @@ use Rattle.cqf_program_scenario.specs.Logged.{entries_in}
 use Rattle.cqf_program_scenario.specs.Scenario.{Scenario}
 use Rattle.cqf_program_runs.specs.Run.Output.{run_text}
 
--- what it is told from: a scenario, the entries of its log, and what its book is told from
+-- the data of the output: a scenario, the entries of its log, and the parts of its book
 pub record RunToTell : Type 0 where
   pub given : RunInput
   pub entries : List Logged
   pub book : ExactParts
 
--- the text of an output: of its history, and of a book with the parts that it has of one
+-- the text of an output: that of its history, and of a book whose parts the output has
 abbrev pub IsRunTold : RunToTell → List ℕ → Type 0
 IsRunTold output text = TellsBook output.book (λ book. text ≡ run_text output.given.domain (entries_in output.given output.entries) book)
 
--- an output tells the text of a scenario's history over so many cycles, and of the one-thread book of that history
+-- an output writes the text of a scenario's history over some cycles, and of the one-thread book of that history
 abbrev pub TellsTheRun : ℕ → Scenario → RunToTell → Type 0
 TellsTheRun cycles s output = (text : List ℕ) × IsRunTold output text
     × (book : Contents) × IsBookOfScenario cycles s book × (text ≡ run_text s.domain (history_of cycles s) book)

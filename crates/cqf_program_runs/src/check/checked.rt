@@ -13,31 +13,31 @@ use crate::deliveries::delivery::{Delivery, Fate, Passage, latency};
 use cqf_report::reason_name;
 use std::alloc::{AllocError, Global};
 
-/// What a check counts of the offers.
+/// The counts of the offers that a check makes.
 #[derive(Clone, Copy, Debug, PartialEq, Eq)]
 pub struct OfferCounts {
-    /// All of them.
+    /// How many offers there are.
     pub frames: usize,
-    /// Those of cycles that aren't run.
+    /// How many are of cycles that aren't run.
     pub later: usize,
-    /// In so many cycles a frame of the latest one would come to its listeners.
+    /// The number of cycles after which a frame of the latest offer has reached its listeners.
     pub enough: u64,
 }
 
-/// What a check counts.
+/// The counts that a check makes.
 #[derive(Clone, Copy, Debug, PartialEq, Eq)]
 pub struct CheckCounts {
     pub offers: OfferCounts,
-    /// The deliveries that are under way.
+    /// How many deliveries are under way.
     pub under_way: usize,
-    /// The deliveries that are there, in time where they have a deadline.
+    /// How many deliveries have arrived, in time if they have a deadline.
     pub delivered: usize,
-    /// Those of them that have a deadline.
+    /// How many of those have a deadline.
     pub timed: usize,
 }
 
 impl Fate {
-    /// Whether the frame is dropped, or late.
+    /// Whether the frame is dropped or late.
     pub fn is_bad(self) -> bool
         ensures { result ≡ is_bad self }
     {
@@ -49,7 +49,7 @@ impl Fate {
 }
 
 impl Passage {
-    /// Whether the frame has a deadline.
+    /// Whether the frame goes to a listener and has a deadline.
     fn is_timed(&self) -> bool
         ensures { result ≡ is_timed self.now }
     {
@@ -70,7 +70,7 @@ fn is_under_way(delivery: &Delivery) -> bool
     }
 }
 
-/// Whether a frame is there, and in time.
+/// Whether a frame has arrived, in time if it has a deadline.
 fn is_delivered(delivery: &Delivery) -> bool
     ensures { result ≡ is_delivered (fate_of delivery.now) }
 {
@@ -80,7 +80,7 @@ fn is_delivered(delivery: &Delivery) -> bool
     }
 }
 
-/// How many deliveries are under way.
+/// Returns how many deliveries are under way.
 fn count_under_way(deliveries: &[Delivery]) -> usize
     ensures counts { result ≡ count_by (λ delivery. is_under_way (fate_of delivery)) deliveries.now }
     ensures few { result ≤ length deliveries.now }
@@ -91,7 +91,7 @@ fn count_under_way(deliveries: &[Delivery]) -> usize
         .count()
 }
 
-/// How many deliveries are there, and in time.
+/// Returns how many deliveries have arrived in time.
 fn count_delivered(deliveries: &[Delivery]) -> usize
     ensures counts { result ≡ count_by (λ delivery. is_delivered (fate_of delivery)) deliveries.now }
     ensures few { result ≤ length deliveries.now }
@@ -102,7 +102,7 @@ fn count_delivered(deliveries: &[Delivery]) -> usize
         .count()
 }
 
-/// How many of those have a deadline.
+/// Returns how many of those have a deadline.
 fn count_timed(deliveries: &[Delivery]) -> usize
     ensures counts { result ≡ count_by (λ delivery. is_delivered (fate_of delivery) && is_timed delivery.passage) deliveries.now }
     ensures few { result ≤ length deliveries.now }
@@ -113,7 +113,7 @@ fn count_timed(deliveries: &[Delivery]) -> usize
         .count()
 }
 
-/// What a check counts of no deliveries, beside the offers.
+/// Returns the counts of no deliveries, together with those of the offers.
 pub(crate) fn no_counts(offers: OfferCounts) -> CheckCounts
     ensures { result ≡ counts_of offers [] }
 {
@@ -126,7 +126,7 @@ pub(crate) fn no_counts(offers: OfferCounts) -> CheckCounts
 }
 
 impl CheckCounts {
-    /// The same with some deliveries more: those of one offer, of as many as a table has at most.
+    /// Adds the deliveries of one offer, at most 200, to the counts.
     pub(crate) fn with(self, here: &[Delivery]) -> CheckCounts
         requires few { length here.now ≤ 200 }
         requires early { AreCountsBefore most_rows self }
@@ -150,14 +150,14 @@ impl CheckCounts {
     }
 }
 
-/// The first delivery that is dropped or late.
+/// Returns the first delivery that is dropped or late.
 pub fn first_bad(deliveries: &[Delivery]) -> Option<&Delivery>
     ensures { option_copied result ≡ find (λ delivery. is_bad (fate_of delivery)) deliveries.now }
 {
     deliveries.iter().find(|delivery| delivery.fate().is_bad())
 }
 
-/// What a check says of a delivery that is dropped or late.
+/// Returns what a check says of a delivery that is dropped or late.
 fn complaint_of(alloc: Global, delivery: &Delivery) -> Result<String, AllocError>
     requires { is_bad (fate_of delivery.now) ≡ true }
     ensures { IfOk result (λ text. string_bytes text ≡ complaint_of delivery.now.at.0 delivery.now.passage) }
@@ -181,10 +181,10 @@ fn complaint_of(alloc: Global, delivery: &Delivery) -> Result<String, AllocError
     }
 }
 
-/// The line that tells of a delivery that is dropped or late.
+/// Returns the line about a delivery that is dropped or late.
 ///
 /// # Errors
-/// Where a growth is refused.
+/// `AllocError` if an allocation fails.
 pub fn complaint_about(alloc: Global, delivery: &Delivery) -> Result<String, AllocError>
     requires { is_bad (fate_of delivery.now) ≡ true }
     ensures { IfOk result (λ line. string_bytes line ≡ complaint_line delivery.now) }
@@ -199,10 +199,10 @@ pub fn complaint_about(alloc: Global, delivery: &Delivery) -> Result<String, All
     Ok(line)
 }
 
-/// The line that tells that nothing is offered.
+/// Returns the line that says that nothing is offered.
 ///
 /// # Errors
-/// Where a growth is refused.
+/// `AllocError` if an allocation fails.
 pub fn none_offered_line(alloc: Global) -> Result<String, AllocError>
     ensures { IfOk result (λ line. string_bytes line ≡ none_offered_line) }
 {
@@ -210,7 +210,7 @@ pub fn none_offered_line(alloc: Global) -> Result<String, AllocError>
     Ok(line)
 }
 
-/// The line that tells that nothing has come, and how many cycles would do.
+/// Returns the line that says that nothing has arrived, and how many cycles would do.
 fn none_come_line(alloc: Global, counts: CheckCounts) -> Result<String, AllocError>
     ensures { IfOk result (λ line. string_bytes line ≡ none_come_line counts) }
 {
@@ -219,7 +219,7 @@ fn none_come_line(alloc: Global, counts: CheckCounts) -> Result<String, AllocErr
     Ok(line)
 }
 
-/// The line that tells that not all has come.
+/// Returns the line that says that some deliveries are under way or some offers aren't run.
 fn some_come_line(alloc: Global, counts: CheckCounts) -> Result<String, AllocError>
     ensures { IfOk result (λ line. string_bytes line ≡ some_come_line counts) }
 {
@@ -230,10 +230,10 @@ fn some_come_line(alloc: Global, counts: CheckCounts) -> Result<String, AllocErr
     Ok(line)
 }
 
-/// The line that tells that not all has come, or nothing.
+/// Returns the line for a check that isn't finished: that nothing has arrived, or how much is missing.
 ///
 /// # Errors
-/// Where a growth is refused.
+/// `AllocError` if an allocation fails.
 pub fn unfinished_line(alloc: Global, counts: CheckCounts) -> Result<String, AllocError>
     ensures { IfOk result (λ line. string_bytes line ≡ unfinished_line counts) }
 {
@@ -244,10 +244,10 @@ pub fn unfinished_line(alloc: Global, counts: CheckCounts) -> Result<String, All
     }
 }
 
-/// The line that tells that all is well.
+/// Returns the line that says that all is well.
 ///
 /// # Errors
-/// Where a growth is refused.
+/// `AllocError` if an allocation fails.
 pub fn well_line(alloc: Global, counts: CheckCounts) -> Result<String, AllocError>
     ensures { IfOk result (λ line. string_bytes line ≡ well_line counts) }
 {

@@ -1,4 +1,4 @@
-//! The first call of a log that is refused, and what a check says of it.
+//! The first refused call of a log, and what a check says of it.
 ghost use Rattle.std.specs.Prelude.{◌≡◌, true, IfOk, map, string_bytes};
 ghost use Rattle.cqf_admission.specs.Asking.{asked_paced};
 ghost use Rattle.cqf_admission.specs.Ledger.{recorded_in};
@@ -11,7 +11,7 @@ use cqf_model::Reply;
 use cqf_topology::PacedRequest;
 use std::alloc::{AllocError, Global};
 
-/// Whether an entry is a call: a Seal is none.
+/// Whether an entry is a call; a Seal isn't.
 fn is_call(logged: &Logged) -> bool
     ensures { result ≡ is_call logged.now.what }
 {
@@ -31,7 +31,7 @@ fn is_refused(logged: &Logged) -> bool
     }
 }
 
-/// The first call of a log that is refused, with its number among the calls, from 1.
+/// Returns the first refused call of a log, with its number among the calls, from 1.
 pub(crate) fn first_refused(log: &[Logged]) -> Option<(usize, Logged)>
     ensures { result ≡ refused_from 1 log.now }
 {
@@ -47,7 +47,7 @@ pub(crate) fn first_refused(log: &[Logged]) -> Option<(usize, Logged)>
     None
 }
 
-/// What was called for: the word, and the stream's name as it is.
+/// Returns what was requested: the word, and the stream's name as it is.
 fn call_text(
     alloc: Global,
     requests: &[PacedRequest],
@@ -75,10 +75,10 @@ fn call_text(
     }
 }
 
-/// The line that tells of a call of this number that is refused, over these requests and this script's text.
+/// Returns the line about a refused call with the given number, for these requests and the text of this script.
 ///
 /// # Errors
-/// Where a growth is refused.
+/// `AllocError` if an allocation fails.
 pub(crate) fn refused_line(
     alloc: Global,
     requests: &[PacedRequest],

@@ -41,7 +41,7 @@ use cqf_program_scenario::{RunInput, ScenarioOutcome, outcome_of};
 use cqf_units::Memory;
 use std::alloc::Global;
 
-/// The output for a scenario.
+/// Returns the output for a scenario.
 fn output_of(alloc: Global, cycles: u32, planned: PlannedGiven) -> Result<DeliveriesOutput, Memory>
     requires short { cycles ≤ most_cycles }
     requires may { MayBeRun cycles (scenario_given planned.given) }
@@ -61,12 +61,13 @@ fn output_of(alloc: Global, cycles: u32, planned: PlannedGiven) -> Result<Delive
     })
 }
 
-/// The output of `deliveries` over so many cycles, 0 to 100,000, for an input that is read within some limits, ready to be told: what
-/// becomes of each offer of these cycles, and when it is whole at each listener.
+/// Returns the output of `deliveries` over `cycles` cycles, 0 to 100,000, for an input that is read within given
+/// limits: what becomes of each offer of these cycles, and when it is whole at each listener. The output is ready to be
+/// written.
 ///
 /// # Errors
-/// With status 1 and the line of the first fault of the input: of its parts, of the domain, the streams, the script, the
-/// offers, or the background frames; and with status 3 for want of memory.
+/// With status 1 and the line of the first fault of the input: of its parts, the domain, the streams, the script, the
+/// offers, or the background frames. With status 3 if an allocation fails.
 pub fn deliveries_output(
     alloc: Global,
     limits: Limits,
@@ -84,21 +85,21 @@ pub fn deliveries_output(
     }
 }
 
-/// The end where nothing is offered.
+/// Returns the stop if nothing is offered.
 fn none_offered_stop(alloc: Global) -> Stop
     ensures { EndsWith 1 none_offered_line result }
 {
     Stop::with_text(alloc, REFUSED, none_offered_line(alloc))
 }
 
-/// The end where not all has come.
+/// Returns the stop if not all has arrived.
 fn unfinished_stop(alloc: Global, counts: CheckCounts) -> Stop
     ensures { EndsWith 1 (unfinished_line counts) result }
 {
     Stop::with_text(alloc, REFUSED, unfinished_line(alloc, counts))
 }
 
-/// The end with the first delivery that is dropped or late.
+/// Returns the stop for the first delivery that is dropped or late.
 fn complaint_stop(alloc: Global, delivery: &Delivery) -> Stop
     requires { is_bad (fate_of delivery.now) ≡ true }
     ensures { EndsWith 1 (complaint_line delivery.now) result }
@@ -106,7 +107,7 @@ fn complaint_stop(alloc: Global, delivery: &Delivery) -> Stop
     Stop::with_text(alloc, REFUSED, complaint_about(alloc, delivery))
 }
 
-/// The line where all is well.
+/// Returns the line if all is well.
 fn well_bytes(alloc: Global, counts: CheckCounts) -> Result<Vec<u8>, Memory>
     ensures { IfOk result (λ line. line.items ≡ well_line counts) }
 {
@@ -114,7 +115,7 @@ fn well_bytes(alloc: Global, counts: CheckCounts) -> Result<Vec<u8>, Memory>
     Ok(line.into_bytes())
 }
 
-/// The line where all that was counted is well, or the end with the line that tells what hasn't come.
+/// Returns the line if all that was counted is well; otherwise the stop with the line that says what is missing.
 fn finish(alloc: Global, counts: CheckCounts) -> Result<Vec<u8>, Stop>
     ensures ok { IfOk result (λ line. finished counts ≡ Ok line.items) }
     ensures err { IfErr result (IsRefused (finished counts)) }
@@ -131,8 +132,8 @@ fn finish(alloc: Global, counts: CheckCounts) -> Result<Vec<u8>, Stop>
     }
 }
 
-/// What is told of the deliveries of a run that is over, whose frames are followed from the first offer on, and of whose offers this is
-/// counted. What was there is room for the deliveries of one offer.
+/// Checks the deliveries of a run that is over, whose frames are followed from the first offer on, with these counts of
+/// its offers. `here` is room for the deliveries of one offer; what it had is discarded.
 fn check_each(
     alloc: Global,
     here: Few,
@@ -159,7 +160,7 @@ fn check_each(
     finish(alloc, counts)
 }
 
-/// What is told of a scenario of which this is noted, where no call of its history is refused, and this is counted of its offers.
+/// Checks a scenario with these notes and these counts of its offers. No call of its history is refused.
 fn check_noted(
     alloc: Global,
     cycles: u32,
@@ -181,7 +182,7 @@ fn check_noted(
     }
 }
 
-/// What is told of a scenario of which this is the outcome, where no call of its history is refused.
+/// Checks a scenario with this outcome. No call of its history is refused.
 fn check_frames(
     alloc: Global,
     cycles: u32,
@@ -204,7 +205,7 @@ fn check_frames(
     }
 }
 
-/// The end with a call that is refused.
+/// Returns the stop for a refused call.
 fn refused_stop(alloc: Global, given: &RunInput, number: usize, logged: &Logged) -> Stop
     requires there { StandsIn (map asked_paced given.now.requests.items) given.now.script.items logged.now.what }
     requires refused { is_refused logged.now.reply ≡ true }
@@ -217,7 +218,7 @@ fn refused_stop(alloc: Global, given: &RunInput, number: usize, logged: &Logged)
     Stop::with_text(alloc, REFUSED, line)
 }
 
-/// What is told of a scenario of which this is the outcome.
+/// Checks a scenario with this outcome.
 fn check_outcome(
     alloc: Global,
     cycles: u32,
@@ -238,7 +239,7 @@ fn check_outcome(
     }
 }
 
-/// What is told of a scenario.
+/// Checks a scenario.
 fn check_scenario(alloc: Global, cycles: u32, planned: &PlannedGiven) -> Result<Vec<u8>, Stop>
     requires short { cycles ≤ most_cycles }
     requires may { MayBeRun cycles (scenario_given planned.now.given) }
@@ -252,14 +253,21 @@ fn check_scenario(alloc: Global, cycles: u32, planned: &PlannedGiven) -> Result<
     }
 }
 
-/// The line of `check` over so many cycles, 0 to 100,000, for an input that is read within some limits, where all goes well: no call of
-/// the script is refused, there is an offer, and every offer is of a cycle that is run, covered, whole at every listener within the run, and within its
-/// deadline.
+/// Returns the line of `check` over `cycles` cycles, 0 to 100,000, for an input that is read within given limits, if
+/// all goes well. That is the case if no call of the script is refused, there is an offer, and every offer is of a
+/// cycle that is run, covered, whole at every listener within the run, and within its deadline.
 ///
 /// # Errors
-/// With status 1 and a line: of the first fault of the input, as [`deliveries_output`]; else of the first call that is refused; else
-/// of the first delivery that is dropped or late; else, that nothing is offered; that nothing has come, and how many cycles would do; or how
-/// many deliveries are under way and how many offers are of cycles that aren't run. And with status 3 for want of memory.
+/// With status 1 and one of these lines, the first that applies:
+///
+/// * of the first fault of the input, as of [`deliveries_output`];
+/// * of the first refused call;
+/// * of the first delivery that is dropped or late;
+/// * that nothing is offered;
+/// * that nothing has arrived, and how many cycles would do;
+/// * how many deliveries are under way, and how many offers are of cycles that aren't run.
+///
+/// With status 3 if an allocation fails.
 pub fn check_output(
     alloc: Global,
     limits: Limits,

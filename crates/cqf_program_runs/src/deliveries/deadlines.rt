@@ -8,7 +8,7 @@ use cqf_units::{Memory, Name};
 use std::alloc::Global;
 use std::marker::Model;
 
-/// The deadline at a place.
+/// Returns the deadline at an index; `None` past the end.
 fn deadline_at(deadlines: &[Option<u32>], place: usize) -> Option<u32>
     ensures { result ≡ slice_index_or deadlines.now place None }
 {
@@ -18,7 +18,7 @@ fn deadline_at(deadlines: &[Option<u32>], place: usize) -> Option<u32>
     }
 }
 
-/// Deadlines in nanoseconds, found by the names of their streams: a name means the first request of it.
+/// Deadlines in nanoseconds, found by the names of their streams. A name refers to the first request with it.
 #[derive(Drop)]
 pub struct Deadlines<'r> {
     names: Names<'r>,
@@ -34,10 +34,10 @@ impl<'r> Model for Deadlines<'r> {
 }
 
 impl<'r> Deadlines<'r> {
-    /// The deadlines of these requests, by their places. A request past the last deadline has none.
+    /// Makes the deadlines of requests, by the same indexes. A request past the last deadline has none.
     ///
     /// # Errors
-    /// Where a growth is refused.
+    /// `Memory` if an allocation fails.
     pub fn new(
         alloc: Global,
         requests: &'r [PacedRequest],
@@ -49,7 +49,7 @@ impl<'r> Deadlines<'r> {
         Ok(Deadlines { names, deadlines })
     }
 
-    /// The deadline of the frames of a name, where they have one, in a time that doesn't grow with the streams.
+    /// Returns the deadline of the frames of a name, if they have one, in a time that doesn't grow with the streams.
     pub fn of(&self, stream: &Name) -> Option<u32>
         ensures { result ≡ deadline_in self.now stream.now }
     {

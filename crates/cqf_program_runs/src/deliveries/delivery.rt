@@ -8,40 +8,40 @@ use cqf_units::{Name, Nanos};
 /// What becomes of an offered frame.
 #[derive(Clone, Copy, Debug, PartialEq, Eq)]
 pub enum Fate {
-    /// It is whole at its listener, within its deadline where it has one.
+    /// It is whole at its listener, within its deadline if it has one.
     Delivered,
-    /// It is whole there, and has passed its deadline.
+    /// It is whole there, after its deadline.
     Late,
-    /// It hasn't started on its last link within the cycles of the run.
+    /// It doesn't start on its last link within the cycles of the run.
     UnderWay,
-    /// It is dropped at its edge.
+    /// It is dropped at its edge bridge.
     Dropped(Reason),
 }
 
-/// The way of a frame to a listener.
+/// A frame's passage to a listener.
 #[derive(Debug, Drop)]
 pub struct Journey {
     /// The name of the listener's station.
     pub listener: Name,
-    /// The instant at which the frame is whole there, where that is within the run.
+    /// The instant at which the frame is whole there, if that is within the run.
     pub whole: Option<Nanos>,
-    /// What it is to take at most from its offer, in nanoseconds, where it has a deadline.
+    /// The longest time that it may take from its offer, in nanoseconds, if it has a deadline.
     pub deadline: Option<u32>,
 }
 
 /// What an offered frame does.
 #[derive(Debug, Drop)]
 pub enum Passage {
-    /// It is dropped at its edge.
+    /// It is dropped at its edge bridge.
     Dropped(Reason),
     /// It goes to a listener.
     Goes(Journey),
 }
 
-/// An offered frame on its way to one of its listeners, or its drop.
+/// An offered frame on its path to one of its listeners, or its drop.
 #[derive(Debug, Drop)]
 pub struct Delivery {
-    /// The offer's place among the offers, from 1.
+    /// The offer's number among the offers, from 1.
     pub frame: u32,
     /// The name of the stream that it claims.
     pub stream: Name,
@@ -54,14 +54,14 @@ pub struct Delivery {
     pub passage: Passage,
 }
 
-/// How long a frame takes from its offer to its being whole, in nanoseconds.
+/// Returns how long a frame takes from its offer until it is whole, in nanoseconds.
 pub fn latency(at: Nanos, whole: Nanos) -> u64
     ensures { result ≡ latency_of at.0 whole }
 {
     whole.0.saturating_sub(at.0)
 }
 
-/// Whether a frame that is whole by then is late.
+/// Returns whether a frame that is whole at an instant is delivered or late.
 fn arrival(at: Nanos, whole: Nanos, deadline: Option<u32>) -> Fate
     ensures { result ≡ arrival_at_listener at.0 whole deadline }
 {
@@ -77,7 +77,7 @@ fn arrival(at: Nanos, whole: Nanos, deadline: Option<u32>) -> Fate
     }
 }
 
-/// What becomes of a frame that goes to a listener.
+/// Returns what becomes of a frame that goes to a listener.
 fn end_of_journey(at: Nanos, journey: &Journey) -> Fate
     ensures { result ≡ end_of_journey at.0 journey.now.whole journey.now.deadline }
 {
@@ -88,7 +88,7 @@ fn end_of_journey(at: Nanos, journey: &Journey) -> Fate
 }
 
 impl Delivery {
-    /// What becomes of the frame on its way to this listener.
+    /// Returns what becomes of the frame on its path to this listener.
     pub fn fate(&self) -> Fate
         ensures { result ≡ fate_of self.now }
     {

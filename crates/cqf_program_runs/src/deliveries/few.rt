@@ -25,10 +25,10 @@ impl Model for Few {
 }
 
 impl Few {
-    /// None so far. This alone asks for memory.
+    /// Makes room for deliveries; there are none so far. Only this allocates memory.
     ///
     /// # Errors
-    /// Where the memory for them is refused.
+    /// `Memory` if the allocation fails.
     pub fn new(alloc: Global) -> Result<Few, Memory>
         ensures { IfOk result (λ few. few ≡ []) }
     {
@@ -36,14 +36,14 @@ impl Few {
         Ok(Few { deliveries })
     }
 
-    /// Takes them away.
+    /// Removes all deliveries.
     pub(crate) fn clear(&mut self)
         ensures { self.new ≡ [] }
     {
         self.deliveries.clear();
     }
 
-    /// Puts one behind those that are there.
+    /// Appends a delivery.
     pub(crate) fn push(&mut self, delivery: Delivery)
         requires { length self.old < 200 }
         ensures { self.new ≡ self.old ++ delivery ∷ [] }
@@ -51,7 +51,7 @@ impl Few {
         self.deliveries.push_reserved(delivery);
     }
 
-    /// What is there: at most 200 deliveries.
+    /// Returns the deliveries, at most 200.
     pub fn as_slice(&self) -> &[Delivery]
         ensures value { result.now ≡ self.now }
         ensures fits { length result.now ≤ 200 }

@@ -1,4 +1,4 @@
-//! Deliveries, told line by line.
+//! Deliveries, written line by line.
 ghost use Rattle.std.specs.Prelude.{ℕ, ◌≡◌, ◌∷◌, [], Option};
 ghost use Rattle.cqf_press.specs.Press.{Puts};
 ghost use Rattle.cqf_report.specs.Written.{line_of_fields};
@@ -19,7 +19,7 @@ use cqf_report::reason_name;
 use cqf_units::Nanos;
 
 impl Fate {
-    /// The fate as it is told: `delivered`, `late`, `under-way`, or the reason of a drop as a book has it.
+    /// Returns the word for the fate: `delivered`, `late`, `under-way`, or the reason of a drop as in a book.
     pub fn name(self) -> &'static str
         ensures { result.now ≡ name_of_fate self }
     {
@@ -39,7 +39,7 @@ fn put_header<W: Sink>(press: &mut Press<'_, W>)
     press.put(b"frame,stream,octets,at,listener,whole,latency,deadline,what\n");
 }
 
-/// Puts the instant at which a frame is whole, where there is one.
+/// Puts the instant at which a frame is whole, if there is one.
 fn put_instant<W: Sink>(press: &mut Press<'_, W>, whole: Option<Nanos>)
     ensures { Puts W.contents press.old press.new (text_of_instant whole) }
 {
@@ -48,7 +48,7 @@ fn put_instant<W: Sink>(press: &mut Press<'_, W>, whole: Option<Nanos>)
     }
 }
 
-/// Puts how long it takes, where it is whole.
+/// Puts how long the frame takes, if it is whole.
 fn put_latency<W: Sink>(press: &mut Press<'_, W>, at: Nanos, whole: Option<Nanos>)
     ensures { Puts W.contents press.old press.new (text_of_listeners_latency at.0 whole) }
 {
@@ -57,7 +57,7 @@ fn put_latency<W: Sink>(press: &mut Press<'_, W>, at: Nanos, whole: Option<Nanos
     }
 }
 
-/// Puts the fields of a frame's way to a listener, and the last field.
+/// Puts the fields of a frame that goes to a listener, and the last field.
 fn put_journey<W: Sink>(press: &mut Press<'_, W>, at: Nanos, journey: &Journey, last: &[u8])
     ensures { Puts W.contents press.old press.new (line_of_fields (passage_fields at.0 (Passage.Goes journey.now) (last.now ∷ []))) }
 {
@@ -73,7 +73,7 @@ fn put_journey<W: Sink>(press: &mut Press<'_, W>, at: Nanos, journey: &Journey, 
     press.put_byte(b'\n');
 }
 
-/// Puts the empty fields of a frame that is dropped, and the last field.
+/// Puts the empty fields of a dropped frame, and the last field.
 fn put_drop<W: Sink>(press: &mut Press<'_, W>, last: &[u8])
     ensures { Puts W.contents press.old press.new (line_of_fields ([] ∷ [] ∷ [] ∷ [] ∷ last.now ∷ [])) }
 {
@@ -135,8 +135,8 @@ fn put_all<W: Sink>(
     }
 }
 
-/// Puts the text of the deliveries of a run that is over, whose frames are followed from the first offer on; what was there is room for those
-/// of one offer.
+/// Puts the text of the deliveries of a run that is over, whose frames are followed from the first offer on. `here` is
+/// room for the deliveries of one offer; what it had is discarded.
 pub(crate) fn put_deliveries<W: Sink>(
     press: &mut Press<'_, W>,
     here: Few,

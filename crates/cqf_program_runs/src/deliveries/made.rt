@@ -25,7 +25,7 @@ use cqf_program_plans::listener_at;
 use cqf_topology::{Domain, PacedRequest};
 use cqf_units::{Nanos, cycle_of};
 
-/// What the deliveries of a run that is over are told from ([`Noted::over`](crate::Noted::over)).
+/// The data from which the deliveries of a run that is over are derived ([`Noted::over`](crate::Noted::over)).
 #[derive(Clone, Copy)]
 pub struct CompletedRun<'r> {
     pub domain: &'r Domain,
@@ -34,16 +34,16 @@ pub struct CompletedRun<'r> {
     pub offers: &'r [Offer],
     /// The streams that were ever granted, by number.
     pub(crate) rows: &'r [Row],
-    /// What becomes of each offer, by its place.
+    /// What becomes of each offer, by its index.
     pub(crate) edge_verdicts: &'r [EdgeVerdict],
-    /// The requests of the scenario, and the deadlines of their frames, by the same places.
+    /// The requests of the scenario, and the deadlines of their frames, by the same indexes.
     pub(crate) requests: &'r [PacedRequest],
     pub(crate) deadlines: &'r [Option<u32>],
-    /// By these the deadline of each offer's frame, by its place.
+    /// The deadline of each offer's frame, by its index, as the requests and deadlines give it.
     pub(crate) dues: &'r [Option<u32>],
 }
 
-/// The offer at a place, with its number.
+/// Returns the offer at an index, with its number.
 fn offered(place: usize, offer: &Offer) -> Offered
     requires { place < most_rows }
     ensures { result ≡ record { frame = place + 1; offer = offer.now } }
@@ -59,7 +59,7 @@ fn offered(place: usize, offer: &Offer) -> Offered
     }
 }
 
-/// An offer with what becomes of it.
+/// Returns an offer with what becomes of it.
 fn delivery_of(domain: &Domain, x: &Offered, passage: Passage) -> Delivery
     requires { x.now.offer.bridge < length domain.now.bridges }
     ensures { result ≡ delivery_of domain.now x.now passage }
@@ -74,8 +74,8 @@ fn delivery_of(domain: &Domain, x: &Offered, passage: Passage) -> Delivery
     }
 }
 
-/// The delivery to the end of a hop, where a listener is there, of a frame that is whole there by then and has this deadline. Hops by links
-/// that the domain lacks have none.
+/// Returns the delivery to the end of a hop, if there is a listener, of a frame with the given deadline that is whole
+/// there at the given instant. A hop by a link that the domain lacks has none.
 fn delivery_to(
     domain: &Domain,
     whole: Option<Nanos>,
@@ -98,7 +98,7 @@ fn delivery_to(
     Some(delivery_of(domain, x, Passage::Goes(journey)))
 }
 
-/// Puts the deliveries of a frame to the listeners of a row, by what is kept of it.
+/// Puts the deliveries of a frame to the listeners of a row, by what is kept of the frame.
 fn put_to_listeners(
     here: &mut Few,
     domain: &Domain,
@@ -119,14 +119,14 @@ fn put_to_listeners(
     }
 }
 
-/// The row at a place, where there is one.
+/// Returns the row at an index, if there is one.
 fn row_there(rows: &[Row], place: usize) -> Option<&Row>
     ensures { option_copied result ≡ slice_get rows.now place }
 {
     rows.get(place)
 }
 
-/// The verdict at a place.
+/// Returns the verdict at an index.
 fn edge_verdict_there(edge_verdicts: &[EdgeVerdict], place: usize) -> EdgeVerdict
     requires { place < length edge_verdicts.now }
     ensures { slice_get edge_verdicts.now place ≡ Some result }
@@ -134,7 +134,7 @@ fn edge_verdict_there(edge_verdicts: &[EdgeVerdict], place: usize) -> EdgeVerdic
     edge_verdicts[place]
 }
 
-/// Puts the deliveries of an offer that is judged so, whose frame has this deadline, by what is kept of it.
+/// Puts the deliveries of an offer with this verdict, whose frame has this deadline, by what is kept of the frame.
 fn put_judged(
     here: &mut Few,
     ended: &CompletedRun<'_>,
@@ -163,7 +163,8 @@ fn put_judged(
     }
 }
 
-/// Puts the deliveries of an offer of this cycle, whose frame has this deadline, by what is kept of it: none where its cycle isn't run.
+/// Puts the deliveries of an offer of this cycle, whose frame has this deadline, by what is kept of the frame. Puts
+/// none if its cycle isn't run.
 fn put_offer(
     here: &mut Few,
     ended: &CompletedRun<'_>,
@@ -189,8 +190,8 @@ fn put_offer(
     put_judged(here, ended, slot, deadline, x, edge_verdict);
 }
 
-/// Puts the deliveries of the offer at a place, from 0, in place of what was there: none where its cycle isn't run. The frames
-/// under way are those from this place on, and then those from the next one on. It asks for no memory.
+/// Replaces `here` by the deliveries of the offer at an index, from 0; there are none if its cycle isn't run.
+/// `under_way` has the frames from this index on, and afterwards those from the next one on. Allocates no memory.
 pub fn put_those_of(
     here: &mut Few,
     ended: &CompletedRun<'_>,

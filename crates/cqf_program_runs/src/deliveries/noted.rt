@@ -1,4 +1,4 @@
-//! What the deliveries of a scenario are told from.
+//! The notes from which the deliveries of a scenario are derived.
 ghost use Rattle.std.specs.Prelude.{ℕ, ◌≡◌, ◌≤◌, ◌<◌, IfOk, Option, count_by, map, nat_le};
 ghost use Rattle.cqf_units.specs.Timing.{cycle_at};
 ghost use Rattle.cqf_units.specs.declared.timing.Nanos.{Nanos as AnInstant};
@@ -30,19 +30,19 @@ use cqf_topology::Domain;
 use cqf_units::{Memory, cycle_of};
 use std::alloc::Global;
 
-/// What is noted of a scenario that was run: what becomes of each offer, and its deadline.
+/// The notes about a scenario that was run: what becomes of each offer, and its deadline.
 #[derive(Drop)]
 pub struct Noted {
     /// The streams that were ever granted, by number.
     pub(crate) rows: Vec<Row>,
-    /// What becomes of each offer, by its place.
+    /// What becomes of each offer, by its index.
     pub(crate) edge_verdicts: Vec<EdgeVerdict>,
-    /// The deadline of each offer's frame, where it has one, by its place.
+    /// The deadline of each offer's frame, if it has one, by its index.
     pub(crate) dues: Vec<Option<u32>>,
 }
 
 impl Noted {
-    /// What deliveries are told from: this, and what was read of the scenario.
+    /// Returns the data from which deliveries are derived: these notes, and what was read of the scenario.
     pub fn over<'r>(&'r self, planned: &'r PlannedGiven, cycles: u32) -> CompletedRun<'r>
         ensures { (whole : ℕ → ℕ → Option AnInstant) → over_of result whole ≡ over_by planned.now cycles self.now whole }
     {
@@ -59,7 +59,7 @@ impl Noted {
     }
 }
 
-/// The deadline of each offer's frame, by its place.
+/// Returns the deadline of each offer's frame, by its index.
 fn dues_of(
     alloc: Global,
     deadlines: &Deadlines<'_>,
@@ -74,7 +74,7 @@ fn dues_of(
     Ok(dues)
 }
 
-/// The same of the offers of a scenario.
+/// Returns the same for the offers of a scenario.
 fn dues_of_scenario(alloc: Global, planned: &PlannedGiven) -> Result<Vec<Option<u32>>, Memory>
     ensures { IfOk result (λ dues. dues.items ≡ map (λ (offer : AnOffer).
         deadline_in (record { requests = planned.now.given.requests.items; deadlines = planned.now.deadlines.items }) offer.stream)
@@ -85,7 +85,8 @@ fn dues_of_scenario(alloc: Global, planned: &PlannedGiven) -> Result<Vec<Option<
     dues_of(alloc, &deadlines, planned.given.offers.as_slice())
 }
 
-/// What is noted of a scenario over so many cycles, of which this is the outcome, and its frames under way, whose starts are still to be told.
+/// Returns the notes about a scenario over `cycles` cycles with this outcome, and its frames under way, before any
+/// start is returned.
 pub(crate) fn noted_of(
     alloc: Global,
     cycles: u32,
@@ -118,10 +119,11 @@ pub(crate) fn noted_of(
     Ok((noted, under_way))
 }
 
-/// What is noted of a scenario over so many cycles, 0 to 100,000, and its frames under way, whose starts are still to be told.
+/// Returns the notes about a scenario over `cycles` cycles, 0 to 100,000, and its frames under way, before any start is
+/// returned.
 ///
 /// # Errors
-/// `Memory` where a growth is refused.
+/// `Memory` if an allocation fails.
 pub fn noted_of_scenario(
     alloc: Global,
     cycles: u32,
@@ -144,7 +146,7 @@ fn is_later(domain: &Domain, cycles: u32, offer: &Offer) -> bool
     cycle_of(offer.at, domain.cycle_time()).0 >= cycles
 }
 
-/// How many offers are of cycles that aren't run.
+/// Returns how many offers are of cycles that aren't run.
 fn later_offers(domain: &Domain, cycles: u32, offers: &[Offer]) -> usize
     requires { AreOffers domain.now offers.now }
     ensures { result ≡ count_by (λ x. nat_le cycles (offer_cycle domain.now x)) (numbered offers.now) }
@@ -158,7 +160,7 @@ fn later_offers(domain: &Domain, cycles: u32, offers: &[Offer]) -> usize
     later
 }
 
-/// The cycle of the latest offer; 0 where there is none.
+/// Returns the cycle of the latest offer; 0 if there is none.
 fn latest_cycle(domain: &Domain, offers: &[Offer]) -> u32
     requires { AreOffers domain.now offers.now }
     ensures { result ≡ latest_cycle domain.now offers.now }
@@ -170,7 +172,7 @@ fn latest_cycle(domain: &Domain, offers: &[Offer]) -> u32
     most
 }
 
-/// What a check counts of the offers of a run over so many cycles, whose history granted these rows.
+/// Returns the counts of the offers of a run over `cycles` cycles, whose history granted these rows.
 pub(crate) fn offer_counts(
     domain: &Domain,
     cycles: u32,

@@ -1,4 +1,4 @@
-//! The output of `deliveries`, before it is told.
+//! The output of `deliveries`, before it is written.
 ghost use Rattle.std.specs.Prelude.{ℕ, List};
 ghost use Rattle.cqf_press.specs.Edge.{HasTold, writing};
 ghost use Rattle.cqf_program_runs.specs.Deliveries.Following.{AreDeliveriesTold};
@@ -11,8 +11,8 @@ use crate::deliveries::under_way::UnderWay;
 use cqf_press::{Press, Sheet, Sink, Told};
 use std::marker::Model;
 
-/// What the output of `deliveries` is told from: a scenario with what is noted of it, its frames under way, room for the deliveries of one
-/// offer, and a sheet.
+/// The data of the output of `deliveries`: a scenario with its notes, its frames under way, room for the deliveries of
+/// one offer, and a sheet.
 #[derive(Drop)]
 pub struct DeliveriesOutput {
     pub(crate) planned: PlannedGiven,
@@ -34,7 +34,7 @@ impl Model for DeliveriesOutput {
 }
 
 impl DeliveriesOutput {
-    /// Tells the output: the deliveries, in their order. It asks for no memory.
+    /// Writes the output: the deliveries, in their order. Allocates no memory.
     pub fn tell<W: Sink>(self, told: &mut Told<W>)
         ensures { (text : List ℕ) → AreDeliveriesTold self text → HasTold (writing W.contents told.old told.new) text }
     {

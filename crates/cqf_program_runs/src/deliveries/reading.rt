@@ -1,4 +1,4 @@
-//! What the commands `deliveries` and `check` read, and others over deliveries.
+//! The input of the commands `deliveries` and `check`, and of others over deliveries.
 ghost use Rattle.std.specs.Prelude.{IfErr, IfOk};
 ghost use Rattle.cqf_program_scenario.specs.Lines.{streams_line};
 ghost use Rattle.cqf_program_scenario.specs.RunParts.{texts_of};
@@ -14,15 +14,15 @@ use cqf_program_scenario::{RunInput, RunParts, domain_part, planned_part, read_b
 use cqf_topology::PacedRequest;
 use std::alloc::Global;
 
-/// What a run is given, and the deadlines of its streams.
+/// The input of a run, and the deadlines of its streams.
 #[derive(Drop)]
 pub struct PlannedGiven {
     pub given: RunInput,
-    /// The deadlines of its requests in nanoseconds, where they have one, by the same places.
+    /// The deadlines of its requests in nanoseconds, if they have one, by the same indexes.
     pub deadlines: Vec<Option<u32>>,
 }
 
-/// The requests for the streams of a part, and their deadlines.
+/// Reads the requests for the streams of a part, and their deadlines.
 fn read_paced_streams(
     alloc: Global,
     text: &[u8],
@@ -37,7 +37,7 @@ fn read_paced_streams(
     }
 }
 
-/// The scenario of some parts that are read within some limits, with its streams' deadlines.
+/// Reads the scenario of the parts within given limits, with its streams' deadlines.
 fn read_planned_parts(
     alloc: Global,
     limits: Limits,
@@ -53,11 +53,11 @@ fn read_planned_parts(
     Ok(PlannedGiven { given, deadlines })
 }
 
-/// The scenario of the input over so many cycles, read within some limits, with its streams' deadlines.
+/// Reads the scenario of the input over `cycles` cycles within given limits, with its streams' deadlines.
 ///
 /// # Errors
-/// With status 1 and the line of the first fault of the input: of its parts, of the domain, the streams, the script, the
-/// offers, or the background frames; and with status 3 for want of memory.
+/// With status 1 and the line of the first fault of the input: of its parts, the domain, the streams, the script, the
+/// offers, or the background frames. With status 3 if an allocation fails.
 pub fn read_planned_given(
     alloc: Global,
     limits: Limits,

@@ -16,7 +16,7 @@ use cqf_units::{Memory, Nanos, cycle_of};
 use std::alloc::Global;
 use std::collections::VecDeque;
 
-/// For how many cycles behind its own a frame of one of some rows may be under way.
+/// Returns the most cycles after its own for which a frame of one of the rows can be under way.
 pub fn deepest(rows: &[Row]) -> u8
     ensures { result ≡ deepest rows.now }
 {
@@ -27,7 +27,7 @@ pub fn deepest(rows: &[Row]) -> u8
     most
 }
 
-/// How many listeners a row has.
+/// Returns how many listeners a row has.
 fn listeners(domain: &Domain, row: &Row) -> usize
     ensures { result ≡ length (listeners_of domain.now row.now) }
 {
@@ -38,7 +38,7 @@ fn listeners(domain: &Domain, row: &Row) -> usize
         .count()
 }
 
-/// How many the one of some rows has that has most.
+/// Returns the greatest number of listeners of a row.
 fn most_listeners(domain: &Domain, rows: &[Row]) -> usize
     ensures { result ≡ fold (λ most row. max most (length (listeners_of domain.now row))) 0 rows.now }
 {
@@ -49,7 +49,7 @@ fn most_listeners(domain: &Domain, rows: &[Row]) -> usize
     most
 }
 
-/// The cycle of the offer at a place.
+/// Returns the cycle of the offer at an index.
 fn cycle_there(domain: &Domain, offers: &[Offer], place: usize) -> u64
     requires offers { AreOffers domain.now offers.now }
     requires there { place < length offers.now }
@@ -59,7 +59,9 @@ fn cycle_there(domain: &Domain, offers: &[Offer], place: usize) -> u64
     u64::from(cycle_of(offers[place].at, domain.cycle_time()).0)
 }
 
-/// The most offers, from one on, that are of cycles less than so many behind its own; 1 at least.
+/// Returns a number of slots, at least 1, that is enough for the frames under way: an offer that many positions after
+/// another is of a cycle at least `depth` cycles after the other's. It is the greatest number of offers, from some
+/// offer on, that are of cycles less than `depth` after that offer's.
 fn most_at_once(domain: &Domain, depth: u8, offers: &[Offer]) -> usize
     requires offers { AreOffers domain.now offers.now }
     requires order { StandInOrder offers.now }
@@ -80,14 +82,14 @@ fn most_at_once(domain: &Domain, depth: u8, offers: &[Offer]) -> usize
     most
 }
 
-/// A slot of a width, in which nothing is kept.
+/// Returns a slot of a width in which nothing is kept.
 fn empty_slot(alloc: Global, width: usize) -> Result<Vec<Option<Nanos>>, Memory>
     ensures { IfOk result (λ slot. slot.items ≡ replicate width None) }
 {
     Ok(vec![in alloc; None; width]?)
 }
 
-/// So many slots of one width, in which nothing is kept.
+/// Returns `many` slots of one width in which nothing is kept.
 fn empty_slots(
     alloc: Global,
     width: usize,
@@ -103,11 +105,11 @@ fn empty_slots(
 }
 
 impl UnderWay {
-    /// The frames under way of some offers in order of time, from the first one on, whose starts a pass is going to tell: with all the memory that
-    /// they need.
+    /// Makes the frames under way of offers in order of time, from the first one on. `pass` will return their starts.
+    /// All memory that they need is allocated here.
     ///
     /// # Errors
-    /// Where a growth is refused.
+    /// `Memory` if an allocation fails.
     pub(crate) fn new(
         alloc: Global,
         domain: &Domain,

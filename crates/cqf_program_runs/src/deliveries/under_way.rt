@@ -1,4 +1,4 @@
-//! The frames under way: when they are whole at their listeners, while the starts of the run are told.
+//! The frames under way: when they are whole at their listeners, while a pass returns the starts of the run.
 ghost use Rattle.std.specs.Prelude.{ℕ, ◌≡◌, ◌<◌, ◌^◌, ◌∷◌, [], All, None, length, slice_index_or};
 ghost use Rattle.std.specs.Option.{option_and_then};
 ghost use Rattle.cqf_model.specs.Domain.{end_of};
@@ -15,17 +15,18 @@ use cqf_topology::Domain;
 use cqf_units::{Nanos, Octets, end_of};
 use std::collections::VecDeque;
 
-/// The frames under way, from one offer on, with the pass that tells their starts: as many as are under way at once at most. Of no frame
-/// behind these is a start told.
+/// The frames under way, from one offer on, with the pass that returns their starts. There are as many slots as frames
+/// are under way at once at most. No start of a later frame has been returned.
 #[derive(Drop)]
 pub struct UnderWay {
-    /// It tells the starts of the run, cycle by cycle.
+    /// It returns the starts of the run, cycle by cycle.
     pub(crate) pass: Pass,
-    /// How many cycles are told.
+    /// The number of cycles whose starts it has returned.
     pub(crate) told: u64,
-    /// For how many cycles behind its own a frame may be under way.
+    /// The most cycles after its own for which a frame can be under way.
     pub(crate) depth: u8,
-    /// Of each frame, one behind the other, when it is whole at the listeners of its stream, in the order of the tree, as far as that is told.
+    /// For each frame, in order, when it is whole at the listeners of its stream, in the order of the tree, as far as
+    /// that is known.
     pub(crate) slots: VecDeque<Vec<Option<Nanos>>>,
 }
 
@@ -42,7 +43,7 @@ pub(crate) fn ends_in_station(domain: &Domain, link: u16) -> bool
     }
 }
 
-/// The instant at which a frame that starts is whole at the link's end.
+/// Returns the instant at which a frame that starts is whole at the link's end.
 fn whole_of(domain: &Domain, start: &Started) -> Nanos
     requires link { start.now.link < length domain.now.links }
     requires in_time { IsInTime domain.now start.now }
@@ -53,7 +54,7 @@ fn whole_of(domain: &Domain, start: &Started) -> Nanos
     Nanos(end.0 + u64::from(link.delay))
 }
 
-/// The place of the listener at the end of a link among those of a row, from 0.
+/// Returns the index, from 0, of the listener at the end of a link among those of a row.
 fn column_of(domain: &Domain, row: &Row, link: u16) -> Option<usize>
     ensures { result ≡ column_of domain.now row.now link }
 {
@@ -64,7 +65,7 @@ fn column_of(domain: &Domain, row: &Row, link: u16) -> Option<usize>
         .position(|hop| hop.link == link)
 }
 
-/// The same in the row by which the offer at a place goes on.
+/// Returns the same in the row by which the offer at an index goes on.
 fn column_at(ended: &CompletedRun<'_>, place: usize, link: u16) -> Option<usize>
     ensures { result ≡ option_and_then (λ row. column_of ended.now.domain.now row link) (row_at ended.now.rows.now ended.now.edge_verdicts.now place) }
 {
@@ -75,7 +76,7 @@ fn column_at(ended: &CompletedRun<'_>, place: usize, link: u16) -> Option<usize>
     column_of(ended.domain, row, link)
 }
 
-/// Keeps when a frame is whole at a listener, where nothing is kept of that yet.
+/// Keeps when a frame is whole at a listener, if nothing is kept of that yet.
 fn keep(slot: &mut Vec<Option<Nanos>>, column: usize, whole: Nanos)
     ensures { KeepsFirst slot.old.items slot.new.items column whole }
 {
@@ -84,7 +85,7 @@ fn keep(slot: &mut Vec<Option<Nanos>>, column: usize, whole: Nanos)
     }
 }
 
-/// The same in the slot at a place.
+/// Does the same in the slot at an index.
 fn keep_in(slots: &mut VecDeque<Vec<Option<Nanos>>>, behind: usize, column: usize, whole: Nanos)
     requires { behind < length slots.old.items }
     ensures { KeepsInSlot (slots_of slots.old.items) (slots_of slots.new.items) behind column whole }
@@ -92,7 +93,7 @@ fn keep_in(slots: &mut VecDeque<Vec<Option<Nanos>>>, behind: usize, column: usiz
     keep(&mut slots[behind], column, whole);
 }
 
-/// Notes a start of a frame under way, from the offer at a place on, where it comes to a listener.
+/// Notes a start of a frame under way, from the offer at an index on, if the frame reaches a listener by it.
 fn note(
     slots: &mut VecDeque<Vec<Option<Nanos>>>,
     ended: &CompletedRun<'_>,
@@ -135,7 +136,7 @@ fn note_each(
     }
 }
 
-/// Keeps nothing in a slot.
+/// Empties a slot.
 fn empty(slot: &mut Vec<Option<Nanos>>)
     ensures as_many { length slot.new.items ≡ length slot.old.items }
     ensures none { (column : ℕ) → slice_index_or slot.new.items column None ≡ None }
@@ -145,7 +146,7 @@ fn empty(slot: &mut Vec<Option<Nanos>>)
     }
 }
 
-/// When a frame of a row is whole at the end of a link, by its slot; none where that isn't told.
+/// Returns when a frame of a row is whole at the end of a link, by its slot; `None` if that isn't known.
 pub(crate) fn whole_in(
     domain: &Domain,
     row: &Row,
@@ -162,7 +163,8 @@ pub(crate) fn whole_in(
 }
 
 impl UnderWay {
-    /// Tells the starts of the cycles up to one, and notes those of frames under way, from the offer at a place on.
+    /// Takes the starts of the cycles up to `last` from the pass, and notes those of frames under way, from the offer
+    /// at an index on.
     pub(crate) fn tell_up_to(&mut self, ended: &CompletedRun<'_>, place: usize, last: u64)
         requires in_time { TellsInTime ended.now.domain.now self.old.pass.basis }
         requires counted { self.old.told ≡ self.old.pass.told }
@@ -178,7 +180,7 @@ impl UnderWay {
         }
     }
 
-    /// What is kept of the first frame.
+    /// Returns what is kept of the first frame.
     pub(crate) fn first(&self) -> &[Option<Nanos>]
         requires { 0 < length self.now.slots.items }
         ensures { result.now ≡ slice_index_or (slots_of self.now.slots.items) 0 [] }
@@ -186,7 +188,8 @@ impl UnderWay {
         self.slots[0].as_slice()
     }
 
-    /// Goes on to the next frame: the slot of the first is then that of the one behind the last.
+    /// Advances to the next frame: the slot of the first frame is emptied, and becomes that of the frame after the
+    /// last.
     pub(crate) fn go_on(&mut self)
         requires { 0 < length self.old.slots.items }
         ensures { GoesOn self.old self.new }

@@ -21,7 +21,7 @@ use cqf_topology::Domain;
 use cqf_units::Memory;
 use std::alloc::Global;
 
-/// The offers of the input, to a domain.
+/// Reads the offers of the input, to a domain.
 fn read_line(alloc: Global, domain: &Domain, input: &[u8]) -> Result<Vec<Offer>, Stop>
     ensures ok { IfOk result (λ offers. offers_input domain.now input.now ≡ Ok offers.items) }
     ensures good { IfOk result (λ offers. AreOffers domain.now offers.items) }
@@ -34,7 +34,7 @@ fn read_line(alloc: Global, domain: &Domain, input: &[u8]) -> Result<Vec<Offer>,
     offers_part(alloc, domain, text)
 }
 
-/// The output for these offers.
+/// Returns the output for these offers.
 fn output_of_line(
     alloc: Global,
     domain: Domain,
@@ -62,7 +62,7 @@ fn output_of_line(
 }
 
 impl LineOutput {
-    /// Tells the output: the book of the line. It asks for no memory.
+    /// Writes the output: the book of the line. Allocates no memory.
     pub fn tell<W: Sink>(self, told: &mut Told<W>)
         ensures { (text : List ℕ) → IsLineTold self text → HasTold (writing W.contents told.old told.new) text }
     {
@@ -77,8 +77,11 @@ impl LineOutput {
     }
 }
 
-/// The output of `line`, ready to be told: the book of so many cycles. `Err` with status 1 and the line of the first fault of
-/// the input: of its parts, of the offers; and with status 3 for want of memory.
+/// Returns the output of `line`, ready to be written: the book of `cycles` cycles.
+///
+/// # Errors
+/// With status 1 and the line of the first fault of the input: of its parts, or of the offers. With status 3 if an
+/// allocation fails.
 pub fn line_output(alloc: Global, cycles: u32, input: &[u8]) -> Result<LineOutput, Stop>
     requires { cycles ≤ most_cycles }
     ensures ok { IfOk result (λ output. (text : List ℕ) × IsLineTold output text × IsLineOutput cycles input.now text) }

@@ -19,9 +19,9 @@ rate = 1000
 delay = 500
 ";
 
-/// The domain of the line: bridge `a`, station `s`, the link from one to the other at 1,000 Mb/s with a delay of 500 ns, a
-/// cycle time of 125,000 ns and a guard time of 5,000 ns. `Memory` where a growth is refused: the text is fixed, so that
-/// nothing else can be wrong with it.
+/// Returns the domain of the line: bridge `a`, station `s`, the link from one to the other at 1,000 Mb/s with a delay
+/// of 500 ns, a cycle time of 125,000 ns and a guard band of 5,000 ns. Returns `Memory` if an allocation fails. The
+/// text is fixed, so nothing else can be wrong with it.
 pub(crate) fn domain_of_line(alloc: Global) -> Result<Domain, Memory>
     ensures { IfOk result (λ domain. domain ≡ line_domain) }
 {
@@ -29,7 +29,7 @@ pub(crate) fn domain_of_line(alloc: Global) -> Result<Domain, Memory>
         Ok(domain) => Ok(domain),
         Err(fault) => match fault {
             DomainFault::Memory => Err(AllocError),
-            // what the text means is a domain
+            // the text is that of a domain
             _ => unreachable!(),
         },
     }

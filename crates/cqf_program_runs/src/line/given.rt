@@ -1,4 +1,4 @@
-//! What the line is given beside its offers: its stream, which is admitted before cycle 0.
+//! The input of the line other than its offers: its stream, which is admitted before cycle 0.
 ghost use Rattle.std.specs.Prelude.{◌≡◌, ◌∷◌, [], IfOk, codes, map, string_bytes};
 ghost use Rattle.cqf_admission.specs.Asking.{asked_paced};
 ghost use Rattle.cqf_program_runs.specs.Line.{line_asked, line_domain, line_scenario};
@@ -12,7 +12,7 @@ use cqf_topology::{Domain, PacedRequest};
 use cqf_units::{Memory, Octets};
 use std::alloc::Global;
 
-/// The reservation of the stream, in octets a cycle.
+/// The reservation of the stream, in octets per cycle.
 const RESERVED: Octets = Octets(1_500);
 
 /// The seat that admits the stream.
@@ -21,7 +21,7 @@ const ADMINISTRATOR: u16 = 0;
 /// The seat that closes the cycles.
 const SEALER: u16 = 1;
 
-/// The path of the stream: its bridge, and then its listener's station.
+/// Returns the path of the stream: its bridge, followed by its listener's station.
 fn path_of_line(alloc: Global) -> Result<Vec<String>, Memory>
     ensures { IfOk result (λ path. map string_bytes path.items ≡ codes "a" ∷ codes "s" ∷ []) }
 {
@@ -31,7 +31,7 @@ fn path_of_line(alloc: Global) -> Result<Vec<String>, Memory>
     Ok(path)
 }
 
-/// The request for the stream `x`.
+/// Returns the request for the stream `x`.
 fn request_of_line(alloc: Global) -> Result<PacedRequest, Memory>
     ensures { IfOk result (λ request. asked_paced request ≡ line_asked) }
 {
@@ -46,7 +46,7 @@ fn request_of_line(alloc: Global) -> Result<PacedRequest, Memory>
     })
 }
 
-/// The scenario of these offers: the stream is admitted before cycle 0, and there are no background frames.
+/// Returns the scenario of these offers: the stream is admitted before cycle 0, and there are no background frames.
 pub(crate) fn given_to_line(
     alloc: Global,
     domain: Domain,

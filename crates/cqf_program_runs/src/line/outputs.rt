@@ -1,10 +1,10 @@
-//! The output of `line`, before it is told.
+//! The output of `line`, before it is written.
 
 use cqf_press::Sheet;
 use cqf_program_scenario::ExactBook;
 use cqf_topology::Domain;
 
-/// What the output of `line` is told from: the line's domain, its book that is ready to be told, and a sheet.
+/// The data of the output of `line`: the line's domain, its book that is ready to be written, and a sheet.
 #[derive(Drop)]
 pub struct LineOutput {
     pub(crate) domain: Domain,

@@ -12,8 +12,8 @@ use cqf_program_scenario::{RunInput, ScenarioOutcome};
 use cqf_units::Memory;
 use std::alloc::Global;
 
-/// What each link carries in so many cycles of a scenario, of which this is the outcome: each offer is judged as the definitions say
-/// 
+/// Returns what each link carries in `cycles` cycles of a scenario with this outcome. Each offer is judged as the
+/// definitions require.
 pub(crate) fn carried_columns(
     alloc: Global,
     cycles: u32,
@@ -27,7 +27,7 @@ pub(crate) fn carried_columns(
 {
     cells_fit();
     let domain = &given.domain;
-    // the domain is accepted: a fact for the room in the columns
+    // the domain is accepted; the room in the columns needs this fact
     domain.know();
     let rows = outcome.rows.as_slice();
     let offers = given.offers.as_slice();

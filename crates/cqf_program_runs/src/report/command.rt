@@ -18,7 +18,8 @@ use cqf_units::Memory;
 use std::alloc::Global;
 use std::thread::Threads;
 
-/// The text of the sums by link of the book of a scenario over so many cycles: background frames change nothing in it.
+/// Returns the text of the sums by link of the book of a scenario over `cycles` cycles. Background frames don't affect
+/// it.
 fn text_of_report(
     rt: &(impl Threads + Sync),
     alloc: Global,
@@ -32,20 +33,21 @@ fn text_of_report(
 {
     report_is_told();
     book_of_history_is_there();
-    // the domain is accepted: a fact for the book
+    // the domain is accepted; the book needs this fact
     given.domain.know();
     let outcome = outcome_of(alloc, cycles, given)?;
     let columns = carried_columns(alloc, cycles, given, &outcome)?;
     write_columns(rt, alloc, &given.domain, columns.as_slice())
 }
 
-/// The output of `report` over so many cycles, 0 to 100,000, for an input that is read within some limits: the sums by link of the book
-/// of the input's scenario, which is the book that `run` writes. The network isn't run: what its links carry is told by the
-/// offers and the history of admissions. The time grows with the input and the cycles, and with the links by which the offers leave.
+/// Returns the output of `report` over `cycles` cycles, 0 to 100,000, for an input that is read within given limits:
+/// the sums by link of the book of the input's scenario, the book that `run` writes. The network isn't run: what its
+/// links carry follows from the offers and the history of admissions. The time grows with the input, the cycles, and
+/// the links by which the offers leave.
 ///
 /// # Errors
-/// With status 1 and the line of the first fault of the input: of its parts, of the domain, the streams, the script, the
-/// offers, or the background frames; and with status 3 for want of memory.
+/// With status 1 and the line of the first fault of the input: of its parts, the domain, the streams, the script, the
+/// offers, or the background frames. With status 3 if an allocation fails.
 pub fn report_output(
     rt: &(impl Threads + Sync),
     alloc: Global,

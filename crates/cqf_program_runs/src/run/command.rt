@@ -15,7 +15,7 @@ use cqf_program_scenario::{RunInput, book_of_outcome, outcome_of, read_given};
 use cqf_units::Memory;
 use std::alloc::Global;
 
-/// The output for a scenario.
+/// Returns the output for a scenario.
 fn output_of(alloc: Global, cycles: u32, given: RunInput) -> Result<RunOutput, Memory>
     requires short { cycles ≤ most_cycles }
     requires may { MayBeRun cycles (scenario_given given) }
@@ -33,12 +33,12 @@ fn output_of(alloc: Global, cycles: u32, given: RunInput) -> Result<RunOutput, M
     })
 }
 
-/// The output of `run` over so many cycles, 0 to 100,000, for an input that is read within some limits, ready to be told. All of the input
-/// is read before anything is admitted.
+/// Returns the output of `run` over `cycles` cycles, 0 to 100,000, for an input that is read within given limits, ready
+/// to be written. All of the input is read before anything is admitted.
 ///
 /// # Errors
-/// With status 1 and the line of the first fault of the input: of its parts, of the domain, the streams, the script, the
-/// offers, or the background frames; and with status 3 for want of memory.
+/// With status 1 and the line of the first fault of the input: of its parts, the domain, the streams, the script, the
+/// offers, or the background frames. With status 3 if an allocation fails.
 pub fn run_output(
     alloc: Global,
     limits: Limits,

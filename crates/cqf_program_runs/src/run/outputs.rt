@@ -1,4 +1,4 @@
-//! The output of `run`, before it is told.
+//! The output of `run`, before it is written.
 ghost use Rattle.std.specs.Prelude.{ℕ, List, codes, map};
 ghost use Rattle.cqf_admission.specs.Asking.{asked_paced};
 ghost use Rattle.cqf_admission.specs.Running.{AreThere};
@@ -17,11 +17,11 @@ use cqf_program_scenario::{ExactBook, RunInput};
 use cqf_report::put_log;
 use std::marker::Model;
 
-/// What the output of `run` is told from: a scenario with the log of its history and its book, and a sheet.
+/// The data of the output of `run`: a scenario with the log of its history and its book, and a sheet.
 #[derive(Drop)]
 pub struct RunOutput {
     pub(crate) given: RunInput,
-    /// The log's entries, over the scenario's own requests and script.
+    /// The log's entries, which refer to the scenario's own requests and script.
     pub(crate) entries: Vec<Logged>,
     pub(crate) book: ExactBook,
     pub(crate) sheet: Sheet,
@@ -47,7 +47,8 @@ fn put_parting<W: Sink>(press: &mut Press<'_, W>)
     press.put(b"%%\n");
 }
 
-/// Puts the text of the history that the log of a scenario stands for and of a book that is ready to be told, with a line `%%` between them.
+/// Puts the text of the history of a scenario's log and of a book that is ready to be written, separated by a line
+/// `%%`.
 fn put_run<W: Sink>(press: &mut Press<'_, W>, given: &RunInput, entries: &[Logged], book: ExactBook)
     requires { AreThere (map asked_paced given.now.requests.items) given.now.script.items entries.now }
     ensures { (of_parts : Contents) → AreExactParts book of_parts →
@@ -61,7 +62,8 @@ fn put_run<W: Sink>(press: &mut Press<'_, W>, given: &RunInput, entries: &[Logge
 }
 
 impl RunOutput {
-    /// Tells the output: the history of the scenario, a line `%%`, and the one-thread book of that history. It asks for no memory.
+    /// Writes the output: the history of the scenario, a line `%%`, and the one-thread book of that history. Allocates
+    /// no memory.
     pub fn tell<W: Sink>(self, told: &mut Told<W>)
         ensures { (text : List ℕ) → IsRunTold self text → HasTold (writing W.contents told.old told.new) text }
     {

@@ -1,4 +1,4 @@
--- What the command `hops` gives for its input.
+-- What the command `hops` returns for its input.
 use Rattle.cqf_model.specs.declared.limits.Limits.{Limits}
 use Rattle.std.specs.Prelude.{ℕ, ◌≡◌, List, Ok}
 use Rattle.cqf_model.specs.Book.{Contents}
@@ -10,7 +10,8 @@ use Rattle.cqf_program_summary.specs.Hops.Legs.{AreByFrame, Wanted, wanted_legs}
 use Rattle.cqf_program_summary.specs.Hops.Rounds.{IsToldText, ToldHops}
 use Rattle.cqf_program_summary.specs.Hops.Text.{text_of_legs}
 
--- the output is the text of what the one-thread book of the input's scenario tells of the wanted frames, by frame
+-- the output is the text of the wanted frames' starts and drops in the one-thread book of the input's scenario, by
+-- frame
 pub record IsHopsOutput (limits : Limits) (cycles : ℕ) (wanted : Wanted) (input output : List ℕ) : Type 0 where
   pub scenario : Scenario
   pub holds : wanted_scenario limits cycles wanted input ≡ Ok scenario
@@ -20,7 +21,7 @@ pub record IsHopsOutput (limits : Limits) (cycles : ℕ) (wanted : Wanted) (inpu
   pub are : AreByFrame (wanted_legs scenario.offers wanted book) legs
   pub written : output ≡ text_of_legs scenario.domain scenario.offers legs
 
--- an output tells of the wanted frames of a scenario: its text is that of what the book tells of them, by frame
+-- an output's text is that of the wanted frames' starts and drops in the book of a scenario, by frame
 pub record TellsHopsOf (cycles : ℕ) (s : Scenario) (wanted : Wanted) (told : ToldHops) : Type 0 where
   pub book : Contents
   pub is_book : IsBookOfScenario cycles s book

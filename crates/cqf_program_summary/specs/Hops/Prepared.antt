@@ -1,4 +1,4 @@
--- What the frames of a scenario are told from.
+-- What is prepared to write the frames of a scenario.
 use Rattle.std.specs.Prelude.{ℕ, ◌≡◌, ◌<◌, AllPairs, IsPermutation, List}
 use Rattle.cqf_model.specs.declared.frames.Dropped.{Dropped}
 use Rattle.cqf_model.specs.declared.frames.Offer.{Offer}
@@ -10,22 +10,22 @@ use Rattle.cqf_program_summary.specs.declared.hops.preparing.Prepared.{Prepared}
 use Rattle.cqf_program_summary.specs.Hops.Legs.{Wanted}
 use Rattle.cqf_program_summary.specs.Hops.Rounds.{CanBeTold, ToldHops, told_by}
 
--- there is the book of a scenario
+-- a scenario has a book
 abbrev pub SomeBook : ℕ → Scenario → Type 0
 SomeBook cycles s = (book : Contents) × IsBookOfScenario cycles s book
 
--- drops are those of a book, by frame
+-- the drops are those of a book, by frame
 pub record AreDropsByFrame (book : Contents) (drops : List Dropped) : Type 0 where
   pub same : IsPermutation book.drops drops
   pub rise : AllPairs (λ (a b : Dropped). a.frame < b.frame) drops
 
--- what is told of a domain and some offers from what was prepared
+-- an output from a domain, offers and what was prepared
 abbrev pub told_with : Domain → List Offer → Prepared → ToldHops
 told_with d offers prepared =
     told_by d (record { offers = offers; wanted = prepared.wanted; drops = prepared.drops.items }) prepared.rounds.items prepared.pass prepared.kept
     prepared.here
 
--- what was prepared is for the wanted frames of a scenario: by its book it can be told
+-- what was prepared is for the wanted frames of a scenario: it can be written by the scenario's book
 pub record IsPreparedFor (cycles : ℕ) (s : Scenario) (wanted : Wanted) (prepared : Prepared) : Type 0 where
   pub book : Contents
   pub is_book : IsBookOfScenario cycles s book

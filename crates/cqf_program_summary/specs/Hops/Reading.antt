@@ -11,25 +11,25 @@ use Rattle.cqf_program_scenario.specs.Parts.{RunTexts}
 use Rattle.cqf_program_summary.specs.Hops.Known.{paced_scenario, paced_scenario_of, wanted_scenario}
 use Rattle.cqf_program_summary.specs.Hops.Legs.{Wanted}
 
--- there is a line by which something is refused, and an end has it
+-- there is a refusal, and the stop has its line
 pub record EndsWithThat (refusal : Option (List ℕ)) (stop : Stop) : Type 0 where
   pub line : List ℕ
   pub is : refusal ≡ Some line
   pub ends : EndsWith 1 line stop
 
--- what a run is given is what some parts have, with the plant's streams, and may be run; what its orders name stands there
+-- the run's input is that of the parts, with the plan's streams, and it may be run; its orders refer to what is there
 pub record IsPacedIn (limits : Limits) (cycles : ℕ) (texts : RunTexts) (given : RunInput) : Type 0 where
   pub holds : paced_scenario_of limits cycles texts ≡ Ok (scenario_given given, map asked_paced given.requests.items)
   pub may : MayBeRun cycles (scenario_given given)
   pub stand : HasOrders given
 
--- it is what the input has
+-- it is that of the input
 pub record IsPacedGiven (limits : Limits) (cycles : ℕ) (input : List ℕ) (given : RunInput) : Type 0 where
   pub holds : paced_scenario limits cycles input ≡ Ok (scenario_given given, map asked_paced given.requests.items)
   pub may : MayBeRun cycles (scenario_given given)
   pub stand : HasOrders given
 
--- and has what is asked about
+-- and it has the wanted stream and frame
 pub record IsWantedGiven (limits : Limits) (cycles : ℕ) (wanted : Wanted) (input : List ℕ) (given : RunInput) : Type 0 where
   pub holds : wanted_scenario limits cycles wanted input ≡ Ok (scenario_given given)
   pub may : MayBeRun cycles (scenario_given given)

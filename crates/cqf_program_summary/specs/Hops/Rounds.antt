@@ -1,4 +1,4 @@
--- In which rounds frames are told, so that none but those under way are kept.
+-- The rounds in which frames are written, so that only those under way are kept.
 use Rattle.std.specs.Prelude.{ℕ, ◌≡◌, ◌≢◌, ◌+◌, ◌-◌, ◌≤◌, ◌<◌, ◌++◌, All, AllPairs, Contains, List, Some, suc, zero, drop, filter}
 use Rattle.std.specs.Prelude.{length, map, min, nat_le, nat_lt, slice_get, slice_index_or, take, vec_capacity}
 use Rattle.std.specs.Global.{Global}
@@ -19,7 +19,7 @@ use Rattle.cqf_program_summary.specs.Hops.Gathered.{IsLegInTime, kept_legs, want
 use Rattle.cqf_program_summary.specs.Hops.Legs.{AreApart, AreByFrame, IsBefore, Wanted, frame_of}
 use Rattle.cqf_program_summary.specs.Hops.Text.{lines_of_legs, text_of_legs}
 
--- of what is told: some offers, of whose frames some are wanted, and the drops by frame
+-- the source of the legs: offers, which of their frames are wanted, and the drops by frame
 pub record Source : Type 0 where
   pub offers : List Offer
   pub wanted : Wanted
@@ -28,25 +28,25 @@ pub record Source : Type 0 where
 abbrev pub source_of : HopsRun → Source
 source_of run = record { offers = run.offers.now; wanted = wanted_by run.choice; drops = run.drops.now }
 
--- what is told of some starts, and of some drops, where it is wanted
+-- the wanted legs of starts, and of drops
 abbrev pub started_legs : Source → List Started → List Leg
 started_legs source starts = kept_legs source.offers source.wanted (map leg.Started starts)
 
 abbrev pub dropped_legs : Source → List Dropped → List Leg
 dropped_legs source drops = kept_legs source.offers source.wanted (map leg.Dropped drops)
 
--- that of frames behind the first ones, and that of these
+-- the legs of frames after the first ones, and of the first ones
 abbrev pub legs_behind : ℕ → List Leg → List Leg
 legs_behind frames legs = filter (λ (x : Leg). nat_lt frames (frame_of x)) legs
 
 abbrev pub legs_up_to : ℕ → List Leg → List Leg
 legs_up_to frames legs = filter (λ (x : Leg). nat_le (frame_of x) frames) legs
 
--- all of a run whose starts these are
+-- all wanted legs of a run with these starts
 abbrev pub legs_of_run : Source → List Started → List Leg
 legs_of_run source starts = started_legs source starts ++ dropped_legs source source.drops
 
--- before the first round, and before the round at a place
+-- the round before all rounds, and the one before the round at an index
 abbrev pub no_round : Round
 no_round = record { cycles = 0; frames = 0; drops = 0 }
 
@@ -54,7 +54,7 @@ abbrev pub round_before : List Round → ℕ → Round
 round_before rounds zero = no_round
 round_before rounds (suc k) = slice_index_or rounds k no_round
 
--- what is kept in a round of the starts so far, and what is told in it
+-- the legs that are kept in a round of the starts so far, and those that are written in it
 abbrev pub kept_in : Source → Round → List Started → List Leg
 kept_in source before starts = legs_behind before.frames (started_legs source starts)
 
@@ -62,7 +62,8 @@ abbrev pub told_in : Source → Round → Round → List Started → List Leg
 told_in source before round starts =
     legs_up_to round.frames (kept_in source before starts) ++ dropped_legs source (take (round.drops - before.drops) (drop before.drops source.drops))
 
--- behind a round the drops are parted by frame, and each of the frames of which all is told is whole
+-- after a round the drops are divided by frame, and its cycles reach more than `depth` cycles past those of its frames'
+-- offers
 pub record GoesOnFrom (d : Domain) (depth : ℕ) (offers : List Offer) (drops : List Dropped) (round : Round) : Type 0 where
   pub frames_within : round.frames ≤ length offers
   pub drops_within : round.drops ≤ length drops
@@ -71,14 +72,14 @@ pub record GoesOnFrom (d : Domain) (depth : ℕ) (offers : List Offer) (drops : 
   pub dropped : (x : Dropped) → Contains (take round.drops drops) x → x.frame ≤ round.frames
   pub not_yet : (x : Dropped) → Contains (drop round.drops drops) x → round.frames < x.frame
 
--- so it is behind a round that goes on from the one before it
+-- a round follows another: it is no earlier, and after it the above holds
 pub record IsNextRound (d : Domain) (depth : ℕ) (offers : List Offer) (drops : List Dropped) (before round : Round) : Type 0 where
   pub cycles_later : before.cycles ≤ round.cycles
   pub frames_later : before.frames ≤ round.frames
   pub drops_later : before.drops ≤ round.drops
   pub goes_on : GoesOnFrom d depth offers drops round
 
--- each goes on from the one before it, and behind the last all is told
+-- each round follows the one before it, and after the last all frames are written
 pub record AreRounds (d : Domain) (depth : ℕ) (offers : List Offer) (drops : List Dropped) (rounds : List Round) : Type 0 where
   pub first : GoesOnFrom d depth offers drops no_round
   pub each : (k : ℕ) → k < length rounds → IsNextRound d depth offers drops (round_before rounds k) (slice_index_or rounds k no_round)
@@ -88,18 +89,18 @@ pub record AreRounds (d : Domain) (depth : ℕ) (offers : List Offer) (drops : L
 abbrev pub starts_before : ℕ → List Started → List Started
 starts_before cycles starts = filter (λ (s : Started). nat_lt s.cycle.0 cycles) starts
 
--- what is kept stands as the round says, in a run that has these starts
+-- what is kept is as the round requires, in a run with these starts
 pub record StandsAt (starts : List Started) (source : Source) (under_way : LegsUnderWay) : Type 0 where
   pub is : AreStartsOf under_way.pass.basis starts
   pub told : under_way.pass.told ≡ min under_way.at.cycles under_way.pass.basis.cycles
   pub kept : under_way.kept.items ≡ kept_in source under_way.at (starts_before under_way.at.cycles starts)
 
--- neither room is less than it was
+-- neither room has shrunk
 pub record KeepsRoom (old new : LegsUnderWay) : Type 0 where
   pub kept : vec_capacity old.kept ≤ vec_capacity new.kept
   pub here : vec_capacity old.here ≤ vec_capacity new.here
 
--- the starts of so many cycles are told, or of all, and what is kept of them is there
+-- the starts of the first `cycles` cycles, or of all, are returned, and the wanted ones are kept
 pub record TellsKept (source : Source) (cycles : ℕ) (old new : LegsUnderWay) : Type 0 where
   pub basis : new.pass.basis ≡ old.pass.basis
   pub told : new.pass.told ≡ min cycles new.pass.basis.cycles
@@ -107,12 +108,12 @@ pub record TellsKept (source : Source) (cycles : ℕ) (old new : LegsUnderWay) :
   pub here : new.here ≡ old.here
   pub kept : (starts : List Started) → StandsAt starts source old → new.kept.items ≡ kept_in source old.at (starts_before cycles starts)
 
--- there is room in a round for what is kept in it, and told
+-- a round has room for the legs that are kept in it, and for those that are written in it
 pub record HasRoom (starts : List Started) (source : Source) (before round : Round) (kept here : ℕ) : Type 0 where
   pub for_kept : length (kept_in source before (starts_before round.cycles starts)) ≤ kept
   pub for_here : length (told_in source before round (starts_before round.cycles starts)) ≤ here
 
--- a round is gone through: what is told in it is there
+-- a round was processed: the legs that are written in it are there
 pub record HasGone (starts : List Started) (source : Source) (round : Round) (old new : LegsUnderWay) : Type 0 where
   pub stands : StandsAt starts source new
   pub here : new.here.items ≡ told_in source old.at round (starts_before round.cycles starts)
@@ -129,7 +130,7 @@ pub record IsLater (before round : Round) : Type 0 where
   pub frames : before.frames ≤ round.frames
   pub drops : before.drops ≤ round.drops
 
--- a round can be told: there is room for it, and what is told in it is apart and in time
+-- a round can be written: there is room for it, and its legs differ and are in time
 pub record RoundCanBeTold (starts : List Started) (d : Domain) (source : Source) (round : Round) (under_way : LegsUnderWay) : Type 0 where
   pub stands : StandsAt starts source under_way
   pub room : HasRoom starts source under_way.at round (vec_capacity under_way.kept) (vec_capacity under_way.here)
@@ -139,7 +140,7 @@ pub record RoundCanBeTold (starts : List Started) (d : Domain) (source : Source)
 abbrev pub SomeRoundCanBeTold : Domain → Source → Round → LegsUnderWay → Type 0
 SomeRoundCanBeTold d source round under_way = (starts : List Started) × RoundCanBeTold starts d source round under_way
 
--- it is told in order
+-- it is written in order
 pub record TellsRound (starts : List Started) (d : Domain) (source : Source) (round : Round) (old new : LegsUnderWay) (IsPut : List ℕ → Type 0) : Type 0 where
   pub stands : StandsAt starts source new
   pub at : new.at ≡ round
@@ -148,12 +149,12 @@ pub record TellsRound (starts : List Started) (d : Domain) (source : Source) (ro
   pub are : AreByFrame (told_in source old.at round (starts_before round.cycles starts)) legs
   pub put : IsPut (lines_of_legs d source.offers legs)
 
--- there is room in each of some rounds
+-- there is room in each round
 abbrev pub HaveRoom : List Started → Source → List Round → ℕ → ℕ → Type 0
 HaveRoom starts source rounds kept here = (k : ℕ) → k < length rounds →
     HasRoom starts source (round_before rounds k) (slice_index_or rounds k no_round) kept here
 
--- what an output of `hops` is told from: with the room for what is kept in a round, and told
+-- the data of an output of `hops`, with the room for the legs that are kept and written in a round
 pub record ToldHops : Type 0 where
   pub domain : Domain
   pub source : Source
@@ -162,7 +163,7 @@ pub record ToldHops : Type 0 where
   pub kept_room : ℕ
   pub here_room : ℕ
 
--- it can be told, in a run that has these starts: in each round there is room, and all that is told of a run is in time and apart
+-- it can be written, in a run with these starts: each round has room, and all legs of a run are in time and differ
 pub record CanBeTold (starts : List Started) (told : ToldHops) : Type 0 where
   pub is : AreStartsOf told.pass.basis starts
   pub fresh : told.pass.told ≡ 0
@@ -181,7 +182,7 @@ pub record CanBeTold (starts : List Started) (told : ToldHops) : Type 0 where
 abbrev pub SomeCanBeTold : ToldHops → Type 0
 SomeCanBeTold told = (starts : List Started) × CanBeTold starts told
 
--- what is told from what was lent, and from what is owned
+-- an output from borrowed and from owned data
 abbrev pub told_by : Domain → Source → List Round → Progress → Vec Leg Global → Vec Leg Global → ToldHops
 told_by d source rounds pass kept here =
     record { domain = d; source = source; rounds = rounds; pass = pass; kept_room = vec_capacity kept; here_room = vec_capacity here }
@@ -189,7 +190,7 @@ told_by d source rounds pass kept here =
 abbrev pub told_from : Domain → HopsRun → List Round → LegsUnderWay → ToldHops
 told_from d run rounds under_way = told_by d (source_of run) rounds under_way.pass under_way.kept under_way.here
 
--- what is told of it, in order
+-- its legs, in order
 pub record AreToldLegs (starts : List Started) (told : ToldHops) (legs : List Leg) : Type 0 where
   pub in_order : AllPairs IsBefore legs
   pub each : (x : Leg) → Contains (legs_of_run told.source starts) x → Contains legs x

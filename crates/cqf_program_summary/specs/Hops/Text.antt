@@ -1,4 +1,4 @@
--- The text of what a book tells of frames.
+-- The text of frames' starts and drops.
 use Rattle.std.specs.Prelude.{ℕ, ◌++◌, List, [], ◌∷◌, codes, decimal}
 use Rattle.std.specs.List.{flat_map}
 use Rattle.cqf_units.specs.Timing.{ending_of}
@@ -24,13 +24,14 @@ hops_header =
 abbrev pub end_of_start : Domain → Started → ℕ
 end_of_start d s = ending_of s.start.0 s.octets (octet_time_of d s.link)
 
--- the fields of a start: its link by the names of its ends, the instants at which the frame starts, has left and is whole at the link's end
+-- the fields of a start: its link by the names of its ends, and the instants at which the frame starts, has left, and
+-- is whole at the link's end
 abbrev pub started_fields : Domain → List ℕ → Started → Fields
 started_fields d stream s =
     decimal s.frame ∷ stream ∷ decimal s.octets ∷ decimal s.cycle.0 ∷ name_of_link d s.link
     ∷ decimal s.start.0 ∷ decimal (end_of_start d s) ∷ decimal (whole_of d s) ∷ [] ∷ []
 
--- those of a drop: its bridge, no instants, and the reason
+-- the fields of a drop: its bridge, no instants, and the reason
 abbrev pub dropped_fields : Domain → List ℕ → Dropped → Fields
 dropped_fields d stream x =
     decimal x.frame ∷ stream ∷ decimal x.octets ∷ decimal x.cycle.0 ∷ name_of_bridge d x.bridge ∷ [] ∷ [] ∷ [] ∷ name_of_reason x.reason ∷ []
@@ -39,7 +40,7 @@ abbrev pub leg_fields : Domain → List Offer → Leg → Fields
 leg_fields d offers (leg.Started started) = started_fields d (stream_of offers started.frame) started
 leg_fields d offers (leg.Dropped dropped) = dropped_fields d (stream_of offers dropped.frame) dropped
 
--- one line each, in their order
+-- one line for each, in order
 abbrev pub lines_of_legs : Domain → List Offer → List Leg → List ℕ
 lines_of_legs d offers legs = flat_map (λ (x : Leg). line_of_fields (leg_fields d offers x)) legs
 

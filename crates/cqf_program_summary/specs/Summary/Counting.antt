@@ -1,4 +1,4 @@
--- What is counted, step by step.
+-- Counts, step by step.
 use Rattle.std.specs.Prelude.{ℕ, ◌≡◌, ◌+◌, ◌*◌, ◌≤◌, ◌^◌, ⊤, All, AllPairs, Bool, true, false, List, [], ◌∷◌, Option, Some, None, count_by, fold, if◌then◌else◌, map, max, min, position, slice_get, suc, zero}
 use Rattle.cqf_units.specs.declared.timing.Nanos.{Nanos}
 use Rattle.cqf_model.specs.Domain.{is_text}
@@ -36,12 +36,12 @@ counted (fate.Dropped reason) t = t
 abbrev pub tally_with : Fate → ℕ → Option Nanos → Tally → Tally
 tally_with ending at whole t = let now = counted ending t in record now { taken = taken_with at whole now.taken }
 
--- whether a way leads to the listener of a name
+-- whether a path leads to the listener with a name
 abbrev pub leads_to : List ℕ → Option Listener → Bool
 leads_to name None = false
 leads_to name (Some listener) = is_text name listener.name
 
--- a way with one frame more that is on a journey
+-- a path with one frame more that is on a journey
 abbrev pub way_with : Fate → ℕ → Journey → ListenerWay → ListenerWay
 way_with ending at journey way =
     if leads_to journey.listener way.to then record way { tally = tally_with ending at journey.whole way.tally } else way
@@ -50,7 +50,7 @@ abbrev pub ways_with : Fate → ℕ → Passage → List ListenerWay → List Li
 ways_with ending at (passage.Dropped reason) ways = ways
 ways_with ending at (passage.Goes journey) ways = map (way_with ending at journey) ways
 
--- the place of a way to the listener of a name: an expected one, where that leads there, and else the first
+-- the index of a path to the listener with a name: the expected one, if it leads there; otherwise the first
 abbrev pub leads_there : List ℕ → Option ListenerWay → Bool
 leads_there name None = false
 leads_there name (Some way) = leads_to name way.to
@@ -59,7 +59,7 @@ abbrev pub place_by : List ListenerWay → ℕ → List ℕ → Option ℕ
 place_by ways expected name =
     if leads_there name (slice_get ways expected) then Some expected else position (λ (way : ListenerWay). leads_to name way.to) ways
 
--- what is told of a stream, with one delivery more of a frame of it, with those of an offer, and with an offer
+-- the summary of a stream with one delivery more of its frames, with those of an offer, and with an offer
 abbrev pub fare_with : Fare → Delivery → Fare
 fare_with fare x = record fare {
   dropped = fare.dropped + (if is_dropped (fate_of x) then 1 else 0);
@@ -78,13 +78,13 @@ others_with here others = record {
   dropped = others.dropped + count_by (λ (x : Delivery). is_dropped (fate_of x)) here;
 }
 
--- a list with the element at a place changed
+-- a list with the element at an index changed
 abbrev pub changed_at : {A : Type 0} → (A → A) → ℕ → List A → List A
 changed_at change place [] = []
 changed_at change zero (x ∷ xs) = change x ∷ xs
 changed_at change (suc place) (x ∷ xs) = x ∷ changed_at change place xs
 
--- a summary with an offer more of a name: that of its stream, or else of those of other names
+-- a summary with one offer more of a name: it is added to the stream with that name, or else to the other names
 abbrev pub summary_at : List Delivery → Option ℕ → Summary → Summary
 summary_at here None summary = record summary { others = others_with here summary.others }
 summary_at here (Some place) summary = record summary { fares = changed_at (fare_with_offer here) place summary.fares }
@@ -92,11 +92,11 @@ summary_at here (Some place) summary = record summary { fares = changed_at (fare
 abbrev pub summary_with : List ℕ → List Delivery → Summary → Summary
 summary_with name here summary = summary_at here (position (λ (fare : Fare). is_text fare.name name) summary.fares) summary
 
--- no two ways lead to one listener
+-- no two paths lead to one listener
 abbrev pub AreApart : List ListenerWay → Type 0
 AreApart ways = AllPairs (λ (a b : ListenerWay). (name : List ℕ) → leads_to name a.to ≡ true → leads_to name b.to ≡ true → ⊥) ways
 
--- no more is counted than so many deliveries could have, each of them below 2 ^ 64 ns
+-- no count exceeds what `many` deliveries allow, each of them with a latency below 2 ^ 64 ns
 abbrev pub TakenWithin : ℕ → Option LatencySummary → Type 0
 TakenWithin many None = ⊤
 TakenWithin many (Some t) = (t.behind + 1 ≤ many) × (t.total ≤ many * 2 ^ 64)

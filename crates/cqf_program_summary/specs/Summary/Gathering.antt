@@ -1,4 +1,4 @@
--- A summary of a run that is over, and of a scenario that was read.
+-- The summary of a run that is over, and of a scenario that was read.
 use Rattle.std.specs.Prelude.{ℕ, ◌≡◌, ◌*◌, List, [], Option, take}
 use Rattle.cqf_model.specs.Book.{Contents}
 use Rattle.cqf_model.specs.History.{Asked}
@@ -14,29 +14,29 @@ use Rattle.cqf_program_summary.specs.Summary.Counting.{SummaryWithin}
 use Rattle.cqf_program_summary.specs.Summary.{Summary, offers_within, summary_by, summary_of}
 use Rattle.cqf_program_summary.specs.Summary.Told.{told_streams}
 
--- by the offers of a run that is over up to a place, of any streams and deadlines by which the summary began
+-- the summary by the offers of a run up to an index, for any streams and deadlines with which the summary began
 abbrev pub IsSummaryOfFirst : Over → ℕ → Summary → Summary → Type 0
 IsSummaryOfFirst over place before after = (streams : List Asked) (due : List ℕ → Option ℕ) → before ≡ summary_by over.domain (told_streams streams) due [] [] →
     after ≡ summary_by over.domain (told_streams streams) due (offers_within over.domain over.cycles (take place (numbered over.offers)))
     (deliveries_among over (take place (numbered over.offers)))
 
--- so far, and no more is counted than these offers could have, 200 deliveries each and itself
+-- so far, and no count exceeds what these offers allow: 200 deliveries each, and the offer itself
 pub record IsSummarySoFar (over : Over) (place : ℕ) (before after : Summary) : Type 0 where
   pub is : IsSummaryOfFirst over place before after
   pub within : SummaryWithin (201 * place) after
 
--- and by all
+-- the summary by all offers
 abbrev pub IsSummaryOver : Over → Summary → Summary → Type 0
 IsSummaryOver over before after = (streams : List Asked) (due : List ℕ → Option ℕ) → before ≡ summary_by over.domain (told_streams streams) due [] [] →
     after ≡ summary_by over.domain (told_streams streams) due (offers_within over.domain over.cycles (numbered over.offers)) (deliveries_over over)
 
--- it is that by the one-thread book of a scenario
+-- it is the summary by the one-thread book of a scenario
 pub record IsSummaryBy (cycles : ℕ) (planned : PlannedGiven) (streams : List PlannedText) (summary : Summary) : Type 0 where
   pub book : Contents
   pub is_book : IsBookOfScenario cycles (scenario_given planned.given) book
   pub is : summary ≡ summary_of (run_of_scenario cycles (scenario_given planned.given)) streams book
 
--- for whatever streams the requests and the deadlines are those of
+-- this holds for any streams with these requests and deadlines
 abbrev pub IsSummaryOf : ℕ → PlannedGiven → Summary → Type 0
 IsSummaryOf cycles planned summary = (streams : List PlannedText) → ArePlannedBeside streams planned.given.requests.items planned.deadlines.items →
     IsSummaryBy cycles planned streams summary

@@ -1,4 +1,4 @@
--- The streams of which is told, as they are listed.
+-- The streams of a summary, in a list.
 use Rattle.std.specs.Prelude.{ℕ, ◌≡◌, ◌*◌, ◌++◌, ◌∷◌, ◌≤◌, ◌<◌, ◌^◌, ⊤, List, [], Option, Some, None, filter, fold, if◌then◌else◌, length, map, max}
 use Rattle.cqf_lists.specs.Lists.{each_below}
 use Rattle.cqf_units.specs.Timing.{cost_of}
@@ -15,17 +15,17 @@ use Rattle.cqf_program_summary.specs.declared.summary.listing.SummaryListing.{Su
 use Rattle.cqf_program_summary.specs.Summary.{Fare, ways_of}
 use Rattle.cqf_program_summary.specs.Summary.Told.{is_good, row_of_stream, told_streams}
 
--- the most that costs by link and cycle say of a link in a cycle in which the frames of a row's stream go by it
+-- the greatest of the costs of a link over the cycles in which the frames of a row's stream pass it
 abbrev pub cost_beside : Turned → Option Row → ℕ → ℕ
 cost_beside costs None l = 0
 cost_beside costs (Some row) l =
     fold max 0 (each_below (λ cycle. if uses row.tree.items row.pace l cycle then sum_on costs l cycle ∷ [] else []) most_every)
 
--- they are bounded, as those of fewer than 2^29 streams are
+-- the costs are at most those of 2^29 streams
 abbrev pub AreBounded : Turned → Type 0
 AreBounded costs = (l cycle : ℕ) → l < most_links → sum_on costs l cycle ≤ 2 ^ 29 * 2000000
 
--- a stream that has a row costs that, and another nothing
+-- a stream with a row costs what the row costs, and another nothing
 abbrev pub CostsWith : Turned → Option Row → Turned → Type 0
 CostsWith before None after = after ≡ before
 CostsWith before (Some row) after = AreMoreIn before row.tree.items row.pace (cost_of row.octets) after
@@ -42,7 +42,7 @@ listed_of d asked = record { name = asked.name; row = row_of_stream d asked }
 abbrev pub IsOfStream : Domain → ListedStream → Type 0
 IsOfStream d listed = (asked : Asked) × (listed ≡ listed_of d asked)
 
--- what is told of it before anything is offered
+-- its summary before anything is offered
 abbrev pub fare_from : Domain → (ℕ → ℕ) → Option ℕ → ListedStream → Fare
 fare_from d cost deadline listed =
     record { name = listed.name; deadline = deadline; offered = 0; dropped = 0; ways = ways_of d cost [] listed.row }
@@ -50,17 +50,17 @@ fare_from d cost deadline listed =
 abbrev pub fare_named : Domain → Turned → (List ℕ → Option ℕ) → ListedStream → Fare
 fare_named d costs due listed = fare_from d (cost_beside costs listed.row) (due listed.name) listed
 
--- a listing with a stream more
+-- a listing with one stream more
 pub record ListsOne (before : SummaryListing) (name : List ℕ) (row : Option Row) (after : SummaryListing) : Type 0 where
   pub names : after.names.keys ≡ before.names.keys ++ name ∷ []
   pub streams : after.streams.items ≡ before.streams.items ++ record { name = name; row = row } ∷ []
   pub costs : CostsWith before.costs row after.costs
 
--- what the good ones of some streams cost of a link in a cycle
+-- what the good streams cost of a link in a cycle
 abbrev pub cost_of_good : Domain → List Asked → ℕ → ℕ → ℕ
 cost_of_good d told l cycle = cost_of_all d (filter (is_good d) told) l cycle
 
--- what is listed is told of some streams: their names, their rows, and what they cost of each link in each cycle
+-- the listing is that of these streams: their names, their rows, and what they cost of each link in each cycle
 pub record IsListing (d : Domain) (streams : List Asked) (listing : SummaryListing) : Type 0 where
   pub names : listing.names.keys ≡ map (λ (asked : Asked). asked.name) (told_streams streams)
   pub are : listing.streams.items ≡ map (listed_of d) (told_streams streams)

@@ -1,4 +1,4 @@
--- What the command `summary` gives for its input.
+-- What the command `summary` returns for its input.
 use Rattle.cqf_model.specs.declared.limits.Limits.{Limits}
 use Rattle.std.specs.Prelude.{ℕ, ◌≡◌, List, Ok}
 use Rattle.cqf_model.specs.Book.{Contents}

@@ -19,14 +19,14 @@ summary_header =
     codes "stream" ∷ codes "listener" ∷ codes "offered" ∷ codes "delivered" ∷ codes "late" ∷ codes "dropped" ∷ codes "under-way" ∷ codes "least"
     ∷ codes "mean" ∷ codes "most" ∷ codes "bound" ∷ codes "deadline" ∷ []
 
--- a listener's name and its bound: nothing where there is none
+-- a listener's name and its bound; empty if there is none
 abbrev pub text_of_listener : Option Listener → List ℕ
 text_of_listener to = option_map_or (λ (listener : Listener). listener.name) to []
 
 abbrev pub text_of_bound : Option Listener → List ℕ
 text_of_bound to = option_map_or (λ (listener : Listener). decimal listener.bound) to []
 
--- the least, the mean and the most of what the frames took that came: nothing where none did
+-- the least, the mean and the greatest of the latencies of the frames that arrived; empty if none did
 abbrev pub text_of_least : Option LatencySummary → List ℕ
 text_of_least taken = option_map_or (λ (t : LatencySummary). decimal t.least) taken []
 
@@ -36,12 +36,12 @@ text_of_mean taken = option_map_or (λ (t : LatencySummary). decimal (mean_of t)
 abbrev pub text_of_most : Option LatencySummary → List ℕ
 text_of_most taken = option_map_or (λ (t : LatencySummary). decimal t.most) taken []
 
--- the last fields of a row: what those frames took that came, the bound, and the deadline
+-- the last fields of a row: the latencies of the frames that arrived, the bound, and the deadline
 abbrev pub last_fields : Option Listener → Option LatencySummary → Option ℕ → Fields
 last_fields to taken deadline =
     text_of_least taken ∷ text_of_mean taken ∷ text_of_most taken ∷ text_of_bound to ∷ text_of_deadline deadline ∷ []
 
--- those behind its listener: how many frames are offered, how they end, and the last ones
+-- the fields after its listener: how many frames are offered, how they end, and the last ones
 abbrev pub count_fields : Option Listener → ℕ → ℕ → Tally → Option ℕ → Fields
 count_fields to offered dropped tally deadline =
     decimal offered ∷ decimal tally.delivered ∷ decimal tally.late ∷ decimal dropped ∷ decimal tally.under_way ∷ last_fields to tally.taken deadline
@@ -59,11 +59,11 @@ lines_of_fare fare = flat_map (λ (way : ListenerWay). line_of_fields (way_field
 abbrev pub lines_of_fares : List Fare → List ℕ
 lines_of_fares fares = flat_map lines_of_fare fares
 
--- the row of offers that claim other names: none of them goes to a listener
+-- the row of offers that claim other names; none of them goes to a listener
 abbrev pub others_fields : Others → Fields
 others_fields others = row_fields (codes "?") None others.offered others.dropped no_tally None
 
--- which stands where there are any
+-- this row is written if there are such offers
 abbrev pub lines_where : ℕ → Others → List ℕ
 lines_where zero others = []
 lines_where (suc n) others = line_of_fields (others_fields others)
@@ -71,6 +71,6 @@ lines_where (suc n) others = line_of_fields (others_fields others)
 abbrev pub lines_of_others : Others → List ℕ
 lines_of_others others = lines_where others.offered others
 
--- the text: the header, a row a stream and listener, and that of other names
+-- the text: the header, a row for each stream and listener, and that of other names
 abbrev pub text_of_summary : Summary → List ℕ
 text_of_summary summary = line_of_fields summary_header ++ (lines_of_fares summary.fares ++ lines_of_others summary.others)

@@ -1,4 +1,4 @@
--- The streams of which a summary tells, and what they cost.
+-- The streams of a summary, and their costs.
 use Rattle.std.specs.Prelude.{ℕ, Bool, List, Option, Some, None, filter, is_none, not}
 use Rattle.std.specs.List.{list_any}
 use Rattle.cqf_lists.specs.Lists.{each_once}
@@ -11,19 +11,19 @@ use Rattle.cqf_laws_history.specs.StateLaws.{granted_row}
 use Rattle.cqf_laws_timing.specs.Streams.{most_beside_all}
 use Rattle.cqf_admission.specs.Judging.{form_refusal}
 
--- those whose name is a name, of each name the first
+-- the streams whose name has the form of a name; of each name the first
 abbrev pub told_streams : List Asked → List Asked
 told_streams streams = each_once (λ (a b : Asked). is_text a.name b.name) (filter (λ (asked : Asked). is_name asked.name) streams)
 
--- whether a name is that of none of them
+-- whether none of them has a name
 abbrev pub is_other : List Asked → List ℕ → Bool
 is_other told name = not (list_any (λ (asked : Asked). is_text asked.name name) told)
 
--- whether a stream's octets, pace and path are good as well
+-- whether a stream's octets, pace and path are good too
 abbrev pub is_good : Domain → Asked → Bool
 is_good d asked = is_none (form_refusal d asked)
 
--- its row then, as if it were the first of all and live from cycle 0 on
+-- its row in that case, as if it were the first of all and live from cycle 0 on
 abbrev pub row_unless : Domain → Asked → Option Refused → Option Row
 row_unless d asked None = Some (granted_row d 0 0 asked)
 row_unless d asked (Some refused) = None
@@ -31,7 +31,7 @@ row_unless d asked (Some refused) = None
 abbrev pub row_of_stream : Domain → Asked → Option Row
 row_of_stream d asked = row_unless d asked (form_refusal d asked)
 
--- the most that the good ones cost of a link together in a cycle in which a stream's frames go by it, in octets, whether or not
--- they fit
+-- the greatest cost of a link, in octets, that all good streams have together in a cycle in which a stream's frames
+-- pass it, whether or not they fit
 abbrev pub told_cost : Domain → List Asked → Asked → ℕ → ℕ
 told_cost d told asked link = most_beside_all d (filter (is_good d) told) asked link

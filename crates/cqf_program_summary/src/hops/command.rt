@@ -19,7 +19,7 @@ use cqf_program_scenario::{RunInput, outcome_of};
 use cqf_units::Memory;
 use std::alloc::Global;
 
-/// The output for a scenario.
+/// Returns the output for a scenario.
 fn output_of(
     alloc: Global,
     cycles: u32,
@@ -43,13 +43,15 @@ fn output_of(
     })
 }
 
-/// The output of `hops` over so many cycles, 0 to 100,000, for an input that is read within some limits, ready to be told: each start and
-/// each drop of the wanted frames in the book of the input's scenario, by frame, then instant, then link.
+/// Returns the output of `hops` over `cycles` cycles, 0 to 100,000, for an input that is read within given limits,
+/// ready to be written: each start and each drop of the wanted frames in the book of the input's scenario, by frame,
+/// then instant, then link.
 ///
 /// # Errors
-/// With status 1 and the line of the first fault of the input: of its parts, of the domain, the streams, the script, the
-/// offers, or the background frames; else, where a stream is asked about that neither the plant nor an offer names, or a frame whose number
-/// no offer has, with the line that tells so; and with status 3 for want of memory.
+/// With status 1 and the line of the first fault of the input: of its parts, the domain, the streams, the script, the
+/// offers, or the background frames. If there is none, with status 1 and a line about a requested stream that neither
+/// the plan nor an offer names, or about a requested frame whose number no offer has. With status 3 if an allocation
+/// fails.
 pub fn hops_output(
     alloc: Global,
     limits: Limits,

@@ -1,4 +1,4 @@
-//! Whether there is what is asked about.
+//! Whether the requested stream and frame exist.
 ghost use Rattle.std.specs.Prelude.{◌≡◌, None, IfErr, IfOk, bytes_eq, map, option_map, string_bytes};
 ghost use Rattle.std.specs.List.{list_any};
 ghost use Rattle.cqf_admission.specs.Asking.{asked_paced};
@@ -21,22 +21,22 @@ fn has_request(requests: &[PacedRequest], name: &str) -> bool
     requests.iter().any(|request| request.name.as_str() == name)
 }
 
-/// Whether a stream of the plant has it.
+/// Whether a stream of the plan has a name.
 fn is_planned(requests: &[PacedRequest], name: &str) -> bool
     ensures { result ≡ is_planned (map asked_paced requests.now) name.now }
 {
     has_request(requests, name)
 }
 
-/// Whether an offer claims it.
+/// Whether an offer claims a name.
 fn is_claimed(offers: &[Offer], name: &str) -> bool
     ensures { result ≡ is_claimed offers.now name.now }
 {
     offers.iter().any(|offer| offer.stream.as_str() == name)
 }
 
-/// The line that tells of a stream that isn't there, with its name where it has the form of one: else it may be as long as a word, and hold
-/// what moves a terminal.
+/// Returns the line about a stream that doesn't exist. It shows the name only if this has the form of a name: otherwise
+/// it may be as long as any word, and contain what controls a terminal.
 fn unknown_stream_line(alloc: Global, name: &str) -> Result<String, AllocError>
     ensures { IfOk result (λ line. string_bytes line ≡ unknown_stream_line name.now) }
 {
@@ -52,7 +52,7 @@ fn unknown_stream_line(alloc: Global, name: &str) -> Result<String, AllocError>
     }
 }
 
-/// The line that tells of a frame that isn't there.
+/// Returns the line about a frame that doesn't exist.
 fn no_frame_line(alloc: Global, frame: u32) -> Result<String, AllocError>
     ensures { IfOk result (λ line. string_bytes line ≡ no_frame_line frame) }
 {
@@ -60,7 +60,7 @@ fn no_frame_line(alloc: Global, frame: u32) -> Result<String, AllocError>
     Ok(line)
 }
 
-/// Nothing where a stream that is asked about is there, and else the end with the line that tells so.
+/// Checks that the requested stream exists. Otherwise returns the stop with the line that says so.
 fn know_stream(
     alloc: Global,
     requests: &[PacedRequest],
@@ -81,7 +81,7 @@ fn know_stream(
     Err(Stop::with_text(alloc, REFUSED, line))
 }
 
-/// The same of a frame.
+/// Checks the same for a frame.
 fn know_frame(alloc: Global, offers: &[Offer], frame: Option<u32>) -> Result<(), Stop>
     ensures ok { IfOk result (λ _. frame_refusal offers.now frame ≡ None) }
     ensures err { IfErr result (EndsWithThat (frame_refusal offers.now frame)) }
@@ -95,7 +95,7 @@ fn know_frame(alloc: Global, offers: &[Offer], frame: Option<u32>) -> Result<(),
     Err(Stop::with_text(alloc, REFUSED, no_frame_line(alloc, frame)))
 }
 
-/// The same of both: of the stream first.
+/// Checks both, the stream first.
 pub(crate) fn know(
     alloc: Global,
     requests: &[PacedRequest],

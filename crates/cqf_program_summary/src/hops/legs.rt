@@ -1,19 +1,20 @@
-//! What a book tells of a frame.
+//! A start or a drop of a frame in a book.
 ghost use Rattle.std.specs.Prelude.{◌≡◌, AllPairs, vec_capacity};
 ghost use Rattle.cqf_program_summary.specs.Hops.Legs.{AreApart, AreByFrame, frame_of, instant_of, link_of};
 
 use cqf_model::{Dropped, Started};
 
-/// What a book tells of a stream's frame.
+/// A start or a drop of a stream's frame in a book.
 #[derive(Clone, Copy, Debug, PartialEq, Eq)]
 pub enum Leg {
     /// It starts on a link.
     Started(Started),
-    /// It is dropped at its edge.
+    /// It is dropped at its edge bridge.
     Dropped(Dropped),
 }
 
-/// By what legs are put in order: the frame, the instant of its start, and the link. A drop has neither of the last two.
+/// Returns the key by which legs are sorted: the frame, the instant of its start, and the link. For a drop, the last
+/// two are 0.
 fn key_of(leg: &Leg) -> (u32, u64, u16)
     ensures { result ≡ (frame_of leg.now, instant_of leg.now, link_of leg.now) }
 {
@@ -24,7 +25,7 @@ fn key_of(leg: &Leg) -> (u32, u64, u16)
 }
 
 impl Leg {
-    /// The number of the frame.
+    /// Returns the number of the frame.
     pub(crate) fn frame(&self) -> u32
         ensures { result ≡ frame_of self.now }
     {
@@ -35,7 +36,8 @@ impl Leg {
     }
 }
 
-/// Puts legs in order, of which no two tell of one frame at one instant on one link: by frame, then instant, then link. It takes no memory.
+/// Sorts legs by frame, then instant, then link. No two are of one frame at one instant on one link. Allocates no
+/// memory.
 pub(crate) fn sort_legs(legs: &mut Vec<Leg>)
     requires { AllPairs AreApart legs.old.items }
     ensures order { AreByFrame legs.old.items legs.new.items }

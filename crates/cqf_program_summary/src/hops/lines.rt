@@ -1,4 +1,4 @@
-//! What a book tells of frames, told line by line.
+//! The starts and drops of frames, written line by line.
 ghost use Rattle.std.specs.Prelude.{◌≡◌, ◌≤◌, ◌<◌, ◌^◌, ◌∷◌, [], All, List, length, min};
 ghost use Rattle.cqf_model.specs.declared.frames.Started.{Started as AStart};
 ghost use Rattle.cqf_instants.specs.Progress.{AreStartsOf};
@@ -23,7 +23,7 @@ use cqf_report::reason_name;
 use cqf_topology::{Domain, put_bridge, put_link};
 use cqf_units::{octet_ticks, time_in_ticks};
 
-/// A link's octet time. A link that the domain lacks has none.
+/// Returns a link's octet time; 0 for a link that the domain lacks.
 fn octet_time_of(domain: &Domain, link: u16) -> u64
     ensures value { result ≡ octet_time_of domain.now link }
 {
@@ -33,7 +33,7 @@ fn octet_time_of(domain: &Domain, link: u16) -> u64
     octet_ticks(domain.link(link).rate)
 }
 
-/// A link's delay. A link that the domain lacks has none.
+/// Returns a link's delay; 0 for a link that the domain lacks.
 fn delay_of(domain: &Domain, link: u16) -> u64
     ensures { result ≡ delay_of domain.now link }
 {
@@ -43,7 +43,7 @@ fn delay_of(domain: &Domain, link: u16) -> u64
     u64::from(domain.link(link).delay)
 }
 
-/// The instant at which a frame that starts has left the bridge.
+/// Returns the instant at which a frame that starts has left the bridge.
 fn end_of(domain: &Domain, started: &Started) -> u64
     requires { whole_of domain.now started.now < 2 ^ 64 }
     ensures { result ≡ end_of_start domain.now started.now }
@@ -52,7 +52,7 @@ fn end_of(domain: &Domain, started: &Started) -> u64
     started.start.0 + time_in_ticks(octets, octet_time_of(domain, started.link))
 }
 
-/// The instant at which it is whole at the link's end.
+/// Returns the instant at which it is whole at the link's end.
 fn whole_of(domain: &Domain, started: &Started) -> u64
     requires { whole_of domain.now started.now < 2 ^ 64 }
     ensures { result ≡ whole_of domain.now started.now }
@@ -60,7 +60,7 @@ fn whole_of(domain: &Domain, started: &Started) -> u64
     end_of(domain, started) + delay_of(domain, started.link)
 }
 
-/// Puts the line of a start of a frame of a stream.
+/// Puts the line of a start of a stream's frame.
 fn put_started<W: Sink>(press: &mut Press<'_, W>, domain: &Domain, stream: &str, started: &Started)
     requires { whole_of domain.now started.now < 2 ^ 64 }
     ensures { Puts W.contents press.old press.new (line_of_fields (started_fields domain.now stream.now started.now)) }
@@ -84,7 +84,7 @@ fn put_started<W: Sink>(press: &mut Press<'_, W>, domain: &Domain, stream: &str,
     press.put_byte(b'\n');
 }
 
-/// Puts the fields of a drop behind its bridge.
+/// Puts the fields of a drop after its bridge.
 fn put_reason<W: Sink>(press: &mut Press<'_, W>, reason: &[u8])
     ensures { Puts W.contents press.old press.new (line_of_fields ([] ∷ [] ∷ [] ∷ reason.now ∷ [])) }
 {
@@ -93,7 +93,7 @@ fn put_reason<W: Sink>(press: &mut Press<'_, W>, reason: &[u8])
     press.put_byte(b'\n');
 }
 
-/// Puts the line of a drop of a frame of a stream.
+/// Puts the line of a drop of a stream's frame.
 fn put_dropped<W: Sink>(press: &mut Press<'_, W>, domain: &Domain, stream: &str, dropped: &Dropped)
     ensures { Puts W.contents press.old press.new (line_of_fields (dropped_fields domain.now stream.now dropped.now)) }
 {
@@ -111,7 +111,7 @@ fn put_dropped<W: Sink>(press: &mut Press<'_, W>, domain: &Domain, stream: &str,
     put_reason(press, reason.as_bytes());
 }
 
-/// Puts the line of what is told of one of the offers' frames.
+/// Puts the line of a start or a drop of one of the offers' frames.
 fn put_leg<W: Sink>(press: &mut Press<'_, W>, domain: &Domain, offers: &[Offer], leg: &Leg)
     requires { IsLegInTime domain.now leg.now }
     ensures { Puts W.contents press.old press.new (line_of_fields (leg_fields domain.now offers.now leg.now)) }
@@ -143,7 +143,7 @@ fn put_each<W: Sink>(press: &mut Press<'_, W>, domain: &Domain, offers: &[Offer]
     }
 }
 
-/// Puts what is told of frames in a round, in order.
+/// Puts the legs of a round, in order.
 fn put_round<W: Sink>(
     press: &mut Press<'_, W>,
     domain: &Domain,
@@ -166,7 +166,7 @@ fn put_round<W: Sink>(
     put_each(press, domain, run.offers, under_way.here.as_slice());
 }
 
-/// Puts the text of what is told of frames, round by round.
+/// Puts the text of frames' starts and drops, round by round.
 pub(crate) fn put_rounds<W: Sink>(
     press: &mut Press<'_, W>,
     domain: &Domain,

@@ -1,4 +1,4 @@
-//! The output of `hops`, before it is told.
+//! The output of `hops`, before it is written.
 ghost use Rattle.std.specs.Prelude.{ℕ, List};
 ghost use Rattle.cqf_press.specs.Edge.{HasTold, writing};
 ghost use Rattle.cqf_program_summary.specs.Hops.Rounds.{IsToldText};
@@ -11,7 +11,7 @@ use cqf_press::{Press, Sheet, Sink, Told};
 use cqf_topology::Domain;
 use std::marker::Model;
 
-/// What the output of `hops` is told from: a domain, the offers, what was prepared for their frames, and a sheet.
+/// The data of the output of `hops`: a domain, the offers, what was prepared for their frames, and a sheet.
 #[derive(Drop)]
 pub struct HopsOutput {
     pub(crate) domain: Domain,
@@ -32,7 +32,7 @@ impl Model for HopsOutput {
 }
 
 impl HopsOutput {
-    /// Tells the output: what a book tells of frames, in its order. It asks for no memory.
+    /// Writes the output: the starts and drops of frames, in order. Allocates no memory.
     pub fn tell<W: Sink>(self, told: &mut Told<W>)
         ensures { (text : List ℕ) → IsToldText self text → HasTold (writing W.contents told.old told.new) text }
     {

@@ -1,4 +1,4 @@
-//! What the frames of a scenario are told from.
+//! What is prepared to write the frames of a scenario.
 ghost use Rattle.std.specs.Prelude.{◌≡◌, ◌≢◌, ◌≤◌, ◌<◌, AllPairs, IfOk, IsPermutation, List, vec_capacity};
 ghost use Rattle.cqf_instants.specs.Progress.{AreStartsOf};
 ghost use Rattle.cqf_model.specs.declared.frames.Dropped.{Dropped as ADropped};
@@ -28,8 +28,8 @@ use cqf_topology::Domain;
 use cqf_units::Memory;
 use std::alloc::Global;
 
-/// What frames are told from, beside a domain and the offers: of which frames is told, the drops by frame, the rounds, a pass before its first cycle,
-/// and room for what is kept in a round, and told.
+/// What is needed to write frames, other than a domain and the offers: which frames are wanted, the drops by frame, the
+/// rounds, a pass before its first cycle, and room for the legs that are kept and written in a round.
 #[derive(Drop)]
 pub struct Prepared {
     pub(crate) wanted: WantedFrames,
@@ -40,7 +40,7 @@ pub struct Prepared {
     pub(crate) here: Vec<Leg>,
 }
 
-/// Puts drops in order of frame, of which no two are of one.
+/// Sorts drops by frame. No two are of the same frame.
 fn sort_by_frame(drops: &mut Vec<Dropped>)
     requires { AllPairs (λ (a b : ADropped). a.frame ≢ b.frame) drops.old.items }
     ensures same { IsPermutation drops.old.items drops.new.items }
@@ -49,7 +49,7 @@ fn sort_by_frame(drops: &mut Vec<Dropped>)
     drops.sort_unstable_by_key(|dropped| dropped.frame);
 }
 
-/// The drops of a scenario over so many cycles, of which this is the outcome, by frame.
+/// Returns the drops, by frame, of a scenario over `cycles` cycles with this outcome.
 fn drops_by_frame(
     alloc: Global,
     cycles: u32,
@@ -68,7 +68,7 @@ fn drops_by_frame(
     Ok(drops)
 }
 
-/// Goes through the rounds, so that there is room for what is kept in each, and told.
+/// Goes through the rounds, so that there is room for the legs that are kept and written in each.
 fn make_room(
     run: &HopsRun<'_>,
     domain: &Domain,
@@ -89,7 +89,7 @@ fn make_room(
     Ok(under_way)
 }
 
-/// Room for what is kept in each round, and told.
+/// Returns room for the legs that are kept and written in each round.
 fn rooms_of(
     alloc: Global,
     run: &HopsRun<'_>,
@@ -108,7 +108,7 @@ fn rooms_of(
     Ok((kept, here))
 }
 
-/// What the wanted frames of a scenario over so many cycles, of which this is the outcome, are told from.
+/// Prepares the wanted frames of a scenario over `cycles` cycles with this outcome.
 pub(crate) fn prepare(
     alloc: Global,
     cycles: u32,

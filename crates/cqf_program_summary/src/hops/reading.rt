@@ -1,4 +1,4 @@
-//! What `hops` reads: a scenario, in which there is what is asked about.
+//! The input of `hops`: a scenario that has the requested stream and frame.
 ghost use Rattle.std.specs.Prelude.{IfErr, IfOk};
 ghost use Rattle.cqf_press.specs.Stops.{IsRefused};
 ghost use Rattle.cqf_program_scenario.specs.RunParts.{texts_of};
@@ -13,7 +13,7 @@ use cqf_press::Stop;
 use cqf_program_scenario::{RunInput, RunParts, domain_part, read_behind, run_parts, streams_part};
 use std::alloc::Global;
 
-/// The scenario of some parts that are read within some limits, with the plant's streams.
+/// Reads the scenario of the parts within given limits, with the plan's streams.
 fn read_parts(
     alloc: Global,
     limits: Limits,
@@ -29,7 +29,7 @@ fn read_parts(
     Ok(given)
 }
 
-/// The same of an input.
+/// Reads the same of an input.
 fn read_paced(alloc: Global, limits: Limits, cycles: u32, input: &[u8]) -> Result<RunInput, Stop>
     ensures ok { IfOk result (IsPacedGiven limits cycles input.now) }
     ensures err { IfErr result (IsRefused (paced_scenario limits cycles input.now)) }
@@ -38,11 +38,13 @@ fn read_paced(alloc: Global, limits: Limits, cycles: u32, input: &[u8]) -> Resul
     read_parts(alloc, limits, cycles, parts)
 }
 
-/// The scenario of the input over so many cycles, read within some limits, in which there is what is asked about.
+/// Reads the scenario of the input over `cycles` cycles within given limits, and checks that it has the requested
+/// stream and frame.
 ///
 /// # Errors
-/// With status 1 and the line of the first fault of the input: of its parts, of the domain, the streams, the script, the offers, or the
-/// background frames; else of what is asked about and isn't there: the stream, then the frame. And with status 3 for want of memory.
+/// With status 1 and the line of the first fault of the input: of its parts, the domain, the streams, the script, the
+/// offers, or the background frames. If there is none, with status 1 and a line about the requested stream, or else the
+/// requested frame, that doesn't exist. With status 3 if an allocation fails.
 pub(crate) fn read_wanted(
     alloc: Global,
     limits: Limits,

@@ -1,4 +1,4 @@
-//! In which rounds frames are told, so that none but those under way are kept.
+//! The rounds in which frames are written, so that only those under way are kept.
 ghost use Rattle.std.specs.Prelude.{ℕ, ◌≡◌, ◌≤◌, ◌<◌, ◌^◌, AllPairs, Contains, IfOk, Some, drop, length, slice_get, take};
 ghost use Rattle.cqf_units.specs.Timing.{cycle_at};
 ghost use Rattle.cqf_model.specs.declared.frames.Dropped.{Dropped as ADropped};
@@ -11,21 +11,21 @@ use cqf_topology::Domain;
 use cqf_units::{Memory, cycle_of};
 use std::alloc::Global;
 
-/// A round: how much is told behind it.
+/// A round: how much is written after it.
 #[derive(Clone, Copy, Debug, PartialEq, Eq)]
 pub struct Round {
-    /// The starts of so many cycles, the first ones, are told, or of all cycles where there are fewer.
+    /// The starts of this many first cycles are returned, or of all cycles if there are fewer.
     pub cycles: u64,
-    /// Of the frames of so many offers, the first ones, all is told.
+    /// The frames of this many first offers are written completely.
     pub frames: usize,
-    /// These have so many of the drops by frame, the first ones.
+    /// The number of drops of these frames; they come first in the drops by frame.
     pub drops: usize,
 }
 
 /// More cycles than any run has, and than any offer's cycle.
 const ALL_CYCLES: u64 = 0x0100_0000_0000;
 
-/// Before the first round.
+/// Returns the round before the first one.
 pub(crate) fn no_round() -> Round
     ensures { result ≡ no_round }
 {
@@ -36,7 +36,7 @@ pub(crate) fn no_round() -> Round
     }
 }
 
-/// The cycle of the offer at a place.
+/// Returns the cycle of the offer at an index.
 fn cycle_there(domain: &Domain, offers: &[Offer], place: usize) -> u64
     requires offers { AreOffers domain.now offers.now }
     requires there { place < length offers.now }
@@ -46,7 +46,8 @@ fn cycle_there(domain: &Domain, offers: &[Offer], place: usize) -> u64
     u64::from(cycle_of(offers[place].at, domain.cycle_time()).0)
 }
 
-/// The place of the first offer behind one of a cycle before an end that isn't of such a cycle; as many as there are where there is none.
+/// Returns the index of the first offer after the one at `from` whose cycle isn't before `end`; if there is none, the
+/// number of offers.
 fn place_behind(domain: &Domain, offers: &[Offer], from: usize, end: u64) -> usize
     requires offers { AreOffers domain.now offers.now }
     requires inside { from < length offers.now }
@@ -64,7 +65,7 @@ fn place_behind(domain: &Domain, offers: &[Offer], from: usize, end: u64) -> usi
     offers.len()
 }
 
-/// How many of the drops by frame are of the first frames, of which so many are.
+/// Returns how many of the drops by frame are of the first `frames` frames. The first `from` drops are.
 fn drops_before(drops: &[Dropped], from: usize, frames: usize) -> usize
     requires rise { AllPairs (λ (a b : ADropped). a.frame < b.frame) drops.now }
     requires inside { from ≤ length drops.now }
@@ -82,7 +83,8 @@ fn drops_before(drops: &[Dropped], from: usize, frames: usize) -> usize
     drops.len()
 }
 
-/// The round behind another, where an offer is left: of the offers of as many cycles as a frame may be under way, and one.
+/// Returns the round after another one, if an offer is left. Its offers are those of as many cycles as a frame can be
+/// under way, and one more.
 fn next_round(
     domain: &Domain,
     depth: u8,
@@ -108,10 +110,11 @@ fn next_round(
     }
 }
 
-/// The rounds of a run over so many cycles, in which no frame is under way for longer than so many. Those that aren't run are all in the last one.
+/// Returns the rounds of a run over `cycles` cycles in which no frame is under way for more than `depth` cycles. All
+/// offers of cycles that aren't run are in the last round.
 ///
 /// # Errors
-/// Where a growth is refused.
+/// `Memory` if an allocation fails.
 pub(crate) fn lay_rounds(
     alloc: Global,
     domain: &Domain,

@@ -1,4 +1,4 @@
-//! What is told of the frames under way, round by round.
+//! The legs of the frames under way, round by round.
 ghost use Rattle.std.specs.Prelude.{◌≡◌, ◌≤◌, ◌+◌, ◌++◌, ◌∷◌, [], AllPairs, IsOk, List, OnOk, length, min, vec_capacity};
 ghost use Rattle.cqf_model.specs.declared.frames.Started.{Started as AStart};
 ghost use Rattle.cqf_instants.specs.Progress.{AreStartsOf};
@@ -14,7 +14,7 @@ use cqf_instants::Pass;
 use cqf_model::{Dropped, Offer, Started};
 use cqf_units::Memory;
 
-/// What is told of frames: the offers, of whose frames some are wanted, and the drops by frame.
+/// The source of the legs: the offers, which of their frames are wanted, and the drops by frame.
 #[derive(Clone, Copy)]
 pub struct HopsRun<'r> {
     pub(crate) offers: &'r [Offer],
@@ -22,19 +22,19 @@ pub struct HopsRun<'r> {
     pub(crate) drops: &'r [Dropped],
 }
 
-/// What is kept of the frames under way behind a round, with the pass that tells their starts.
+/// The legs of the frames under way that are kept after a round, with the pass that returns their starts.
 #[derive(Drop)]
 pub struct LegsUnderWay {
     pub(crate) pass: Pass,
     /// The round.
     pub(crate) at: Round,
-    /// What is told of the frames behind those of which all is told, as it is told.
+    /// The legs of frames that aren't written completely, in the order in which the pass returns them.
     pub(crate) kept: Vec<Leg>,
-    /// What is told of the round's own frames.
+    /// The legs of the round's own frames.
     pub(crate) here: Vec<Leg>,
 }
 
-/// Puts a leg behind others, where it is wanted.
+/// Appends a leg if it is wanted.
 fn push_wanted(legs: &mut Vec<Leg>, run: &HopsRun<'_>, leg: Leg) -> Result<(), Memory>
     ensures ok { OnOk result (legs.new.items ≡ legs.old.items ++ kept_legs run.now.offers.now (source_of run.now).wanted (leg ∷ [])) }
     ensures capacity { vec_capacity legs.old ≤ vec_capacity legs.new }
@@ -48,7 +48,7 @@ fn push_wanted(legs: &mut Vec<Leg>, run: &HopsRun<'_>, leg: Leg) -> Result<(), M
     Ok(())
 }
 
-/// Puts those legs of some starts behind others that are wanted, and of frames behind the first ones.
+/// Appends the wanted legs of starts, for frames after the first `frames` ones.
 fn push_starts(
     legs: &mut Vec<Leg>,
     run: &HopsRun<'_>,
@@ -68,7 +68,7 @@ fn push_starts(
     Ok(())
 }
 
-/// Puts those legs of some drops behind others that are wanted.
+/// Appends the wanted legs of drops.
 fn push_drops(legs: &mut Vec<Leg>, run: &HopsRun<'_>, drops: &[Dropped]) -> Result<(), Memory>
     ensures ok { OnOk result (legs.new.items ≡ legs.old.items ++ dropped_legs (source_of run.now) drops.now) }
     ensures capacity { vec_capacity legs.old ≤ vec_capacity legs.new }
@@ -80,7 +80,7 @@ fn push_drops(legs: &mut Vec<Leg>, run: &HopsRun<'_>, drops: &[Dropped]) -> Resu
     Ok(())
 }
 
-/// Puts those legs that are of the first frames in place of what was there.
+/// Replaces `here` by the legs of the first `frames` frames.
 fn take_up_to(here: &mut Vec<Leg>, kept: &[Leg], frames: usize) -> Result<(), Memory>
     ensures ok { OnOk result (here.new.items ≡ legs_up_to frames kept.now) }
     ensures capacity { vec_capacity here.old ≤ vec_capacity here.new }
@@ -95,7 +95,7 @@ fn take_up_to(here: &mut Vec<Leg>, kept: &[Leg], frames: usize) -> Result<(), Me
     Ok(())
 }
 
-/// Keeps those legs alone that aren't.
+/// Keeps only the legs of later frames.
 fn keep_behind(kept: &mut Vec<Leg>, frames: usize)
     ensures legs { kept.new.items ≡ legs_behind frames kept.old.items }
     ensures capacity { vec_capacity kept.new ≡ vec_capacity kept.old }
@@ -104,7 +104,7 @@ fn keep_behind(kept: &mut Vec<Leg>, frames: usize)
 }
 
 impl LegsUnderWay {
-    /// Before the first round, with room that is there.
+    /// Returns the state before the first round, with the given room.
     pub(crate) fn at_first(pass: Pass, kept: Vec<Leg>, here: Vec<Leg>) -> LegsUnderWay
         requires { pass.told ≡ 0 }
         ensures stands { (starts : List AStart) (source : ASource) → AreStartsOf pass.basis starts → StandsAt starts source result }
@@ -124,7 +124,8 @@ impl LegsUnderWay {
         }
     }
 
-    /// Tells the starts of the cycles up to so many, and keeps what is wanted of those of frames of which not all is told.
+    /// Takes the starts of the first `cycles` cycles from the pass, and keeps the wanted ones of frames that aren't
+    /// written completely.
     fn tell_up_to(&mut self, run: &HopsRun<'_>, cycles: u64) -> Result<(), Memory>
         requires told { self.old.pass.told ≡ min self.old.at.cycles self.old.pass.basis.cycles }
         requires later { self.old.at.cycles ≤ cycles }
@@ -143,7 +144,7 @@ impl LegsUnderWay {
         Ok(())
     }
 
-    /// Goes through a round: what is told in it is there then.
+    /// Processes a round: afterwards `here` has the legs that are written in it.
     pub(crate) fn go_through(&mut self, run: &HopsRun<'_>, round: &Round) -> Result<(), Memory>
         requires told { self.old.pass.told ≡ min self.old.at.cycles self.old.pass.basis.cycles }
         requires next { IsLater self.old.at round.now }
@@ -163,7 +164,7 @@ impl LegsUnderWay {
         Ok(())
     }
 
-    /// Puts what is told in the round in order.
+    /// Sorts the legs that are written in the round.
     pub(crate) fn sort_here(&mut self)
         requires { AllPairs AreApart self.old.here.items }
         ensures rest { (self.new.pass ≡ self.old.pass) × (self.new.at ≡ self.old.at) × (self.new.kept ≡ self.old.kept) }

@@ -1,4 +1,4 @@
-//! Of which frames is told.
+//! The wanted frames.
 ghost use Rattle.std.specs.Prelude.{◌≡◌, IfOk, option_map, string_bytes};
 ghost use Rattle.cqf_program_summary.specs.Hops.Gathered.{wanted_by};
 ghost use Rattle.cqf_program_summary.specs.Hops.Legs.{is_frame, is_stream, is_wanted, stream_of};
@@ -8,11 +8,11 @@ use cqf_units::Memory;
 use std::alloc::Global;
 use std::marker::Model;
 
-/// Of which frames is told: where a stream is named, of those that claim it, and where a number is given, of that one alone; else of all.
+/// The wanted frames: if a stream is named, those that claim it; if a number is given, only that one; otherwise all.
 #[derive(Clone, Copy, Debug)]
 pub struct FrameFilter<'c> {
     pub stream: Option<&'c str>,
-    /// The place of its offer among the offers, from 1.
+    /// The number of its offer among the offers, from 1.
     pub frame: Option<u32>,
 }
 
@@ -32,7 +32,7 @@ impl Model for WantedFrames {
     ghost view = { λ w. record { stream = option_map string_bytes w.stream; frame = w.frame } };
 }
 
-/// A copy of a name, where there is one.
+/// Returns a copy of a name, if there is one.
 fn copy_of(alloc: Global, name: Option<&str>) -> Result<Option<String>, Memory>
     ensures { IfOk result (λ copy. option_map string_bytes copy ≡ option_map (λ name. name.now) name.entry) }
 {
@@ -43,10 +43,10 @@ fn copy_of(alloc: Global, name: Option<&str>) -> Result<Option<String>, Memory>
 }
 
 impl WantedFrames {
-    /// A copy of a choice.
+    /// Returns a copy of a choice.
     ///
     /// # Errors
-    /// Where a growth is refused.
+    /// `Memory` if an allocation fails.
     pub(crate) fn copy(alloc: Global, choice: FrameFilter<'_>) -> Result<WantedFrames, Memory>
         ensures { IfOk result (λ wanted. wanted ≡ wanted_by choice.entry) }
     {
@@ -56,7 +56,7 @@ impl WantedFrames {
         })
     }
 
-    /// The choice.
+    /// Returns the choice.
     pub(crate) fn choice(&self) -> FrameFilter<'_>
         ensures { wanted_by result ≡ self.now }
     {
@@ -70,7 +70,7 @@ impl WantedFrames {
     }
 }
 
-/// The name of the stream that a frame claims. A number that no offer has claims none.
+/// Returns the name of the stream that a frame claims; an empty one if no offer has the number.
 pub(crate) fn stream_of(offers: &[Offer], frame: u32) -> &str
     ensures { result.now ≡ stream_of offers.now frame }
 {
@@ -80,7 +80,7 @@ pub(crate) fn stream_of(offers: &[Offer], frame: u32) -> &str
     }
 }
 
-/// Whether a name is that of the stream, where one is named.
+/// Whether a name is that of the stream, if one is named.
 fn is_stream(stream: Option<&str>, name: &str) -> bool
     ensures { result ≡ is_stream (option_map (λ stream. stream.now) stream.entry) name.now }
 {
@@ -90,7 +90,7 @@ fn is_stream(stream: Option<&str>, name: &str) -> bool
     }
 }
 
-/// Whether a number is that of the frame, where one is given.
+/// Whether a number is that of the frame, if one is given.
 fn is_frame(frame: Option<u32>, number: u32) -> bool
     ensures { result ≡ is_frame frame number }
 {
@@ -101,7 +101,7 @@ fn is_frame(frame: Option<u32>, number: u32) -> bool
 }
 
 impl<'c> FrameFilter<'c> {
-    /// Whether it is told of the frame of this number.
+    /// Whether the frame with a number is wanted.
     pub(crate) fn wants(self, offers: &[Offer], frame: u32) -> bool
         ensures { result ≡ is_wanted offers.now (wanted_by self.entry) frame }
     {

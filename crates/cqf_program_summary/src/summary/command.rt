@@ -17,7 +17,7 @@ use cqf_program_runs::{PlannedGiven, read_planned_given};
 use cqf_units::Memory;
 use std::alloc::Global;
 
-/// The output for a scenario.
+/// Returns the output for a scenario.
 fn output_of(alloc: Global, cycles: u32, planned: &PlannedGiven) -> Result<SummaryOutput, Memory>
     requires short { cycles ≤ most_cycles }
     requires may { MayBeRun cycles (scenario_given planned.now.given) }
@@ -29,13 +29,13 @@ fn output_of(alloc: Global, cycles: u32, planned: &PlannedGiven) -> Result<Summa
     Ok(SummaryOutput { sums, sheet })
 }
 
-/// The output of `summary` over so many cycles, 0 to 100,000, for an input that is read within some limits, ready to be told: of each
-/// stream and listener how many frames are offered, how they end, how long those took that came, and the most that one can take
-/// 
+/// Returns the output of `summary` over `cycles` cycles, 0 to 100,000, for an input that is read within given limits,
+/// ready to be written. For each stream and listener it has how many frames are offered, how they end, the latencies of
+/// those that arrived, and the greatest latency that a frame can have.
 ///
 /// # Errors
-/// With status 1 and the line of the first fault of the input: of its parts, of the domain, the streams, the script, the
-/// offers, or the background frames; and with status 3 for want of memory.
+/// With status 1 and the line of the first fault of the input: of its parts, the domain, the streams, the script, the
+/// offers, or the background frames. With status 3 if an allocation fails.
 pub fn summary_output(
     alloc: Global,
     limits: Limits,

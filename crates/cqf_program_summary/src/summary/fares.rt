@@ -1,4 +1,4 @@
-//! How the frames of a stream fare to its listeners.
+//! What becomes of the frames of a stream on the paths to its listeners.
 ghost use Rattle.std.specs.Prelude.{ℕ, ◌≡◌, ◌+◌, ◌*◌, ◌≤◌, ◌<◌, ◌^◌, ◌++◌, ◌∷◌, [], Some, None, Contains, IfOk, OnOk, if◌then◌else◌, length, map, position, slice_get};
 ghost use Rattle.cqf_admission.specs.Rows.{IsSummable};
 ghost use Rattle.cqf_model.specs.Domain.{end_of};
@@ -26,30 +26,30 @@ use std::marker::Model;
 pub(crate) struct Listener {
     /// The name of its station.
     pub(crate) name: Name,
-    /// No frame of the stream takes more to it, in nanoseconds, where calls admit streams of the file alone.
+    /// The greatest latency of a frame of the stream to it, in nanoseconds, if calls admit only streams of the file.
     pub(crate) bound: u64,
 }
 
-/// The way of a stream to one of its listeners.
+/// The path of a stream to one of its listeners.
 #[derive(Debug, Drop)]
 pub(crate) struct ListenerWay {
-    /// The listener; none is known of a stream whose octets, pace or path are refused.
+    /// The listener; none is known for a stream whose octets, pace or path are refused.
     pub(crate) to: Option<Listener>,
-    /// How its frames fare.
+    /// What becomes of the frames on it.
     pub(crate) tally: Tally,
 }
 
-/// How the frames of a stream fare: those that claim its name.
+/// What becomes of the frames that claim the name of a stream.
 #[derive(Drop)]
 pub(crate) struct Fares {
     pub(crate) name: Name,
-    /// What a frame is to take at most, in nanoseconds, where the stream has a deadline.
+    /// The greatest latency that a frame may have, in nanoseconds, if the stream has a deadline.
     pub(crate) deadline: Option<u32>,
-    /// How many are offered in cycles that are run.
+    /// The number of offers in cycles that are run.
     pub(crate) offered: u32,
-    /// How many of them are dropped.
+    /// The number of them that are dropped.
     pub(crate) dropped: u32,
-    /// The ways to its listeners, in the order of its tree.
+    /// The paths to its listeners, in the order of its tree.
     pub(crate) ways: Vec<ListenerWay>,
 }
 
@@ -64,16 +64,17 @@ impl Model for Fares {
     ghost invariant = { λ f. AreApart f.ways.items };
 }
 
-/// Offers that claim names of none of the streams.
+/// Offers that claim the name of none of the streams.
 #[derive(Clone, Copy, Debug, PartialEq, Eq)]
 pub(crate) struct Others {
-    /// How many are of cycles that are run.
+    /// The number of offers in cycles that are run.
     pub(crate) offered: u32,
-    /// How many of them are dropped.
+    /// The number of them that are dropped.
     pub(crate) dropped: u32,
 }
 
-/// The most that streams cost of a hop's link in a cycle in which the frames of the row go by it, in octets.
+/// Returns the greatest cost, in octets, that streams have of a hop's link in a cycle in which the frames of the row
+/// pass it.
 fn cost_to(costs: &CycleSums, row: &Row, hop: &Hop) -> u64
     requires bounded { AreBounded costs.now }
     requires all { costs.now.links ≡ most_links }
@@ -85,7 +86,8 @@ fn cost_to(costs: &CycleSums, row: &Row, hop: &Hop) -> u64
     costs.most_at(hop, row.pace)
 }
 
-/// The listener at the end of a hop of a row's tree, where one is there. Hops by links that the domain lacks have none.
+/// Returns the listener at the end of a hop of a row's tree, if there is one. A hop by a link that the domain lacks has
+/// none.
 fn listener_to(domain: &Domain, costs: &CycleSums, row: &Row, hop: &Hop) -> Option<Listener>
     requires bounded { AreBounded costs.now }
     requires all { costs.now.links ≡ most_links }
@@ -93,7 +95,7 @@ fn listener_to(domain: &Domain, costs: &CycleSums, row: &Row, hop: &Hop) -> Opti
     requires of_tree { Contains row.now.tree.items hop.now }
     ensures { result ≡ (if is_station (end_of domain.now hop.now.link) then Some (listener_to domain.now (cost_beside costs.now (Some row.now)) hop.now) else None) }
 {
-    // the domain is accepted: it has no more links than are represented
+    // the domain is accepted: it has no more links than can be represented
     domain.know();
     if hop.link >= domain.links() {
         return None;
@@ -106,7 +108,7 @@ fn listener_to(domain: &Domain, costs: &CycleSums, row: &Row, hop: &Hop) -> Opti
     })
 }
 
-/// Puts a way, on which no frame has gone, behind those before it.
+/// Appends a path that no frame has taken.
 fn push_way(ways: &mut Vec<ListenerWay>, to: Option<Listener>) -> Result<(), Memory>
     ensures { OnOk result (ways.new.items ≡ ways.old.items ++ way_to [] to ∷ []) }
 {
@@ -117,7 +119,7 @@ fn push_way(ways: &mut Vec<ListenerWay>, to: Option<Listener>) -> Result<(), Mem
     Ok(())
 }
 
-/// Puts the ways to the listeners of a row behind those before it.
+/// Appends the paths to the listeners of a row.
 fn push_listeners(
     ways: &mut Vec<ListenerWay>,
     domain: &Domain,
@@ -137,7 +139,7 @@ fn push_listeners(
     Ok(())
 }
 
-/// The ways to the listeners of a stream with this row; one to none where it has no row.
+/// Returns the paths to the listeners of a stream with this row; without a row, one path without a listener.
 fn ways_of(
     alloc: Global,
     domain: &Domain,
@@ -157,7 +159,7 @@ fn ways_of(
     Ok(ways)
 }
 
-/// Whether a way leads to the listener of a name.
+/// Whether a path leads to the listener with a name.
 fn leads_to(to: &Option<Listener>, name: &Name) -> bool
     ensures { result ≡ leads_to name.now to.now }
 {
@@ -167,7 +169,7 @@ fn leads_to(to: &Option<Listener>, name: &Name) -> bool
     }
 }
 
-/// Whether there is a way at a place, and it leads to the listener of a name.
+/// Whether there is a path at an index, and it leads to the listener with a name.
 fn leads_there(ways: &[ListenerWay], place: usize, name: &Name) -> bool
     ensures { result ≡ leads_there name.now (slice_get ways.now place) }
 {
@@ -177,15 +179,15 @@ fn leads_there(ways: &[ListenerWay], place: usize, name: &Name) -> bool
     }
 }
 
-/// The place of the first way to the listener of a name.
+/// Returns the index of the first path to the listener with a name.
 fn first_to(ways: &[ListenerWay], name: &Name) -> Option<usize>
     ensures { result ≡ position (λ way. leads_to name.now way.to) ways.now }
 {
     ways.iter().position(|way| leads_to(&way.to, name))
 }
 
-/// The place of the way to the listener of a name: the expected one where that leads there, and else the first. Deliveries come in the
-/// order of the ways, so that each is mostly expected.
+/// Returns the index of the path to the listener with a name: the expected one if it leads there, otherwise the first.
+/// Deliveries are in the order of the paths, so the expected one is mostly right.
 fn place_to(ways: &[ListenerWay], expected: usize, name: &Name) -> Option<usize>
     ensures { result ≡ place_by ways.now expected name.now }
 {
@@ -195,7 +197,7 @@ fn place_to(ways: &[ListenerWay], expected: usize, name: &Name) -> Option<usize>
     first_to(ways, name)
 }
 
-/// Adds a frame on its journey to the way to its listener.
+/// Adds a frame on a journey to the path to its listener.
 fn add_journey(
     ways: &mut [ListenerWay],
     expected: usize,
@@ -214,7 +216,7 @@ fn add_journey(
     }
 }
 
-/// Adds a delivery to the way to its listener: a drop goes nowhere.
+/// Adds a delivery to the path to its listener. A drop is added to none.
 fn add_passage(ways: &mut [ListenerWay], expected: usize, delivery: &Delivery)
     requires apart { AreApart ways.old }
     requires few { WaysWithin 3372220214 ways.old }
@@ -227,7 +229,7 @@ fn add_passage(ways: &mut [ListenerWay], expected: usize, delivery: &Delivery)
 }
 
 impl Fares {
-    /// Those of a stream of this name and row, of which nothing is offered yet, where streams cost so much of each link.
+    /// Makes the counts of a stream with this name and row before anything is offered, if streams have these costs.
     pub(crate) fn new(
         alloc: Global,
         domain: &Domain,
@@ -240,7 +242,7 @@ impl Fares {
         requires listed { IsOfStream domain.now listed.now }
         ensures { IfOk result (λ fares. fares ≡ fare_from domain.now (cost_beside costs.now listed.now.row) deadline listed.now) }
     {
-        // names are apart, and the domain is accepted: facts for the ways
+        // names differ, and the domain is accepted; the paths need these facts
         domain.know();
         let ways = ways_of(alloc, domain, costs, &listed.row)?;
         Ok(Fares {
@@ -252,7 +254,7 @@ impl Fares {
         })
     }
 
-    /// Adds a delivery of a frame, which is expected on the way of a place.
+    /// Adds a delivery of a frame, which is expected on the path at an index.
     fn add(&mut self, expected: usize, delivery: &Delivery)
         requires { FareWithin 3372220214 self.old }
         ensures fare { self.new ≡ fare_with self.old delivery.now }
@@ -274,7 +276,7 @@ impl Fares {
         }
     }
 
-    /// Adds an offer that claims the stream's name, and its deliveries, at most 200.
+    /// Adds an offer that claims the stream's name, with its deliveries, at most 200.
     pub(crate) fn add_offer(&mut self, here: &[Delivery])
         requires few { length here.now ≤ 200 }
         requires within { FareWithin 3372220014 self.old }
@@ -287,7 +289,7 @@ impl Fares {
 }
 
 impl Others {
-    /// The same with an offer more, and its deliveries, at most 200.
+    /// Adds an offer with its deliveries, at most 200.
     pub(crate) fn with(self, here: &[Delivery]) -> Others
         requires few { length here.now ≤ 200 }
         requires within { OthersWithin 3372220014 self }

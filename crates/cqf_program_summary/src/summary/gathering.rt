@@ -27,8 +27,8 @@ fn is_run(domain: &Domain, cycles: u32, offer: &Offer) -> bool
     cycle_of(offer.at, domain.cycle_time()).0 < cycles
 }
 
-/// Adds the offers of a run that is over, whose frames are followed from the first one on, to sums to which none is added yet; what was there
-/// is room for the deliveries of one offer.
+/// Adds the offers of a run that is over, whose frames are followed from the first one on, to sums that have none yet.
+/// `here` is room for the deliveries of one offer; what it had is discarded.
 fn gathered(
     here: Few,
     under_way: UnderWay,
@@ -51,7 +51,7 @@ fn gathered(
     sums
 }
 
-/// The sums of a scenario over so many cycles, 0 to 100,000.
+/// Returns the sums of a scenario over `cycles` cycles, 0 to 100,000.
 pub(crate) fn sums_of_scenario(
     alloc: Global,
     cycles: u32,

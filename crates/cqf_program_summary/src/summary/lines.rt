@@ -1,4 +1,4 @@
-//! A summary, told line by line.
+//! A summary, written line by line.
 ghost use Rattle.cqf_press.specs.Press.{Puts};
 ghost use Rattle.cqf_report.specs.Written.{line_of_fields};
 ghost use Rattle.cqf_program_summary.specs.Summary.Text.{lines_of_fare, lines_of_fares, lines_of_others, summary_header};
@@ -20,7 +20,7 @@ fn put_header<W: Sink>(press: &mut Press<'_, W>)
     );
 }
 
-/// Puts the name of a listener, where there is one.
+/// Puts the name of a listener, if there is one.
 fn put_listener<W: Sink>(press: &mut Press<'_, W>, to: &Option<Listener>)
     ensures { Puts W.contents press.old press.new (text_of_listener to.now) }
 {
@@ -29,7 +29,7 @@ fn put_listener<W: Sink>(press: &mut Press<'_, W>, to: &Option<Listener>)
     }
 }
 
-/// Puts its bound, where there is one.
+/// Puts its bound, if there is one.
 fn put_bound<W: Sink>(press: &mut Press<'_, W>, to: &Option<Listener>)
     ensures { Puts W.contents press.old press.new (text_of_bound to.now) }
 {
@@ -38,7 +38,7 @@ fn put_bound<W: Sink>(press: &mut Press<'_, W>, to: &Option<Listener>)
     }
 }
 
-/// Puts the least that a frame took, where some came.
+/// Puts the least latency, if some frames arrived.
 fn put_least<W: Sink>(press: &mut Press<'_, W>, taken: Option<LatencySummary>)
     ensures { Puts W.contents press.old press.new (text_of_least taken) }
 {
@@ -47,7 +47,7 @@ fn put_least<W: Sink>(press: &mut Press<'_, W>, taken: Option<LatencySummary>)
     }
 }
 
-/// Puts what they took in the mean.
+/// Puts the mean latency.
 fn put_mean<W: Sink>(press: &mut Press<'_, W>, taken: Option<LatencySummary>)
     ensures { Puts W.contents press.old press.new (text_of_mean taken) }
 {
@@ -56,7 +56,7 @@ fn put_mean<W: Sink>(press: &mut Press<'_, W>, taken: Option<LatencySummary>)
     }
 }
 
-/// Puts the most that one took.
+/// Puts the greatest latency.
 fn put_most<W: Sink>(press: &mut Press<'_, W>, taken: Option<LatencySummary>)
     ensures { Puts W.contents press.old press.new (text_of_most taken) }
 {
@@ -65,7 +65,7 @@ fn put_most<W: Sink>(press: &mut Press<'_, W>, taken: Option<LatencySummary>)
     }
 }
 
-/// Puts the last fields of a row: what frames took, the bound and the deadline.
+/// Puts the last fields of a row: the latencies, the bound and the deadline.
 fn put_last<W: Sink>(
     press: &mut Press<'_, W>,
     to: &Option<Listener>,
@@ -86,7 +86,7 @@ fn put_last<W: Sink>(
     press.put_byte(b'\n');
 }
 
-/// Puts the fields of a row behind its listener.
+/// Puts the fields of a row after its listener.
 fn put_counts<W: Sink>(
     press: &mut Press<'_, W>,
     to: &Option<Listener>,
@@ -110,7 +110,7 @@ fn put_counts<W: Sink>(
     put_last(press, to, tally.taken, deadline);
 }
 
-/// Puts the row of a way of a stream.
+/// Puts the row of a path of a stream.
 fn put_way<W: Sink>(press: &mut Press<'_, W>, fares: &Fares, way: &ListenerWay)
     ensures { Puts W.contents press.old press.new (line_of_fields (way_fields fares.now way.now)) }
 {
@@ -140,7 +140,7 @@ fn put_fares<W: Sink>(press: &mut Press<'_, W>, fares: &[Fares])
     }
 }
 
-/// Puts the row of other names, where there are any.
+/// Puts the row of other names, if there are any.
 fn put_others<W: Sink>(press: &mut Press<'_, W>, others: Others)
     ensures { Puts W.contents press.old press.new (lines_of_others others) }
 {

@@ -1,4 +1,4 @@
-//! The streams of which is told, and what they cost of links.
+//! The streams of a summary, and their costs on links.
 ghost use Rattle.std.specs.Prelude.{◌≡◌, ◌++◌, ◌∷◌, [], false, IfOk, List, map};
 ghost use Rattle.cqf_admission.specs.Asking.{asked_paced};
 ghost use Rattle.cqf_admission.specs.Rows.{IsSummable};
@@ -18,28 +18,29 @@ use cqf_topology::{Domain, NameList, PacedRequest};
 use cqf_units::{Cycle, Memory, Name};
 use std::alloc::{AllocError, Global};
 
-/// Up to how many streams are listed: no memory has room for so many.
+/// The most streams that are listed; no memory has room for this number.
 const MOST_LISTED: usize = 1 << 29;
 
-/// A stream of which is told.
+/// A stream of the summary.
 #[derive(Drop)]
 pub(crate) struct ListedStream {
     pub(crate) name: Name,
-    /// Its row, as if it were the first of all; none where its octets, its pace or its path are refused.
+    /// Its row, as if it were the first of all; none if its octets, pace or path are refused.
     pub(crate) row: Option<Row>,
 }
 
-/// The streams of which is told, of each name the first, and what those with a row cost of each link in each cycle, whether or not they fit.
+/// The streams of a summary, of each name the first, and what those with a row cost of each link in each cycle, whether
+/// or not they fit.
 #[derive(Drop)]
 pub(crate) struct SummaryListing {
-    /// Their names, in their order.
+    /// Their names, in order.
     pub(crate) names: NameList,
     pub(crate) streams: Vec<ListedStream>,
     /// In octets, by link and cycle.
     pub(crate) costs: CycleSums,
 }
 
-/// Adds what a row's stream costs to that of its links in its cycles.
+/// Adds what a row's stream costs to the costs of its links in its cycles.
 fn add(costs: &mut CycleSums, row: &Row)
     requires summable { IsSummable most_links row.now }
     requires all { costs.old.links ≡ most_links }
@@ -49,7 +50,7 @@ fn add(costs: &mut CycleSums, row: &Row)
     add_cost(costs, row);
 }
 
-/// By link and cycle, what a stream costs of it more: nothing where it has no row.
+/// Adds what a stream costs, by link and cycle; nothing if it has no row.
 fn costs_with(costs: CycleSums, row: &Option<Row>) -> CycleSums
     requires summable { MayBeSummed row.now }
     requires all { costs.links ≡ most_links }
@@ -63,7 +64,7 @@ fn costs_with(costs: CycleSums, row: &Option<Row>) -> CycleSums
     costs
 }
 
-/// The row of a request, as if it were the first of all; none where its octets, its pace or its path are refused.
+/// Returns the row of a request, as if it were the first of all; `None` if its octets, pace or path are refused.
 fn row_of_request(
     alloc: Global,
     domain: &Domain,
@@ -72,7 +73,7 @@ fn row_of_request(
     ensures row { IfOk result (λ row. row ≡ row_of_stream domain.now (asked_paced request.now)) }
     ensures summable { IfOk result MayBeSummed }
 {
-    // the domain is accepted: it has no more links than are represented
+    // the domain is accepted: it has no more links than can be represented
     domain.know();
     if count_places(request.paths.as_slice()).is_none() {
         return Err(AllocError);
@@ -84,7 +85,7 @@ fn row_of_request(
 }
 
 impl SummaryListing {
-    /// None so far, unless memory runs out.
+    /// Makes an empty listing. Returns `Memory` if an allocation fails.
     fn new(alloc: Global) -> Result<SummaryListing, Memory>
         ensures { IfOk result (λ listing. (d : ADomain) → IsListing d [] listing) }
     {
@@ -96,7 +97,7 @@ impl SummaryListing {
         })
     }
 
-    /// The listing with a stream more, of a name that isn't listed.
+    /// Appends a stream with a name that isn't listed.
     fn push(self, name: Name, row: Option<Row>) -> Result<SummaryListing, Memory>
         requires free { is_among name self.names.keys ≡ false }
         requires summable { MayBeSummed row }
@@ -120,7 +121,7 @@ impl SummaryListing {
         })
     }
 
-    /// The listing with the stream of a request behind those before it, where it is told of. No memory has room for as many as [`MOST_LISTED`].
+    /// Appends the stream of a request, if the summary has it. No memory has room for [`MOST_LISTED`] streams.
     fn with(
         self,
         alloc: Global,
@@ -146,7 +147,7 @@ impl SummaryListing {
     }
 }
 
-/// The streams of some requests of which is told.
+/// Lists the streams of the requests that a summary has.
 pub(crate) fn list_streams(
     alloc: Global,
     domain: &Domain,

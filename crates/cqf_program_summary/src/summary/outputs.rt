@@ -1,4 +1,4 @@
-//! The output of `summary`, before it is told.
+//! The output of `summary`, before it is written.
 ghost use Rattle.cqf_press.specs.Edge.{HasTold, writing};
 ghost use Rattle.cqf_program_summary.specs.Summary.Text.{text_of_summary};
 
@@ -7,7 +7,7 @@ use crate::summary::sums::StreamSums;
 use cqf_press::{Press, Sheet, Sink, Told};
 use std::marker::Model;
 
-/// What the output of `summary` is told from: how the frames of each stream fare, and a sheet. To those who hold it, it is the summary.
+/// The data of the output of `summary`: the counts of each stream, and a sheet. In contracts it is the summary.
 #[derive(Drop)]
 pub struct SummaryOutput {
     pub(crate) sums: StreamSums,
@@ -23,7 +23,7 @@ impl Model for SummaryOutput {
 }
 
 impl SummaryOutput {
-    /// Tells the output: a row a stream and listener, in their order, and one of other names. It asks for no memory.
+    /// Writes the output: a row for each stream and listener, in order, and one of other names. Allocates no memory.
     pub fn tell<W: Sink>(self, told: &mut Told<W>)
         ensures { HasTold (writing W.contents told.old told.new) (text_of_summary self) }
     {

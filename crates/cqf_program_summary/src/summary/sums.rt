@@ -1,4 +1,4 @@
-//! How the frames of all streams fare, found by name.
+//! The counts of all streams, found by name.
 ghost use Rattle.std.specs.Prelude.{ℕ, ◌≡◌, ◌≤◌, ◌+◌, [], All, IfOk, length, map};
 ghost use Rattle.cqf_admission.specs.Asking.{asked_paced};
 ghost use Rattle.cqf_model.specs.Limits.{most_links};
@@ -17,7 +17,7 @@ use cqf_units::{Memory, Name};
 use std::alloc::Global;
 use std::marker::Model;
 
-/// How the frames of each stream fare of which is told, and what is offered of other names.
+/// The counts of each stream of the summary, and of the offers of other names.
 #[derive(Drop)]
 pub(crate) struct StreamSums {
     names: NameList,
@@ -36,7 +36,7 @@ impl Model for StreamSums {
     ghost invariant = { λ s. s.names.keys ≡ map (λ fare. fare.name) s.fares.items };
 }
 
-/// Those of listed streams with these deadlines, of which nothing is offered yet.
+/// Makes the counts of listed streams with these deadlines before anything is offered.
 fn fares_of(
     alloc: Global,
     domain: &Domain,
@@ -58,7 +58,7 @@ fn fares_of(
 }
 
 impl StreamSums {
-    /// Those of the streams of some requests with these deadlines, of which nothing is offered yet.
+    /// Makes the counts of the requests' streams with these deadlines before anything is offered.
     pub(crate) fn new(
         alloc: Global,
         domain: &Domain,
@@ -68,7 +68,7 @@ impl StreamSums {
         ensures { let due = deadline_in (record { requests = requests.now; deadlines = deadlines.now }) in
             IfOk result (λ sums. sums ≡ summary_by domain.now (told_streams (map asked_paced requests.now)) due [] []) }
     {
-        // the domain is accepted: it has no more links than are represented
+        // the domain is accepted: it has no more links than can be represented
         domain.know();
         let listing = list_streams(alloc, domain, requests)?;
         let due = Deadlines::new(alloc, requests, deadlines)?;
@@ -90,7 +90,8 @@ impl StreamSums {
         })
     }
 
-    /// Adds an offer of a name, and its deliveries, at most 200, in a time that grows with the logarithm of the streams.
+    /// Adds an offer of a name, with its deliveries, at most 200, in a time that grows with the logarithm of the number
+    /// of streams.
     pub(crate) fn add(&mut self, name: &Name, here: &[Delivery])
         requires few { length here.now ≤ 200 }
         requires within { SummaryWithin 3372220014 self.old }
@@ -103,14 +104,14 @@ impl StreamSums {
         }
     }
 
-    /// Those of each stream, in their order.
+    /// Returns the counts of each stream, in order.
     pub(crate) fn fares(&self) -> &[Fares]
         ensures { result.now ≡ self.now.fares }
     {
         self.fares.as_slice()
     }
 
-    /// What is offered of other names.
+    /// Returns the counts of the offers of other names.
     pub(crate) fn others(&self) -> Others
         ensures { result ≡ self.now.others }
     {

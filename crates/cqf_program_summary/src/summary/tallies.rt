@@ -1,4 +1,4 @@
-//! How frames fare on their way to a listener, counted.
+//! Counts of how frames on a path to a listener end.
 ghost use Rattle.std.specs.Prelude.{ℕ, ◌≡◌, ◌+◌, ◌≤◌, ◌<◌, Some, count_by, if◌then◌else◌, length};
 ghost use Rattle.cqf_program_runs.specs.Deliveries.{fate_of};
 ghost use Rattle.cqf_program_summary.specs.Summary.Counting.{TakenWithin, TallyWithin, counted, taken_more, taken_with, tally_with};
@@ -7,31 +7,31 @@ ghost use Rattle.cqf_program_summary.specs.Summary.Tallies.{is_dropped, mean_of,
 use cqf_program_runs::{Delivery, Fate, latency};
 use cqf_units::Nanos;
 
-/// How long the frames took that came, one at least, in nanoseconds from a frame's offer to its being whole.
+/// The latencies of the frames that arrived, at least one, in nanoseconds from a frame's offer until it is whole.
 #[derive(Clone, Copy, Debug, PartialEq, Eq)]
 pub struct LatencySummary {
     pub least: u64,
     pub most: u64,
-    /// That of all of them together: some 3,372,000,000 have room.
+    /// The sum of all of them. There is room for some 3,372,000,000.
     pub total: u128,
-    /// How many came behind the first.
+    /// The number of frames that arrived after the first.
     pub behind: u32,
 }
 
 /// How deliveries to a listener end.
 #[derive(Clone, Copy, Debug, PartialEq, Eq)]
 pub struct Tally {
-    /// Those that are whole there in time, or without a deadline.
+    /// Those that are whole there, in time or without a deadline.
     pub delivered: u32,
-    /// Those that are whole there past their deadline.
+    /// Those that are whole there after their deadline.
     pub late: u32,
-    /// Those that haven't started on their last link within the run.
+    /// Those that don't start on their last link within the run.
     pub under_way: u32,
-    /// What those took that are whole there, late ones too; none where there are none.
+    /// The latencies of those that are whole there, late ones too; `None` if there are none.
     pub taken: Option<LatencySummary>,
 }
 
-/// What frames took, with one more.
+/// Adds a latency.
 fn taken_more(taken: Option<LatencySummary>, latency: u64) -> LatencySummary
     requires { TakenWithin 3372220214 taken }
     ensures taken { result ≡ taken_more latency taken }
@@ -53,7 +53,7 @@ fn taken_more(taken: Option<LatencySummary>, latency: u64) -> LatencySummary
     }
 }
 
-/// What frames took, with one more where it is whole.
+/// Adds the latency of a frame, if it is whole.
 fn taken_with(
     taken: Option<LatencySummary>,
     at: Nanos,
@@ -70,7 +70,7 @@ fn taken_with(
 }
 
 impl LatencySummary {
-    /// The mean, rounded down.
+    /// Returns the mean, rounded down.
     pub fn mean(self) -> u128
         ensures { result ≡ mean_of self }
     {
@@ -79,7 +79,7 @@ impl LatencySummary {
 }
 
 impl Tally {
-    /// That of no deliveries.
+    /// Returns the tally of no deliveries.
     pub(crate) fn none() -> Tally
         ensures { result ≡ no_tally }
     {
@@ -91,7 +91,7 @@ impl Tally {
         }
     }
 
-    /// The same with an end more.
+    /// Counts one more end.
     fn counted(self, ending: Fate) -> Tally
         requires { TallyWithin 3372220214 self }
         ensures { result ≡ counted ending self }
@@ -113,7 +113,7 @@ impl Tally {
         }
     }
 
-    /// The same with a delivery more, of a frame that is offered at an instant and whole at another, where it is.
+    /// Adds a delivery of a frame that is offered at an instant and, if `whole` is given, whole at that one.
     pub(crate) fn with(self, ending: Fate, at: Nanos, whole: Option<Nanos>) -> Tally
         requires { TallyWithin 3372220214 self }
         ensures tally { result ≡ tally_with ending at.0 whole self }
@@ -137,7 +137,7 @@ fn is_dropped(delivery: &Delivery) -> bool
     }
 }
 
-/// How many drops a delivery is: one or none.
+/// Returns how many drops a delivery is: one or none.
 pub(crate) fn drops_of(delivery: &Delivery) -> u32
     ensures drops { result ≡ (if is_dropped (fate_of delivery.now) then 1 else 0) }
     ensures one { result ≤ 1 }
@@ -145,7 +145,7 @@ pub(crate) fn drops_of(delivery: &Delivery) -> u32
     if is_dropped(delivery) { 1 } else { 0 }
 }
 
-/// How many deliveries are drops.
+/// Returns how many deliveries are drops.
 pub(crate) fn count_dropped(deliveries: &[Delivery]) -> usize
     ensures counts { result ≡ count_by (λ x. is_dropped (fate_of x)) deliveries.now }
     ensures few { result ≤ length deliveries.now }

@@ -1,4 +1,4 @@
--- Nothing was given yet, and once it was tried, there is a kind of error for which the reader may fail.
+-- Nothing was read yet; and after a try, there is a kind of error with which the reader may fail.
 use Rattle.std.proofs.Common.{◌≡◌, ◌<◌, length}
 use Rattle.std.specs.Io.KnownBytes.{Keeps}
 use Rattle.cqf_press.specs.Kinds.{SomeKind}

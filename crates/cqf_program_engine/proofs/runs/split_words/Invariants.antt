@@ -1,4 +1,4 @@
--- The words so far stand in the list.
+-- The words so far are in the list.
 use Rattle.std.proofs.Common.{◌≡◌}
 use Rattle.cqf_program_engine.proofs.runs.split_words.Given as goal
 

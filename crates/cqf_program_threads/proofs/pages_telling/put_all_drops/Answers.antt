@@ -9,14 +9,14 @@ use Rattle.cqf_program_threads.proofs.PageLines.{drops_more}
 use Rattle.cqf_program_threads.proofs.Places.{first_drop_places}
 use Rattle.cqf_program_threads.proofs.pages_telling.put_all_drops.Goals as goal
 
--- at first no line is put, and each place is the begin of its bridge's drops
+-- at first no line is put, and each index is that of its bridge's first drop
 pub loop-cycle-init : goal.loop-cycle-init
 loop-cycle-init g c = record {
   places = first_drop_places c.args.book.now.domain c.args.book.now.tapes _ (subst IsAccepted c.domain-domain.ensures c.know.ensures.accepted) refl;
   puts = Puts-nothing _ refl;
 }
 
--- the next cycle's are put behind
+-- the next cycle's lines are appended
 pub loop-cycle-preserved : goal.loop-cycle-preserved
 loop-cycle-preserved g c =
     let book = c.args.book.now in

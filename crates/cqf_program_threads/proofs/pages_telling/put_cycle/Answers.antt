@@ -22,7 +22,7 @@ marks-marks-requires-clause-inside g c =
 pub marks-marks-requires-clause-by_number : goal.marks-marks-requires-clause-by_number
 marks-marks-requires-clause-by_number g c = by_number c.args.part.domain.now c.args.part.tapes.now c.requires.tapes
 
--- the link's lines are put behind, and its place is behind the cycle
+-- the link's lines are appended, and its index is after the cycle
 pub loop-link-preserved : goal.loop-link-preserved
 loop-link-preserved g c =
     let part = c.args.part in

@@ -4,7 +4,7 @@ use Rattle.cqf_tape.specs.Tapes.{told_on_links}
 use Rattle.cqf_program_threads.proofs.Places.{AreBehindLinks}
 use Rattle.cqf_program_threads.proofs.pages_telling.put_cycle.Given as goal
 
--- the lines of the links so far are put, and their places are behind the cycle
+-- the lines of the links so far are put, and their indexes are after the cycle
 abbrev pub invariant-loop-link : goal.invariant-loop-link
 invariant-loop-link g l = record {
   places : AreBehindLinks l.part.domain.now l.part.kind l.part.tapes.now l.fn.cycle.0 l.link l.places;

@@ -14,7 +14,7 @@ loop-bridge-init g c = record {
   puts = Puts-nothing _ refl;
 }
 
--- the next bridge's are put behind, and its place is behind the cycle
+-- the next bridge's lines are appended, and its index is after the cycle
 pub loop-bridge-preserved : goal.loop-bridge-preserved
 loop-bridge-preserved g c =
     let d = c.args.domain.now in

@@ -4,7 +4,7 @@ use Rattle.cqf_tape.specs.Tapes.{drops_at_bridges}
 use Rattle.cqf_program_threads.proofs.Places.{AreBehindBridges}
 use Rattle.cqf_program_threads.proofs.pages_telling.put_drops_of_cycle.Given as goal
 
--- the lines of the bridges so far are put, and their places are behind the cycle
+-- the lines of the bridges so far are put, and their indexes are after the cycle
 abbrev pub invariant-loop-bridge : goal.invariant-loop-bridge
 invariant-loop-bridge g l = record {
   places : AreBehindBridges l.domain l.tapes l.fn.cycle.0 l.bridge l.places;

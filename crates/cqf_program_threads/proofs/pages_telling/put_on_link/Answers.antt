@@ -6,7 +6,7 @@ use Rattle.cqf_tape.specs.Tapes.{started_in, told_on}
 use Rattle.cqf_program_threads.proofs.Marks.{marks_more, told_of_own}
 use Rattle.cqf_program_threads.proofs.pages_telling.put_on_link.Goals as goal
 
--- the next mark's line is put behind
+-- the next mark's line is appended
 pub loop-mark-preserved : goal.loop-mark-preserved
 loop-mark-preserved g c =
     let part = c.args.part in
@@ -18,7 +18,7 @@ loop-mark-preserved g c =
     (marks_more part.what.now part.domain.now started own k _ c.started_on.result c.loop-mark-test.true c.started_on.ensures)
     (Puts-then (lines (map started (take k own))) (lines (c.started_on.result ∷ [])) c.loop-mark.invariant c.put_starts.ensures)
 
--- those of the cycle are told
+-- the lines of the cycle's marks are put
 pub returns-clause-puts : goal.returns-clause-puts
 returns-clause-puts g c =
     let part = c.args.part in

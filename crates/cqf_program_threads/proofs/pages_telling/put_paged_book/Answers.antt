@@ -5,7 +5,7 @@ use Rattle.cqf_report.specs.Written.{line_of_fields}
 use Rattle.cqf_program_threads.specs.PagedBooks.{contents_told}
 use Rattle.cqf_program_threads.proofs.pages_telling.put_paged_book.Goals as goal
 
--- the parts of a book's text are put, one behind the other
+-- the parts of a book's text are put, one after the other
 pub returns : goal.returns
 returns g c =
     let d = c.args.book.now.domain in

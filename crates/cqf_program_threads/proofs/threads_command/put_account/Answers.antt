@@ -7,7 +7,7 @@ use Rattle.cqf_press.specs.Stops.{line_of}
 use Rattle.cqf_program_threads.specs.PagedBooks.{contents_told}
 use Rattle.cqf_program_threads.proofs.threads_command.put_account.Goals as goal
 
--- the history is put, and the rest behind it
+-- the history is put, and the rest after it
 pub returns : goal.returns
 returns g c =
     let book = c.args.book.now in

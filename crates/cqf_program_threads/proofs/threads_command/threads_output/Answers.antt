@@ -5,13 +5,13 @@ use Rattle.cqf_worker.specs.Account.{entries_of}
 use Rattle.cqf_program_threads.proofs.Accounts.{EndsThreads-memory, IsThreadsOutput-written, may_be_told}
 use Rattle.cqf_program_threads.proofs.threads_command.threads_output.Goals as goal
 
--- the tapes may be told
+-- the tapes can be written
 pub new-book-requires-clause-tapes : goal.new-book-requires-clause-tapes
 new-book-requires-clause-tapes g c =
     may_be_told c.args.limits c.args.cycles c.args.input.now c.in-Ok-conduct_opened.ran.0 c.in-Ok-conduct_opened.ran.1 c.in-Ok-conduct_opened.ensures.ok
     c.tapes_tell_the_book.ensures c.know.ensures.accepted
 
--- and they tell the output
+-- and yield the output
 pub returns-in-Ok-new-clause-ok : goal.returns-in-Ok-new-clause-ok
 returns-in-Ok-new-clause-ok g c =
     let account = c.in-Ok-conduct_opened.ran.1 in
@@ -19,7 +19,7 @@ returns-in-Ok-new-clause-ok g c =
     c.tapes_tell_the_book.ensures c.know.ensures.accepted _
     (ap (λ (book : ByTapes). run_text book.domain (entries_of account.history) (contents_told book)) c.new-book.ensures)
 
--- without memory for a sheet nothing is told
+-- without memory for a sheet nothing is written
 pub returns-in-Err-new-clause-err : goal.returns-in-Err-new-clause-err
 returns-in-Err-new-clause-err g c =
     EndsThreads-memory c.args.limits c.args.cycles c.args.input.now c.memory.result c.memory.ensures.status c.memory.ensures.text

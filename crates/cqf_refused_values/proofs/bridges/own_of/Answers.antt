@@ -4,7 +4,7 @@ use Rattle.cqf_model.specs.Run.{AreOffers}
 use Rattle.cqf_laws_cycle.specs.Gathered.{offered_for}
 use Rattle.cqf_refused_values.proofs.bridges.own_of.Goals as goal
 
--- the offers may be handed to the bridge's domain
+-- the offers are those of the bridge's domain
 pub returns-in-Ok-clause-offers : goal.returns-in-Ok-clause-offers
 returns-in-Ok-clause-offers c =
     subst (λ (d : Domain). AreOffers d c.args.offers.now) c.domain.ensures.value (c.are_offers.ensures c.if-not-are_offers.false)

@@ -1,4 +1,4 @@
--- The ways so far are the first to the stations so far.
+-- The paths so far are the first to the stations so far.
 use Rattle.std.proofs.Common.{map, take}
 use Rattle.cqf_model.specs.declared.topology.Node.TheVariants.{Bridge}
 use Rattle.cqf_sketch.specs.Listeners.{AreFirstWays}

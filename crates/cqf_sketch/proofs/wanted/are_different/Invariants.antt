@@ -1,4 +1,4 @@
--- The first name that stood earlier is among the rest.
+-- The first name that occurred earlier is among the rest.
 use Rattle.std.proofs.Common.{◌≡◌, [], drop, take}
 use Rattle.cqf_topology.specs.DomainText.{first_taken}
 use Rattle.cqf_sketch.proofs.wanted.are_different.Given as goal

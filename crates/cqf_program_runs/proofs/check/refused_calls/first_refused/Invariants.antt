@@ -1,4 +1,4 @@
--- The first refused call is that of the entries that are left, which begin with the next number.
+-- The first refused call is that of the remaining entries, numbered from the next number on.
 use Rattle.std.proofs.Common.{◌≡◌, ◌+◌, ◌≤◌, drop}
 use Rattle.cqf_program_runs.specs.Check.RefusedInLog.{refused_from}
 use Rattle.cqf_program_runs.proofs.check.refused_calls.first_refused.Given as goal

@@ -1,4 +1,4 @@
--- So many slots are there, in which nothing is kept.
+-- The slots so far are there, and nothing is kept in them.
 use Rattle.cqf_program_runs.specs.Deliveries.UnderWay.{AreEmptySlots, slots_of}
 use Rattle.cqf_program_runs.proofs.deliveries.rooms.empty_slots.Given as goal
 

@@ -1,4 +1,4 @@
--- The most of the offers so far, and it is no more than there are.
+-- The most of the offers so far; it is at most the number of offers.
 use Rattle.std.proofs.Common.{◌+◌, ◌<◌, ◌≤◌}
 use Rattle.cqf_program_runs.proofs.InOrder.{EnoughBelow}
 use Rattle.cqf_program_runs.proofs.deliveries.rooms.most_at_once.Given as goal

@@ -1,4 +1,4 @@
--- The text is told of the scenario's history and of its book.
+-- The text is that of the scenario's history and of its book.
 use Rattle.std.proofs.Common.{List, ap, refl}
 use Rattle.cqf_model.specs.History.{Recorded}
 use Rattle.cqf_program_scenario.specs.Logged.{entries_in}

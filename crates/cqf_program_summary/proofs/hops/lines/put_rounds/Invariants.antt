@@ -1,4 +1,4 @@
--- The rounds so far are told.
+-- The rounds so far are written.
 use Rattle.std.proofs.Common.{List}
 use Rattle.cqf_model.specs.declared.frames.Started.{Started}
 use Rattle.cqf_press.specs.Press.{Puts}

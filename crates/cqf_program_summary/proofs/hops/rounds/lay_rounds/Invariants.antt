@@ -1,4 +1,4 @@
--- The rounds so far go on from one another, and more offers are in them in each step.
+-- The rounds so far follow one another, and each step adds offers.
 use Rattle.std.proofs.Common.{◌-◌, length}
 use Rattle.cqf_program_summary.proofs.Laid.{AreSoFar}
 use Rattle.cqf_program_summary.proofs.hops.rounds.lay_rounds.Given as goal

@@ -1,4 +1,4 @@
--- The drops so far are gone through, and the room is no less.
+-- The drops so far are processed, and the room hasn't shrunk.
 use Rattle.std.proofs.Common.{◌≡◌, ◌≤◌, ◌++◌, take}
 use Rattle.std.specs.Prelude.{vec_capacity}
 use Rattle.cqf_program_summary.specs.Hops.Rounds.{dropped_legs, source_of}

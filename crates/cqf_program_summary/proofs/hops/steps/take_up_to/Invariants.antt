@@ -1,4 +1,4 @@
--- The legs so far are gone through, and the room is no less.
+-- The legs so far are processed, and the room hasn't shrunk.
 use Rattle.std.proofs.Common.{◌≡◌, ◌≤◌, take}
 use Rattle.std.specs.Prelude.{vec_capacity}
 use Rattle.cqf_program_summary.specs.Hops.Rounds.{legs_up_to}

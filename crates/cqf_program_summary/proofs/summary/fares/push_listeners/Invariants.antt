@@ -1,4 +1,4 @@
--- The ways to the listeners so far stand behind those before them.
+-- The paths to the listeners so far are appended.
 use Rattle.std.proofs.Common.{◌≡◌, ◌++◌, Some, take}
 use Rattle.cqf_program_summary.specs.Summary.Listing.{cost_beside}
 use Rattle.cqf_program_summary.proofs.Found.{ways_among}

@@ -8,7 +8,7 @@ use Rattle.cqf_program_runs.specs.Run.Output.{run_text}
 use Rattle.cqf_program_threads.specs.AccountTold.{text_of_account}
 use Rattle.cqf_program_threads.proofs.threads_outputs.ThreadsOutput.tell.Goals as goal
 
--- what was put between opening and closing was told
+-- what was put between opening and closing was written
 pub returns : goal.returns
 returns g c =
     let text = text_of_account c.args.self in

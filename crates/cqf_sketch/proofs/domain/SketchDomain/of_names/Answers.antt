@@ -20,7 +20,7 @@ invariant_of-result c =
     (passed_is_sketch text edges names.readable (passes_sketch text edges (sketch_with text edges) checked.passed)
     (all_joined text.bridges text.stations 0 text.links edges names.readable.times_are_read checked.joined_are) names.bridges_apart names.stations_apart)
 
--- no link of the plant stands twice
+-- no link of the plan occurs twice
 pub new-requires : goal.new-requires
 new-requires c =
     let text = c.args.draft.now in

@@ -1,4 +1,4 @@
--- The starts of the cycles told are noted.
+-- The starts of the cycles so far are noted.
 use Rattle.std.proofs.Common.{◌≡◌, ◌+◌, ◌-◌, ◌<◌, ◌≤◌, ℕ, length}
 use Rattle.cqf_program_runs.specs.Deliveries.UnderWay.{NotesTold}
 use Rattle.cqf_program_runs.proofs.deliveries.under_way.UnderWay.tell_up_to.Given as goal

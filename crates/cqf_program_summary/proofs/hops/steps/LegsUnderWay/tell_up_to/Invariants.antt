@@ -1,4 +1,4 @@
--- The cycles so far are told, or all, and the room is no less.
+-- The starts of the cycles so far are returned, or of all, and the room hasn't shrunk.
 use Rattle.cqf_program_summary.specs.Hops.Rounds.{KeepsRoom, TellsKept, source_of}
 use Rattle.cqf_program_summary.proofs.hops.steps.LegsUnderWay.tell_up_to.Given as goal
 

@@ -23,7 +23,7 @@ fares_of-requires-clause-listed c =
     subst (λ (ls : List ListedStream). All (IsOfStream d) ls) (sym c.as_slice.ensures.value)
     (listed_are d (map asked_paced c.args.requests.now) c.in_ok-listing.listing c.in_ok-listing.ensures)
 
--- what is told of streams has their names
+-- the counts of streams have their names
 names_of : (d : Domain) (cost : Asked → ℕ → ℕ) (due : List ℕ → Option ℕ) (them : List Asked) →
     map (λ (a : Asked). a.name) them ≡ map (λ (f : Fare). f.name) (map (fare_of d cost due [] []) them)
 names_of d cost due [] = refl
