@@ -27,7 +27,7 @@ returns c =
       entered = answer.1;
     }
 
--- it is placed, where it is granted
+-- it is placed if it is granted
 pub returns-in-Ok-clause-answered : goal.returns-in-Ok-clause-answered
 returns-in-Ok-clause-answered c =
     (granted_answer c.args.admission.now c.admit_paced.new.self (asked_paced c.args.request) c.args.domain.now c.requires.domain c.in-Ok.field-0
