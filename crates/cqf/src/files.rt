@@ -33,7 +33,7 @@ struct FilesInput<'g> {
     texts: &'g [&'g [u8]],
 }
 
-/// Returns the end if the file of a name can't be read, with the system's words for the error; or the end for want of memory, which may be
+/// Returns the end if the file of a name can't be read, with the system's words for the error; or the end for lack of memory, which may be
 /// the error.
 fn stop_of_error(alloc: Global, name: &str, error: &io::Error) -> Stop {
     if error.kind() == ErrorKind::OutOfMemory {

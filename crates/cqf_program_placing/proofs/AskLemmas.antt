@@ -79,7 +79,7 @@ module _ (old new : Administration) (asked : Asked) (d : Domain) (of : old.domai
   refused_answer refused answers is =
       (ap (answered d asked) (sym (refused_due refused answers is)), entered_so (Err refused) answers is)
 
--- if the answer is for want of room, no earlier refusal of another kind was due
+-- if the answer is for lack of room, no earlier refusal of another kind was due
 skip_if : (l left : ℕ) (b : Bool) (refused : Refused) (later : Option Refused) → refused ≢ BudgetShort l left →
     or_else (refused_if b refused) later ≡ Some (BudgetShort l left) → later ≡ Some (BudgetShort l left)
 skip_if l left true refused later other e = absurd (other cc)

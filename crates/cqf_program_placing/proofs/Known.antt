@@ -1,4 +1,4 @@
--- What links have left stays known while streams are placed: only what a stream's own links have left is computed anew.
+-- What links have left stays known while streams are placed: only what a stream's own links have left is recomputed.
 use Rattle.std.proofs.Common.{◌≡◌, ◌≢◌, ◌∙◌, ◌+◌, ◌-◌, ◌<◌, ◌≤◌, ◌⊎◌, ◌++◌, ◌==◌, ◌&&◌, ℕ, All, Bool, true, false, List, [], ◌∷◌, Option, Some, None, Contains, length, fold, get_or, map, max, set, take, ap, arith, inl, inr, refl, subst, subst₂, sym}
 use Rattle.std.specs.Prelude.{IsSome, if◌then◌else◌, is_none, nat_le, nat_lt, not, position, sum_by}
 use Rattle.std.specs.List.{flat_map, list_any}
@@ -32,7 +32,7 @@ use Rattle.cqf_program_placing.specs.Known.{AreKnown, AreRenewed, IsFilled, IsKn
 use Rattle.cqf_program_placing.specs.Turns.{IsChosenBy, IsGoodEvery, hop_at, left_emptiest, lefts_on, pace_by}
 use Rattle.cqf_program_placing.proofs.RouteLemmas.{left_there, lefts_many}
 
--- ---- computed anew
+-- ---- recomputed
 
 -- for no link so far
 pub none_renewed : (now : ℕ → ℕ) (before : List ℕ) → AreRenewed now [] before before
@@ -79,7 +79,7 @@ left_alike d before after every l alike =
     ap (λ (f : ℕ → ℕ). fold max 0 (each_below (λ phase. (budget d l
     - fold max 0 (each_below (λ cycle. if is_turn (pace_by every phase) 0 cycle then f cycle ∷ [] else []) most_every)) ∷ []) every)) costs
 
--- after it is computed anew it is known again
+-- after it is recomputed it is known again
 pub known_again : (d : Domain) (before after : List Row) (links : List ℕ) (old new : Emptiest) → new.every ≡ old.every →
     AreRenewed (left_emptiest d after old.every) links old.left.items new.left.items → IsKnown d before old → TakesNothingOff before after links →
     IsKnown d after new
@@ -119,12 +119,12 @@ known_alike d before after rooms known off = λ k e within.
           (λ l below. ap (λ (n : ℕ). n ∷ []) (sym (left_alike d before after every l (off l (λ c. contains_none l c)))));
     }
 
--- one is computed anew
+-- one is recomputed
 pub record IsRenewed (d : Domain) (rows : List Row) (links : List ℕ) (old new : Emptiest) : Type 0 where
   pub every : new.every ≡ old.every
   pub left : AreRenewed (left_emptiest d rows old.every) links old.left.items new.left.items
 
--- those before an index are computed anew, and the others are as before
+-- those before an index are recomputed, and the others are as before
 pub record AreSoFar (d : Domain) (rows : List Row) (links : List ℕ) (k : ℕ) (old now : List Emptiest) : Type 0 where
   pub as_many : length now ≡ length old
   pub done : (i : ℕ) (none : Emptiest) → i < k → i < length old → IsRenewed d rows links (get_or old i none) (get_or now i none)

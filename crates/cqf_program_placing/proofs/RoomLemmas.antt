@@ -70,7 +70,7 @@ module _ (d : Domain) (rows : List Row) (name : List ℕ) (octets every phase : 
   abbrev lacks_room : ℕ → Refused
   lacks_room l = refused.BudgetShort l (left_on d rows (tree_of d paths) (pace_by every phase) l)
 
-  -- if its branches are those of a tree, and it has a pace, it is refused for their hops, for want of room, or not at all
+  -- if its branches are those of a tree, and it has a pace, it is refused for their hops, for lack of room, or not at all
   refused_on_tree : refusal_of d rows (asked_with name octets every phase paths)
       ≡ or_else (refused_if (nat_lt (hops_within d.limits) (length (tree_of d paths))) refused.TooManyHops)
       (refused_at lacks_room (short_link d rows (cost_of octets) (pace_by every phase) (tree_of d paths)))
@@ -101,7 +101,7 @@ module _ (d : Domain) (rows : List Row) (name : List ℕ) (octets every phase : 
       is ∙ ap (answered d (asked_with name octets every phase paths))
       (refused_on_tree ∙ ap (λ b. or_else (refused_if b refused.TooManyHops) short) (lt-ltb (hops_within d.limits) (length (tree_of d paths)) wide))
 
-  -- else it is refused for want of room, or not at all
+  -- else it is refused for lack of room, or not at all
   refused_for_room : AreFew d paths → refusal_of d rows (asked_with name octets every phase paths)
       ≡ refused_at lacks_room (short_link d rows (cost_of octets) (pace_by every phase) (tree_of d paths))
   refused_for_room few =

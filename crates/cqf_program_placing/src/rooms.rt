@@ -69,7 +69,7 @@ struct Emptiest {
     left: Vec<u32>,
 }
 
-/// Computes anew what the links of a tree's hops have left.
+/// Recomputes what the links of a tree's hops have left.
 fn renew_lefts(emptiest: &mut Emptiest, domain: &Domain, admission: &Admission, tree: &[Hop])
     requires domain { admission.now.domain ≡ domain.now }
     requires inside { All (λ (hop : AHop). hop.link < length domain.now.links) tree.now }
@@ -85,7 +85,7 @@ fn renew_lefts(emptiest: &mut Emptiest, domain: &Domain, admission: &Admission, 
 }
 
 /// What each link has left with the streams that are placed, in octets a cycle, in its emptiest phase of `every`, for each `every` that was
-/// requested so far. When a stream is placed, only what its links have left is computed anew.
+/// requested so far. When a stream is placed, only what its links have left is recomputed.
 #[derive(Debug, Drop)]
 pub(crate) struct Rooms {
     known: Vec<Emptiest>,
@@ -136,7 +136,7 @@ impl Rooms {
         self.known[place].left.as_slice()
     }
 
-    /// Computes anew what the links of a tree's hops have left, after a stream was placed along them.
+    /// Recomputes what the links of a tree's hops have left, after a stream was placed along them.
     pub(crate) fn renew(&mut self, domain: &Domain, admission: &Admission, tree: &[Hop])
         requires domain { admission.now.domain ≡ domain.now }
         requires inside { All (λ (hop : AHop). hop.link < length domain.now.links) tree.now }

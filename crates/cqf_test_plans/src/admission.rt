@@ -66,7 +66,7 @@ const OVER_LINE: &[Case] = &[
             Step::Held(&[15_000, 15_000, 15_000]),
         ],
     ),
-    // a withdrawn stream lets go when its last frame has left
+    // a withdrawn stream is held until its last frame has left
     (
         FULL,
         &[
