@@ -20,10 +20,10 @@ use std::process::ExitCode;
 use std::sync::Wait;
 use std::thread::Threads;
 
-/// Room for each line that the engine tells of a fault, had before it runs.
+/// Room for each line that the engine prints about a fault, allocated before it runs.
 const ROOM: usize = 65_536;
 
-/// What a run with files is given: its words, the job that they mean, the limits within which plants are read, and the files' texts.
+/// The input of a run with files: its words, the job that they mean, the limits within which plans are read, and the files' texts.
 #[derive(Clone, Copy)]
 struct FilesInput<'g> {
     alloc: Global,
@@ -33,8 +33,8 @@ struct FilesInput<'g> {
     texts: &'g [&'g [u8]],
 }
 
-/// The end where the file of a name can't be read, with the words that the system has for the error; or for want of memory, which the error
-/// may be.
+/// Returns the end if the file of a name can't be read, with the system's words for the error; or the end for lack of memory, which may be
+/// the error.
 fn stop_of_error(alloc: Global, name: &str, error: &io::Error) -> Stop {
     if error.kind() == ErrorKind::OutOfMemory {
         return Stop::memory(alloc);
@@ -45,7 +45,7 @@ fn stop_of_error(alloc: Global, name: &str, error: &io::Error) -> Stop {
     }
 }
 
-/// The end where a read of the file of a name failed: the next tells why, if it fails too.
+/// Returns the end after a read of the file of a name failed: the next read says why, if it fails too.
 fn stop_of_read(alloc: Global, name: &str, file: &mut File) -> Stop {
     match file.read(&mut [0]) {
         Ok(_) => stop_of_file(alloc, name, "a read failed"),
@@ -53,7 +53,7 @@ fn stop_of_read(alloc: Global, name: &str, file: &mut File) -> Stop {
     }
 }
 
-/// Reads the file of a name, as one text more. `Err` with status 4 where it can't be opened or read.
+/// Reads the file of a name, as one more text. Returns `Err` with status 4 if it can't be opened or read.
 fn read_file(
     rt: &HostRuntime,
     alloc: Global,
@@ -76,7 +76,7 @@ fn read_file(
     }
 }
 
-/// Reads standard input, as one text more.
+/// Reads standard input, as one more text.
 fn read_standard(
     rt: &HostRuntime,
     alloc: Global,
@@ -93,8 +93,8 @@ fn read_standard(
     texts.read(alloc, most, &mut input)
 }
 
-/// Reads the files in their order: at most `most` bytes of all files together. `Err` with status 1 if they have more, and with status 4 at the
-/// first file that can't be read.
+/// Reads the files in their order: at most `most` bytes of all files together. Returns `Err` with status 1 if they have more, and with
+/// status 4 at the first file that can't be read.
 fn read_files(rt: &HostRuntime, alloc: Global, most: usize, names: &[&str]) -> Result<Texts, Stop>
     requires { most < 2 ^ 63 }
     ensures { IfOk result (λ texts. length texts.bytes ≤ most) }
@@ -110,13 +110,13 @@ fn read_files(rt: &HostRuntime, alloc: Global, most: usize, names: &[&str]) -> R
     Ok(texts)
 }
 
-/// The end of a run before it has begun.
+/// Ends a run before it has begun.
 pub(crate) fn end(rt: &HostRuntime, stop: &Stop) -> ExitCode {
     let (mut output, mut faults) = (Told::new(rt.stdout()), Told::new(rt.stderr()));
     ExitCode::from(tell(stop, &mut output, &mut faults))
 }
 
-/// The files that the words name, with their texts.
+/// Returns the files that the words name, with their texts.
 fn sources_of<'t>(
     alloc: Global,
     names: &[&'t str],
@@ -132,7 +132,7 @@ fn sources_of<'t>(
     Ok(sources)
 }
 
-/// The cycle times that the words of `plan` give, in nanoseconds: none of other words. `None` for want of memory.
+/// Returns the cycle times that the words of `plan` give, in nanoseconds; none for other words. Returns `None` if an allocation fails.
 fn cycle_times_of(alloc: Global, job: &Job) -> Option<Vec<u32>> {
     match *job {
         Job::Plan {
@@ -143,7 +143,7 @@ fn cycle_times_of(alloc: Global, job: &Job) -> Option<Vec<u32>> {
     }
 }
 
-/// Writes what explains the line of a refusal: nothing where there is nothing to say, and where memory lacks.
+/// Writes the explanation of the line of a refusal; nothing if there is nothing to say, or if memory lacks.
 fn explain(rt: &HostRuntime, given: &FilesInput<'_>, line: &[u8]) {
     let Some(command) = given.operands.words().first() else {
         return;
@@ -167,7 +167,7 @@ fn explain(rt: &HostRuntime, given: &FilesInput<'_>, line: &[u8]) {
     }
 }
 
-/// Writes what explains the line `cqf: parts` of a standard input that is empty, of words that name no files.
+/// Writes the explanation of the line `cqf: parts` for a standard input that is empty, for words that name no files.
 pub(crate) fn explain_nothing<F: Sink>(alloc: Global, words: &[&str], faults: &mut Told<F>) {
     let Some(command) = words.first() else {
         return;
@@ -194,8 +194,8 @@ pub(crate) fn explain_nothing<F: Sink>(alloc: Global, words: &[&str], faults: &m
     }
 }
 
-/// The notes on a plant, if the run doesn't refuse it; none if memory lacks. They are made before the run, which asks for no memory once its
-/// output has begun.
+/// Returns the notes on a plan, if the run doesn't refuse it; none if memory lacks. They are made before the run, which allocates no memory
+/// once its output has begun.
 fn notes_of(given: &FilesInput<'_>) -> Option<Vec<u8>> {
     let command = given.operands.words().first()?;
     let Ok(sources) = sources_of(given.alloc, given.operands.files(), given.texts) else {
@@ -207,7 +207,7 @@ fn notes_of(given: &FilesInput<'_>) -> Option<Vec<u8>> {
     }
 }
 
-/// Whether a run that ended with this status and line has accepted its plant: it was done, or says how deliveries or latencies are.
+/// Returns whether a run that ended with this status and line has accepted its plan: it was done, or says how deliveries or latencies are.
 fn has_accepted(status: u8, line: &[u8]) -> bool {
     status == DONE || line.starts_with(b"cqf: check: ") || line.starts_with(b"cqf: latency: ")
 }
@@ -219,7 +219,8 @@ fn write_notes(rt: &HostRuntime, notes: &Option<Vec<u8>>) {
     }
 }
 
-/// The engine's run of what the files came to, and the line that it tells of a fault. The error is want of memory before it has begun.
+/// Runs the engine on the input that is made from the files, and returns its status and the line that it prints about a fault. Returns an
+/// error if an allocation fails before the run has begun.
 fn run(
     rt: &HostRuntime,
     threads: &(impl Threads + Wait + Sync),
@@ -233,8 +234,8 @@ fn run(
     Ok((status, faults))
 }
 
-/// What is told of a run that ended with this status: a refusal, behind which nothing was written, with the number of the line of a file of
-/// calls. The error is want of memory.
+/// Returns the line about a run that ended with this status. In a refusal, after which no output was written, a line's number in the script
+/// is replaced by that in the file of calls. Returns an error if an allocation fails.
 fn line_told(
     alloc: Global,
     front: &Front,
@@ -249,7 +250,7 @@ fn line_told(
     }
 }
 
-/// Runs what the files came to, and explains a refusal.
+/// Runs the input that is made from the files, and explains a refusal.
 fn run_front(
     rt: &HostRuntime,
     threads: &(impl Threads + Wait + Sync),
@@ -281,8 +282,8 @@ fn run_front(
     ExitCode::from(status)
 }
 
-/// The run of words that name files. Its line of a refusal is the engine's, but that a line of a file of calls has the file's number; behind
-/// it stands what explains it.
+/// Runs words that name files. Its line of a refusal is the engine's, except that a line of a file of calls has the file's number; the
+/// explanation follows it.
 pub(crate) fn run_files(
     rt: &HostRuntime,
     threads: &(impl Threads + Wait + Sync),
@@ -318,7 +319,7 @@ pub(crate) fn run_files(
     }
 }
 
-/// The same, where the files were read: there are as many texts as names.
+/// The same, after the files were read: there are as many texts as names.
 fn run_texts(
     rt: &HostRuntime,
     threads: &(impl Threads + Wait + Sync),
@@ -334,7 +335,7 @@ fn run_texts(
     }
 }
 
-/// Tells the end before the engine has run, and explains a refusal.
+/// Prints the end before the engine has run, and explains a refusal.
 fn refuse(rt: &HostRuntime, given: &FilesInput<'_>, stop: &Stop) -> ExitCode {
     let ended = end(rt, stop);
     if stop.status == REFUSED {
@@ -343,7 +344,7 @@ fn refuse(rt: &HostRuntime, given: &FilesInput<'_>, stop: &Stop) -> ExitCode {
     ended
 }
 
-/// The same where the line of a script may be one of a file of calls.
+/// The same if the line of a script may be one of a file of calls.
 fn refuse_made(rt: &HostRuntime, given: &FilesInput<'_>, front: &Front, stop: Stop) -> ExitCode {
     let Stop { status, text } = stop;
     match line_told(given.alloc, front, status, text) {
@@ -352,7 +353,7 @@ fn refuse_made(rt: &HostRuntime, given: &FilesInput<'_>, front: &Front, stop: St
     }
 }
 
-/// Runs what the files came to, with the calls and the offers that are made where they aren't given.
+/// Runs the input that is made from the files, with calls and offers made if they aren't given.
 fn run_made(
     rt: &HostRuntime,
     threads: &(impl Threads + Wait + Sync),

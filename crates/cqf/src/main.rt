@@ -1,9 +1,9 @@
-//! The program of cyclic queuing and forwarding: `main` reads the files that its words name, or standard input, and hands the input that they make
-//! to the engine (`cqf_program_engine`). Behind the line of a refusal it puts what explains it.
+//! The program of cyclic queuing and forwarding: `main` reads the files that its words name, or standard input, and passes the input that
+//! they make to the engine (`cqf_program_engine`). The line of a refusal is followed by its explanation.
 //!
 //! `cqf --help` lists the commands, and the help of each says what it reads and writes.
 //!
-//! Without a word after the program's name the words stand in the first line of the input:
+//! If no word follows the program's name, the words are in the first line of the input:
 //!
 //! ```text
 //! port --until 1000000
@@ -39,8 +39,8 @@ use std::sync::Wait;
 use std::thread::Threads;
 use terminal::{hint_of_words, words_at};
 
-/// The environment with the words behind the program's name alone. The name may be anything, bytes that are no text too, since
-/// nobody looks at it.
+/// The environment with only the words after the program's name. The name may be anything, even bytes that aren't a text, since nothing
+/// reads it.
 #[derive(Drop)]
 struct BehindName<'r, R> {
     rt: &'r R,
@@ -63,7 +63,7 @@ impl<R: Env> Env for BehindName<'_, R> {
     }
 }
 
-/// The words that the process was started with, without the program's name.
+/// Returns the words with which the process was started, without the program's name.
 fn arguments<R: Env>(rt: &R, alloc: Global) -> io::Result<Vec<String>> {
     let mut words = Vec::new(alloc);
     for word in std::env::args(&(BehindName { rt }, alloc))? {
@@ -72,7 +72,7 @@ fn arguments<R: Env>(rt: &R, alloc: Global) -> io::Result<Vec<String>> {
     Ok(words)
 }
 
-/// Runs the command that words without files name. Without any word, at a terminal, the program shows its help.
+/// Runs the command of words without files. Without any word, at a terminal, the program shows its help.
 fn run(
     rt: &HostRuntime,
     threads: &(impl Threads + Wait + Sync),

@@ -1,18 +1,19 @@
-//! What is said at a terminal.
+//! The lines at a terminal.
 
 use cqf_press::{Sink, Told, write_out};
 use cqf_program_words::read_words;
 use std::alloc::Global;
 use std::io::IsTerminal;
 
-/// Where standard input is a terminal, says that it is read now.
+/// Prints that standard input is read now, if it is a terminal.
 pub(crate) fn hint<I: IsTerminal, F: Sink>(input: &I, faults: &mut Told<F>) {
     if input.is_terminal() {
         write_out(faults, b"cqf: reading standard input to its end\n");
     }
 }
 
-/// The words that are run without files: at a terminal one that is empty, where none are given, since nobody means to type the input then.
+/// Returns the words that are run without files: at a terminal a single empty one if none are given, since nobody wants to type the input
+/// then.
 pub(crate) fn words_at<'w, I: IsTerminal>(words: &'w [&'w str], input: &I) -> &'w [&'w str] {
     if words.is_empty() && input.is_terminal() {
         &[""]
@@ -21,7 +22,7 @@ pub(crate) fn words_at<'w, I: IsTerminal>(words: &'w [&'w str], input: &I) -> &'
     }
 }
 
-/// The same before words without files are run, if they mean a job: else nothing is read.
+/// Prints the same before words without files are run, if they mean a job; else nothing is read.
 pub(crate) fn hint_of_words<I: IsTerminal, F: Sink>(
     alloc: Global,
     words: &[&str],

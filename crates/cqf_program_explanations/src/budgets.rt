@@ -1,4 +1,4 @@
-//! Streams that are refused beside those that stand before them: names that are held, and budgets.
+//! Streams that are refused because of earlier ones: names that are held, and budgets.
 
 use crate::given::CommandInput;
 use crate::network::Network;
@@ -16,7 +16,7 @@ const LONGEST_CYCLE: u64 = 10_000_000;
 /// The octets that a shortest frame of 64 octets takes with its preamble, start delimiter and gap (IEEE 802.3).
 const SHORTEST_COST: u64 = 84;
 
-/// Which streams are tried, and what is told of those that don't go.
+/// Which streams are tried, and which faults are reported of those that aren't placed.
 #[derive(Clone, Copy, Debug, PartialEq, Eq)]
 pub(crate) enum TriedStreams {
     NameHeld,
@@ -24,7 +24,7 @@ pub(crate) enum TriedStreams {
     BudgetShort,
 }
 
-/// The streams placed so far, by name, and what each link holds of them in each of the cycles after which all is as it was.
+/// The streams placed so far, by name, and what each link holds of them in each of the cycles after which everything repeats.
 #[derive(Drop)]
 struct Placed<'p> {
     network: Network<'p>,
@@ -49,13 +49,13 @@ struct Short {
     budget: u64,
 }
 
-/// What a reservation costs on a link, in octets.
+/// Returns what a reservation costs on a link, in octets.
 fn cost_of(octets: u64) -> u64 {
     let frames = octets / 64;
     octets.saturating_add(frames.saturating_mul(20))
 }
 
-/// The greatest reservation that costs no more than this, in octets, or 0 where there is none.
+/// Returns the greatest reservation that costs no more than this, in octets; 0 if there is none.
 fn greatest_within(left: u64) -> u64 {
     let (frames, rest) = (left / SHORTEST_COST, left % SHORTEST_COST);
     let octets = frames.saturating_mul(64).saturating_add(rest.min(63));
@@ -66,7 +66,7 @@ fn greatest_within(left: u64) -> u64 {
     }
 }
 
-/// The links of a stream's tree, each once, in the order in which they first stand.
+/// Returns the links of a stream's tree, each once, in the order in which they first occur.
 fn tree_of(
     alloc: Global,
     network: &Network<'_>,
@@ -87,14 +87,14 @@ fn tree_of(
     Ok(tree)
 }
 
-/// Where stands what a link holds in a cycle.
+/// Returns the index of what a link holds in a cycle.
 fn spot(link: usize, cycle: u64) -> usize {
     link.saturating_mul(MOST_EVERY as usize)
         .saturating_add(cycle as usize)
 }
 
 impl<'p> Placed<'p> {
-    /// The most that a link holds in a cycle in which a stream's frames are on it.
+    /// Returns the most that a link holds in a cycle in which a stream's frames are on it.
     fn held_beside(&self, hop: TreeLink, pace: WrittenPace) -> u64 {
         let mut most: u64 = 0;
         for cycle in 0..MOST_EVERY {
@@ -106,7 +106,7 @@ impl<'p> Placed<'p> {
         most
     }
 
-    /// What a link has left for a stream, with its budget.
+    /// Returns what a link has left for a stream, with the link's budget.
     fn left_on(&self, hop: TreeLink, pace: WrittenPace) -> Short {
         let held = self.held_beside(hop, pace);
         let budget = match self.network.links.get(hop.link) {
@@ -120,7 +120,7 @@ impl<'p> Placed<'p> {
         }
     }
 
-    /// The first link of a tree that has less left than a stream costs.
+    /// Returns the first link of a tree that has less left than a stream costs.
     fn short_link(&self, tree: &[TreeLink], pace: WrittenPace, cost: u64) -> Option<Short> {
         for hop in tree {
             let short = self.left_on(*hop, pace);
@@ -131,7 +131,7 @@ impl<'p> Placed<'p> {
         None
     }
 
-    /// The same where streams have to be within budgets.
+    /// Returns the same if streams have to be within budgets; else none.
     fn short_within(&self, tree: &[TreeLink], pace: WrittenPace, cost: u64) -> Option<Short> {
         if self.is_bounded {
             self.short_link(tree, pace, cost)
@@ -165,7 +165,7 @@ impl<'p> Placed<'p> {
         Ok(())
     }
 
-    /// The greatest reservation that all links of a tree have room for, in octets, or 0.
+    /// Returns the greatest reservation for which all links of a tree have room, in octets, or 0.
     fn greatest_on(&self, tree: &[TreeLink], pace: WrittenPace) -> u64 {
         let mut least = u64::MAX;
         for hop in tree {
@@ -174,7 +174,7 @@ impl<'p> Placed<'p> {
         greatest_within(least)
     }
 
-    /// The least cycle time at which all links of a tree have room for a cost, in ns.
+    /// Returns the least cycle time at which all links of a tree have room for a cost, in ns.
     fn least_cycle(&self, tree: &[TreeLink], pace: WrittenPace, cost: u64) -> u64 {
         let mut least: u64 = 0;
         for hop in tree {
@@ -189,7 +189,7 @@ impl<'p> Placed<'p> {
     }
 }
 
-/// With what a stream would fit, in words.
+/// Returns with which octets or cycle time a stream would fit, in words.
 fn remedy(alloc: Global, octets: u64, cycle: u64) -> Result<String, AllocError> {
     let (fewer, longer) = (Grouped(octets), Grouped(cycle));
     match (octets > 0, cycle <= LONGEST_CYCLE) {
@@ -202,7 +202,7 @@ fn remedy(alloc: Global, octets: u64, cycle: u64) -> Result<String, AllocError> 
     }
 }
 
-/// Tells of a stream that a link has too little left for.
+/// Reports a stream for which a link has too little left.
 fn tell_short(
     given: &CommandInput<'_>,
     told: &mut ToldLines,
@@ -231,7 +231,7 @@ fn tell_short(
     )?)
 }
 
-/// Tells of a stream whose name is held.
+/// Reports a stream whose name is held.
 fn tell_held(
     given: &CommandInput<'_>,
     told: &mut ToldLines,
@@ -248,7 +248,7 @@ fn tell_held(
     )?)
 }
 
-/// Tells of a stream behind the most that are held at once.
+/// Reports a stream beyond the most that are held at once.
 fn tell_beyond(
     given: &CommandInput<'_>,
     told: &mut ToldLines,
@@ -262,7 +262,7 @@ fn tell_beyond(
     )?)
 }
 
-/// Tries a stream behind those placed: places it, or tells why it doesn't go where that is asked for.
+/// Tries a stream after those placed: places it, or reports why it isn't placed if that is requested.
 fn try_stream<'p>(
     given: &CommandInput<'_>,
     told: &mut ToldLines,
@@ -293,8 +293,8 @@ fn try_stream<'p>(
     Ok(())
 }
 
-/// Tells of each stream that is refused beside those that stand before it, for what is asked for. Where none is, streams are tried without
-/// budgets, as `load` and `offers` do.
+/// Reports each stream that is refused because of earlier ones, for the requested faults. If none is, streams are tried without budgets, as
+/// `load` and `offers` do.
 pub(crate) fn tell_refused(
     given: &CommandInput<'_>,
     told: &mut ToldLines,

@@ -1,4 +1,4 @@
-//! Domains that no network can be like.
+//! Domains that no network can have.
 
 use crate::given::CommandInput;
 use crate::hints::{is_open, plan_hint};
@@ -15,13 +15,13 @@ use std::collections::BTreeMap;
 /// The keys of a domain's bridges, stations and links.
 const COUNTED: [&str; 3] = ["bridges", "stations", "links"];
 
-/// The octets of the gap behind a frame (IEEE 802.3).
+/// The octets of the gap after a frame (IEEE 802.3).
 const GAP_OCTETS: u64 = 12;
 
 /// The octets of a shortest frame with its preamble and start delimiter (IEEE 802.3).
 const SHORTEST_OCTETS: u64 = 72;
 
-/// Tells of each name of an array that stood before, and keeps where the others stand.
+/// Reports each name of an array that occurred before, and keeps the places of the others.
 fn tell_taken<'p>(
     given: &CommandInput<'_>,
     told: &mut ToldLines,
@@ -48,7 +48,7 @@ fn tell_taken<'p>(
     Ok(())
 }
 
-/// Tells of each name that stood before, bridges before stations.
+/// Reports each name that occurred before, bridges before stations.
 pub(crate) fn tell_name_taken(
     given: &CommandInput<'_>,
     told: &mut ToldLines,
@@ -62,7 +62,7 @@ pub(crate) fn tell_name_taken(
     tell_taken(given, told, &mut firsts, "stations", stations.as_slice())
 }
 
-/// Why a name is no bridge that a link begins at.
+/// Returns why a name isn't a bridge at which a link begins.
 fn no_beginning(alloc: Global, network: &Network<'_>, name: &str) -> Result<String, AllocError> {
     let shown = shortened(alloc, name)?;
     if network.is_node(name) {
@@ -72,12 +72,12 @@ fn no_beginning(alloc: Global, network: &Network<'_>, name: &str) -> Result<Stri
     format!(in alloc; "no bridge {shown}{question}")
 }
 
-/// Whether a link may begin at a node: at a bridge, and in a sketch at a station too, which then leads to a bridge.
+/// Returns whether a link may begin at a node: at a bridge, and in a network file at a station too, from which it then leads to a bridge.
 fn may_begin(given: &CommandInput<'_>, network: &Network<'_>, link: &WrittenLink<'_>) -> bool {
     network.is_bridge(link.from) || reads_sketch(given) && network.is_node(link.from)
 }
 
-/// Tells of a talker's link that doesn't lead to a bridge.
+/// Reports a talker's link that doesn't lead to a bridge.
 fn tell_talkers_end(
     given: &CommandInput<'_>,
     told: &mut ToldLines,
@@ -97,7 +97,7 @@ fn tell_talkers_end(
     )?)
 }
 
-/// Tells of a link that begins where none may begin.
+/// Reports a link that begins where none may begin.
 fn tell_beginning(
     given: &CommandInput<'_>,
     told: &mut ToldLines,
@@ -118,7 +118,7 @@ fn tell_beginning(
     told.tell(format!(in alloc; "{place}: {label}: from: {why}{hint}")?)
 }
 
-/// Tells of a link that ends at what is no node.
+/// Reports a link that ends at what isn't a node.
 fn tell_no_end(
     given: &CommandInput<'_>,
     told: &mut ToldLines,
@@ -138,7 +138,7 @@ fn tell_no_end(
     )?)
 }
 
-/// Tells what is wrong with the ends of a link.
+/// Reports what is wrong with the ends of a link.
 fn tell_ends(
     given: &CommandInput<'_>,
     told: &mut ToldLines,
@@ -165,7 +165,7 @@ fn tell_ends(
     )?)
 }
 
-/// Tells of each end of a link that is no node which may stand there.
+/// Reports each end of a link that isn't a node which may be there.
 pub(crate) fn tell_unknown_names(
     given: &CommandInput<'_>,
     told: &mut ToldLines,
@@ -177,7 +177,7 @@ pub(crate) fn tell_unknown_names(
     Ok(())
 }
 
-/// How a link is called that may stand for two: by its number and its ends, there and back.
+/// Returns the name of a link that may be two: its number and its ends, in both directions.
 fn both_ways(given: &CommandInput<'_>, link: &WrittenLink<'_>) -> Result<String, AllocError> {
     let label = link.item.label(given.alloc)?;
     if !reads_sketch(given) || !is_duplex(link) {
@@ -190,7 +190,7 @@ fn both_ways(given: &CommandInput<'_>, link: &WrittenLink<'_>) -> Result<String,
     format!(in given.alloc; "{label} and {to}>{from}")
 }
 
-/// Tells of a link of whose ends, there or back, an earlier one has some.
+/// Reports a link whose ends, in one direction or the other, an earlier link has.
 fn tell_twice(
     given: &CommandInput<'_>,
     told: &mut ToldLines,
@@ -218,7 +218,7 @@ fn tell_twice(
     )?)
 }
 
-/// Tells of a link whose ends an earlier one has, there or back; keeps where others stand.
+/// Reports a link whose ends an earlier one has, in one direction or the other; keeps the places of the others.
 fn tell_if_twice<'p>(
     given: &CommandInput<'_>,
     told: &mut ToldLines,
@@ -233,7 +233,7 @@ fn tell_if_twice<'p>(
     Ok(())
 }
 
-/// Tells of each link whose ends are those of an earlier one, where a link may stand for two.
+/// Reports each link whose ends are those of an earlier one; a link may be two, one in each direction.
 pub(crate) fn tell_links_twice(
     given: &CommandInput<'_>,
     told: &mut ToldLines,
@@ -249,7 +249,7 @@ pub(crate) fn tell_links_twice(
     Ok(())
 }
 
-/// Tells of each station that gets a second talker's link.
+/// Reports each station that gets a second talker's link.
 pub(crate) fn tell_two_talkers(
     given: &CommandInput<'_>,
     told: &mut ToldLines,
@@ -276,7 +276,7 @@ pub(crate) fn tell_two_talkers(
     Ok(())
 }
 
-/// The greatest cycle time that is given, in ns.
+/// Returns the greatest cycle time that is given, in ns.
 fn greatest_cycle(given: &CommandInput<'_>) -> Result<u64, AllocError> {
     let mut most = 0;
     for cycle in &candidates_of(given)? {
@@ -285,12 +285,12 @@ fn greatest_cycle(given: &CommandInput<'_>) -> Result<u64, AllocError> {
     Ok(most)
 }
 
-/// Whether the checks of delays and gaps ask for a link: in a sketch a talker's link is none of the plant's.
+/// Returns whether delays and gaps are checked for a link: in a network file a talker's link isn't one of the domain's.
 fn is_checked(given: &CommandInput<'_>, network: &Network<'_>, link: &WrittenLink<'_>) -> bool {
     !reads_sketch(given) || is_of_plant(network, link)
 }
 
-/// Tells of a guard time that isn't below a cycle time.
+/// Reports a guard band that isn't shorter than a cycle time.
 pub(crate) fn tell_guard_at(
     given: &CommandInput<'_>,
     told: &mut ToldLines,
@@ -306,12 +306,12 @@ pub(crate) fn tell_guard_at(
     Ok(())
 }
 
-/// Tells of a guard time that is below no cycle time, by the greatest of these.
+/// Reports a guard band that isn't shorter than any cycle time, by the greatest of these.
 pub(crate) fn tell_guard(given: &CommandInput<'_>, told: &mut ToldLines) -> Result<(), AllocError> {
     tell_guard_at(given, told, greatest_cycle(given)?)
 }
 
-/// Tells of each link whose own guard time is below no cycle time, by the greatest of these.
+/// Reports each link whose own guard band isn't shorter than any cycle time, by the greatest of these.
 pub(crate) fn tell_link_guards(
     given: &CommandInput<'_>,
     told: &mut ToldLines,
@@ -319,7 +319,7 @@ pub(crate) fn tell_link_guards(
     tell_link_guards_at(given, told, greatest_cycle(given)?)
 }
 
-/// Tells of each link whose own guard time isn't below a cycle time.
+/// Reports each link whose own guard band isn't shorter than a cycle time.
 pub(crate) fn tell_link_guards_at(
     given: &CommandInput<'_>,
     told: &mut ToldLines,
@@ -340,7 +340,7 @@ pub(crate) fn tell_link_guards_at(
     Ok(())
 }
 
-/// What is said of a delay that is too long for a guard time, where clocks may be so far apart, all in ns.
+/// Returns the words about a delay that is too long for a guard band, if clocks may differ by `sync`, all in ns.
 fn delay_words(alloc: Global, delay: u64, sync: u64, guard: u64) -> Result<String, AllocError> {
     let (delay, guard) = (Grouped(delay), Grouped(guard));
     if sync == 0 {
@@ -352,7 +352,7 @@ fn delay_words(alloc: Global, delay: u64, sync: u64, guard: u64) -> Result<Strin
     )
 }
 
-/// Tells of each link whose greatest delay, with how far clocks may be apart, isn't below its guard time.
+/// Reports each link whose greatest delay, plus how far clocks may differ, isn't shorter than its guard band.
 pub(crate) fn tell_delays(
     given: &CommandInput<'_>,
     told: &mut ToldLines,
@@ -370,7 +370,7 @@ pub(crate) fn tell_delays(
     Ok(())
 }
 
-/// Tells of each link on which the gap behind a frame takes longer than the guard time.
+/// Reports each link on which the gap after a frame is longer than the guard band.
 pub(crate) fn tell_gaps(given: &CommandInput<'_>, told: &mut ToldLines) -> Result<(), AllocError> {
     let network = given.network()?;
     for link in &network.links {
@@ -387,7 +387,7 @@ pub(crate) fn tell_gaps(given: &CommandInput<'_>, told: &mut ToldLines) -> Resul
     Ok(())
 }
 
-/// Tells of each link on which a shortest frame takes less, with the least delay, than clocks may be apart.
+/// Reports each link on which a shortest frame takes less, with the least delay, than clocks may differ.
 pub(crate) fn tell_syncs(given: &CommandInput<'_>, told: &mut ToldLines) -> Result<(), AllocError> {
     let network = given.network()?;
     for link in &network.links {
@@ -406,7 +406,7 @@ pub(crate) fn tell_syncs(given: &CommandInput<'_>, told: &mut ToldLines) -> Resu
     Ok(())
 }
 
-/// How many links a sketch's plant has.
+/// Returns how many links the domain of a network file has.
 fn count_of_plant(given: &CommandInput<'_>) -> Result<u64, AllocError> {
     let network = given.network()?;
     let mut count: u64 = 0;
@@ -418,7 +418,7 @@ fn count_of_plant(given: &CommandInput<'_>) -> Result<u64, AllocError> {
     Ok(count)
 }
 
-/// How many elements the arrays at a key of the top have together.
+/// Returns how many elements the arrays at a key of the top level have together.
 fn count_of(given: &CommandInput<'_>, key: &str) -> Result<u64, AllocError> {
     if key == "links" && reads_sketch(given) {
         return count_of_plant(given);
@@ -431,7 +431,7 @@ fn count_of(given: &CommandInput<'_>, key: &str) -> Result<u64, AllocError> {
     Ok(count as u64)
 }
 
-/// How many there may be within some limits of what stands at a key.
+/// Returns the most values at a key that some limits allow.
 fn most_of(limits: Limits, key: &str) -> usize {
     match key {
         "bridges" => limits.bridges_within(),
@@ -440,7 +440,7 @@ fn most_of(limits: Limits, key: &str) -> usize {
     }
 }
 
-/// Tells of which there are too many.
+/// Reports the keys with too many elements.
 pub(crate) fn tell_too_many(
     given: &CommandInput<'_>,
     told: &mut ToldLines,

@@ -29,7 +29,7 @@ pub struct NamedFile<'a> {
     pub text: &'a [u8],
 }
 
-/// Tells why a domain or the streams are refused.
+/// Reports why a domain or the streams are refused.
 fn tell_text(
     given: &CommandInput<'_>,
     told: &mut ToldLines,
@@ -54,7 +54,7 @@ fn tell_text(
     }
 }
 
-/// Tells why files make no plant.
+/// Reports why files aren't a plan.
 fn tell_plant(
     given: &CommandInput<'_>,
     told: &mut ToldLines,
@@ -69,7 +69,7 @@ fn tell_plant(
     }
 }
 
-/// Tells why a script is refused.
+/// Reports why a script is refused.
 fn tell_script(
     given: &CommandInput<'_>,
     told: &mut ToldLines,
@@ -83,7 +83,7 @@ fn tell_script(
     }
 }
 
-/// Tells why a stream is refused.
+/// Reports why a stream is refused.
 fn tell_stream(
     given: &CommandInput<'_>,
     told: &mut ToldLines,
@@ -100,8 +100,7 @@ fn tell_stream(
     }
 }
 
-/// Tells of the stream of a frame that is dropped because no stream has its name, as in `frame 1 of x, offered to a at 0: dropped,
-/// unknown`.
+/// Reports the stream of a frame that is dropped because no stream has its name, as in `frame 1 of x, offered to a at 0: dropped, unknown`.
 fn tell_check(
     given: &CommandInput<'_>,
     told: &mut ToldLines,
@@ -119,7 +118,7 @@ fn tell_check(
     }
 }
 
-/// Tells why an input is refused.
+/// Reports why an input is refused.
 fn tell_refusal(
     given: &CommandInput<'_>,
     told: &mut ToldLines,
@@ -140,15 +139,17 @@ fn tell_refusal(
     }
 }
 
-/// What stands behind the line of a refusal: for each thing that is wrong in this way a line, at most 20 of them, in the order of the
-/// texts, and behind these `and N more` where there are more. Each line begins with two blanks and ends with LF, and has printable
-/// characters of ASCII alone: another is told as `\u{..}`, with its number in hexadecimal digits. It is empty where there is nothing to say: the line is no refusal that is known, or says all by itself, or no file is named.
+/// Returns the text after the line of a refusal: for each thing that is wrong in this way a line, at most 20 of them, in the order of the
+/// texts, followed by `and N more` if there are more. Each line begins with two blanks and ends with LF, and has only printable characters
+/// of ASCII; any other character is printed as `\u{..}`, with its number in hexadecimal digits. The text is empty if there is nothing to
+/// say: the line isn't a known refusal, or says everything by itself, or no file is named.
 ///
-/// `command` is the command's word, such as `run`. `cycles` is how many cycles are run, where the words say it, and `cycle_times` are the cycle
-/// times in nanoseconds that they give in place of those of the plant. `limits` are those within which a plant is read. `sources` are the files that the words name, in their order. `line` is the line of the refusal with its line feed.
+/// `command` is the command's word, such as `run`. `cycles` is how many cycles are run, if the words say so, and `cycle_times` are the
+/// cycle times in nanoseconds that they give instead of those of the plan. `limits` are those within which a plan is read. `sources` are
+/// the files that the words name, in their order. `line` is the line of the refusal with its line feed.
 ///
 /// # Errors
-/// Where a growth is refused.
+/// If an allocation fails.
 pub fn explanation(
     alloc: Global,
     command: &str,

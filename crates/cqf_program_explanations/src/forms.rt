@@ -1,4 +1,4 @@
-//! What may stand at each key of a plant.
+//! Which values a plan may have at each key.
 
 use crate::lexer::before_comment;
 use crate::plant::{FoundKey, KeyOwner, number_of};
@@ -38,7 +38,7 @@ const INTERFACE_FORM: &str =
 pub(crate) const DELAYS_FORM: &str =
     "a delay is a whole number, 0 to 10,000,000 ns, or two, the least first";
 
-/// The form of the cycle times of a sketch, in words.
+/// The form of the cycle times of a network file, in words.
 pub(crate) const CYCLES_FORM: &str =
     "a cycle time is a whole number, 10,000 to 10,000,000 ns, and a sketch may have an array of 1 to 1,000 of them";
 
@@ -62,7 +62,7 @@ pub(crate) enum Form {
     Boolean,
     /// An address of six pairs of hexadecimal digits.
     Mac,
-    /// What a port of a bridge is called in its system.
+    /// The name of a bridge's port in the bridge's system.
     Interface,
     /// An array of names.
     Names,
@@ -70,7 +70,7 @@ pub(crate) enum Form {
     Tables,
 }
 
-/// The form of the value at a key, and the same in words.
+/// Returns the form of the value at a key, and the same in words.
 pub(crate) fn form_of(kind: KeyOwner, key: &str) -> Option<(Form, &'static str)> {
     match kind {
         KeyOwner::Top => form_of_top(key),
@@ -79,7 +79,7 @@ pub(crate) fn form_of(kind: KeyOwner, key: &str) -> Option<(Form, &'static str)>
     }
 }
 
-/// The same for a key of the top.
+/// Returns the same for a key of the top level.
 fn form_of_top(key: &str) -> Option<(Form, &'static str)> {
     match key {
         "cycle" => Some((
@@ -108,7 +108,7 @@ fn form_of_top(key: &str) -> Option<(Form, &'static str)> {
     }
 }
 
-/// The same for a key of a link.
+/// Returns the same for a key of a link.
 fn form_of_link(key: &str) -> Option<(Form, &'static str)> {
     match key {
         "from" | "to" => Some((Form::Name, NAME_FORM)),
@@ -124,7 +124,7 @@ fn form_of_link(key: &str) -> Option<(Form, &'static str)> {
     }
 }
 
-/// The same for a key of a stream.
+/// Returns the same for a key of a stream.
 fn form_of_stream(key: &str) -> Option<(Form, &'static str)> {
     match key {
         "name" => Some((Form::Text, "a name is a text in quotes")),
@@ -155,7 +155,7 @@ fn form_of_stream(key: &str) -> Option<(Form, &'static str)> {
     }
 }
 
-/// The form of the number of a stream gate, which hangs on the limits, and the same in words.
+/// Returns the form of the number of a stream gate, which depends on the limits, and the same in words.
 pub(crate) fn form_of_gate(limits: Limits) -> (Form, &'static str) {
     if limits == PROFILE {
         (
@@ -170,7 +170,7 @@ pub(crate) fn form_of_gate(limits: Limits) -> (Form, &'static str) {
     }
 }
 
-/// The same for a key of a stream's traffic.
+/// Returns the same for a key of a stream's traffic.
 fn form_of_traffic(key: &str) -> Option<(Form, &'static str)> {
     match key {
         "interval" => Some((
@@ -197,7 +197,7 @@ fn form_of_traffic(key: &str) -> Option<(Form, &'static str)> {
     }
 }
 
-/// Whether the value is a text of the form of a name.
+/// Returns whether the value is a text of the form of a name.
 pub(crate) fn is_name(value: &Value) -> bool {
     match value.as_str() {
         Some(text) => Name::new(text.as_bytes()).is_some(),
@@ -205,7 +205,7 @@ pub(crate) fn is_name(value: &Value) -> bool {
     }
 }
 
-/// Whether the value is an array of texts.
+/// Returns whether the value is an array of texts.
 fn are_texts(value: &Value) -> bool {
     match value.as_array() {
         Some(values) => values.iter().all(|element| element.is_str()),
@@ -213,7 +213,7 @@ fn are_texts(value: &Value) -> bool {
     }
 }
 
-/// Whether the value is an array of names.
+/// Returns whether the value is an array of names.
 fn are_names(value: &Value) -> bool {
     match value.as_array() {
         Some(values) => values.iter().all(is_name),
@@ -221,7 +221,7 @@ fn are_names(value: &Value) -> bool {
     }
 }
 
-/// Whether a value stands before another that is the same.
+/// Returns whether two of the values are the same.
 fn is_twice(values: &[Value]) -> bool {
     values.iter().enumerate().any(|(place, value)| {
         values
@@ -231,7 +231,7 @@ fn is_twice(values: &[Value]) -> bool {
     })
 }
 
-/// Whether the value is an array of 1 to 64 names, all different.
+/// Returns whether the value is an array of 1 to 64 names, all different.
 fn are_ends(value: &Value) -> bool {
     match value.as_array() {
         Some(values) => {
@@ -242,7 +242,7 @@ fn are_ends(value: &Value) -> bool {
     }
 }
 
-/// Whether the value is an array of arrays of texts.
+/// Returns whether the value is an array of arrays of texts.
 fn are_paths(value: &Value) -> bool {
     match value.as_array() {
         Some(values) => values.iter().all(are_texts),
@@ -250,7 +250,7 @@ fn are_paths(value: &Value) -> bool {
     }
 }
 
-/// Whether the value is an array of tables.
+/// Returns whether the value is an array of tables.
 fn are_tables(value: &Value) -> bool {
     match value.as_array() {
         Some(values) => values.iter().all(|element| element.is_table()),
@@ -258,7 +258,7 @@ fn are_tables(value: &Value) -> bool {
     }
 }
 
-/// Whether the value is a whole number of a range.
+/// Returns whether the value is a whole number of a range.
 fn is_number(least: i64, most: i64, value: &Value) -> bool {
     match value.as_integer() {
         Some(number) => least <= number && number <= most,
@@ -266,12 +266,12 @@ fn is_number(least: i64, most: i64, value: &Value) -> bool {
     }
 }
 
-/// Whether the value is a delay.
+/// Returns whether the value is a delay.
 fn is_delay(value: &Value) -> bool {
     is_number(0, 10_000_000, value)
 }
 
-/// Whether the value is an array of two delays, the least first.
+/// Returns whether the value is an array of two delays, the least first.
 fn are_delays(value: &Value) -> bool {
     match value.as_array() {
         Some(values) => match (values.as_slice().first(), values.as_slice().get(1)) {
@@ -286,12 +286,12 @@ fn are_delays(value: &Value) -> bool {
     }
 }
 
-/// Whether the value is a cycle time.
+/// Returns whether the value is a cycle time.
 fn is_cycle(value: &Value) -> bool {
     is_number(10_000, 10_000_000, value)
 }
 
-/// Whether the value is a cycle time, or an array of 1 to 1,000 of them.
+/// Returns whether the value is a cycle time, or an array of 1 to 1,000 of them.
 fn are_cycles(value: &Value) -> bool {
     match value.as_array() {
         Some(values) => {
@@ -301,12 +301,12 @@ fn are_cycles(value: &Value) -> bool {
     }
 }
 
-/// Whether a byte may stand in the name of an interface.
+/// Returns whether a byte may be in the name of an interface.
 fn is_of_interface(byte: u8) -> bool {
     byte.is_ascii_alphanumeric() || matches!(byte, b'.' | b'_' | b'-' | b'@')
 }
 
-/// Whether the value is a text that may be the name of an interface.
+/// Returns whether the value is a text that may be the name of an interface.
 fn is_interface(value: &Value) -> bool {
     match value.as_str() {
         Some(text) => match *text.as_bytes() {
@@ -320,12 +320,12 @@ fn is_interface(value: &Value) -> bool {
     }
 }
 
-/// Whether bytes are two hexadecimal digits.
+/// Returns whether bytes are two hexadecimal digits.
 fn is_pair(pair: &[u8]) -> bool {
     matches!(*pair, [a, b] if a.is_ascii_hexdigit() && b.is_ascii_hexdigit())
 }
 
-/// Whether the value is an address that bridges forward (IEEE 802.1Q, reserved addresses).
+/// Returns whether the value is an address that bridges forward (IEEE 802.1Q, reserved addresses).
 fn is_mac(value: &Value) -> bool {
     let Some(text) = value.as_str() else {
         return false;
@@ -346,7 +346,7 @@ fn is_mac(value: &Value) -> bool {
     pairs == 6 && !is_reserved && !is_nobody
 }
 
-/// Whether the value has the form.
+/// Returns whether the value has the form.
 pub(crate) fn fits(form: Form, value: &Value) -> bool {
     match form {
         Form::Number(least, most) => is_number(least, most, value),
@@ -369,7 +369,7 @@ pub(crate) fn fits(form: Form, value: &Value) -> bool {
     }
 }
 
-/// A value as it may be written.
+/// Returns a value as it may be written.
 pub(crate) fn told_value(alloc: Global, value: &Value) -> Result<String, AllocError> {
     if let Some(number) = value.as_integer() {
         return format!(in alloc; "{number}");
@@ -390,7 +390,7 @@ pub(crate) fn told_value(alloc: Global, value: &Value) -> Result<String, AllocEr
     }
 }
 
-/// What stands at a key, as written, or as it may be written where its line isn't known.
+/// Returns the value at a key, as written, or as it may be written if its line isn't known.
 pub(crate) fn written(alloc: Global, found: &FoundKey<'_>) -> Result<String, AllocError> {
     let text = before_comment(found.text).trim_ascii();
     if text.is_empty() {

@@ -1,4 +1,4 @@
-//! What an explanation is made from.
+//! The input of an explanation.
 
 use crate::explaining::NamedFile;
 use crate::hints::larger_words;
@@ -9,28 +9,28 @@ use crate::sketch::reads_sketch;
 use cqf_model::Limits;
 use std::alloc::{AllocError, Global};
 
-/// The command, its files, and what they come to.
+/// The command, its files, and the input that is made from them.
 #[derive(Drop)]
 pub(crate) struct CommandInput<'a> {
     pub alloc: Global,
     pub command: &'a str,
-    /// How many cycles are run, where the words say it.
+    /// How many cycles are run, if the words say so.
     pub cycles: Option<u32>,
-    /// The cycle times in nanoseconds that the words give, in place of those of the plant.
+    /// The cycle times in nanoseconds that the words give instead of those of the plan.
     pub cycle_times: &'a [u32],
-    /// Those within which a plant is read.
+    /// The limits within which a plan is read.
     pub limits: Limits,
     pub sources: &'a [NamedFile<'a>],
     pub input: Input<'a>,
     pub plant: Plant<'a>,
 }
 
-/// Whether a fault is told of texts that aren't parsed, since that may take much.
+/// Returns whether a fault is about texts that aren't parsed, since parsing them may take much.
 fn is_unread(fault: &str) -> bool {
     matches!(fault, "LineTooLong" | "")
 }
 
-/// Reads the files of a command, for what is told of a fault.
+/// Reads the files of a command, for the explanation of a fault.
 pub(crate) fn given_of<'a>(
     alloc: Global,
     command: &'a str,
@@ -59,12 +59,12 @@ pub(crate) fn given_of<'a>(
 }
 
 impl CommandInput<'_> {
-    /// What is said behind a limit of how many there may be with `--large`: nothing where that is given, or no word of the command.
+    /// Returns the words after a limit about the larger limit with `--large`; empty if that is given, or isn't an option of the command.
     pub(crate) fn larger(&self, most: u64) -> Result<String, AllocError> {
         larger_words(self, most)
     }
 
-    /// The network of the plant, or of the command that has its own.
+    /// Returns the network of the plan, or of the command that has its own.
     pub(crate) fn network(&self) -> Result<Network<'_>, AllocError> {
         if self.command == "line" {
             return smallest_network(self.alloc, self.limits);

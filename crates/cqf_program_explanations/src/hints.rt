@@ -1,4 +1,4 @@
-//! What may be done about a refusal: another command, or larger limits.
+//! Hints after a refusal: another command, or larger limits.
 
 use crate::given::CommandInput;
 use crate::parts::takes_domain;
@@ -8,7 +8,7 @@ use crate::sketch::reads_sketch;
 use cqf_model::PROFILE;
 use std::alloc::AllocError;
 
-/// What is said behind a limit of how many there may be with `--large`: nothing where that is given, or no word of the command.
+/// Returns the words after a limit about the larger limit with `--large`; empty if that is given, or isn't an option of the command.
 pub(crate) fn larger_words(given: &CommandInput<'_>, most: u64) -> Result<String, AllocError> {
     if given.limits != PROFILE || !takes_domain(given.command) {
         return Ok(String::new(given.alloc));
@@ -17,7 +17,7 @@ pub(crate) fn larger_words(given: &CommandInput<'_>, most: u64) -> Result<String
     format!(in given.alloc; ", and with --large {most}")
 }
 
-/// The names of the files that the plant is read from.
+/// Returns the names of the files from which the plan is read.
 fn plant_files(given: &CommandInput<'_>) -> Result<String, AllocError> {
     let mut names = String::new(given.alloc);
     let mut before = None;
@@ -31,12 +31,12 @@ fn plant_files(given: &CommandInput<'_>) -> Result<String, AllocError> {
     Ok(names)
 }
 
-/// Whether a stream has ends and no path, or reserves nothing yet.
+/// Returns whether a stream has ends and no path, or reserves nothing yet.
 fn is_open_stream(item: &WrittenItem<'_>) -> bool {
     item.get("from").is_some() || item.get("to").is_some() || item.get("octets").is_none()
 }
 
-/// Whether the plant is a sketch: it has several cycle times, or a stream is open.
+/// Returns whether the plan is a network file with open parts: it has several cycle times, or a stream is open.
 pub(crate) fn is_open(given: &CommandInput<'_>) -> Result<bool, AllocError> {
     let has_several = given
         .plant
@@ -46,7 +46,7 @@ pub(crate) fn is_open(given: &CommandInput<'_>) -> Result<bool, AllocError> {
     Ok(has_several || streams.iter().any(is_open_stream))
 }
 
-/// What is said of a part that is open, which `plan` alone reads: nothing for that command.
+/// Returns the words about an open part, which only `plan` reads; empty for that command.
 pub(crate) fn plan_hint(given: &CommandInput<'_>) -> Result<String, AllocError> {
     if reads_sketch(given) {
         return Ok(String::new(given.alloc));

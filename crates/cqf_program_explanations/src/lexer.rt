@@ -1,33 +1,33 @@
-//! Where a byte of a TOML text stands: in a text, in a comment, or among brackets.
+//! The state of a byte in a TOML text: in a text, in a comment, or among brackets.
 
-/// What a byte stands in. A text's quote is part of it.
+/// What a byte is in. A text's quote is part of it.
 #[derive(Clone, Copy, Debug, PartialEq, Eq)]
 enum Inside {
-    /// No text and no comment.
+    /// In no text and no comment.
     Free,
     Comment,
-    /// Behind a first quote.
+    /// After a first quote.
     Opened(u8),
-    /// Behind a second quote: the text is empty, or goes over lines.
+    /// After a second quote: the text is empty, or has several lines.
     OpenedTwice(u8),
     /// A text on one line.
     Text(u8),
-    /// Behind the backslash of such a text.
+    /// After the backslash of such a text.
     Escape,
-    /// A text over lines, behind so many of its quotes.
+    /// A text of several lines, after this many of its quotes.
     Long(u8, u8),
-    /// Behind the backslash of such a text.
+    /// After the backslash of such a text.
     LongEscape,
 }
 
-/// Where the next byte stands.
+/// The state of the next byte.
 #[derive(Clone, Copy, Debug)]
 pub(crate) struct Lexer {
     inside: Inside,
     depth: u32,
 }
 
-/// What stands behind a byte that stands in no text.
+/// Returns what follows a byte that is in no text.
 fn behind_free(byte: u8) -> Inside {
     match byte {
         b'#' => Inside::Comment,
@@ -36,7 +36,7 @@ fn behind_free(byte: u8) -> Inside {
     }
 }
 
-/// What stands behind a byte of a text on one line.
+/// Returns what follows a byte of a text on one line.
 fn behind_text(quote: u8, byte: u8) -> Inside {
     if byte == quote {
         Inside::Free
@@ -47,7 +47,7 @@ fn behind_text(quote: u8, byte: u8) -> Inside {
     }
 }
 
-/// What stands behind a byte of a text over lines, before which so many of its quotes stand.
+/// Returns what follows a byte of a text of several lines, after `quotes` of its quotes.
 fn behind_long(quote: u8, quotes: u8, byte: u8) -> Inside {
     if byte == quote {
         if quotes < 2 {
@@ -63,7 +63,7 @@ fn behind_long(quote: u8, quotes: u8, byte: u8) -> Inside {
 }
 
 impl Inside {
-    /// What stands behind a byte.
+    /// Returns what follows a byte.
     fn behind(self, byte: u8) -> Inside {
         match self {
             Inside::Free => behind_free(byte),
@@ -78,7 +78,7 @@ impl Inside {
         }
     }
 
-    /// What stands behind the end of a line.
+    /// Returns what follows the end of a line.
     fn behind_line(self) -> Inside {
         match self {
             Inside::Long(quote, _) => Inside::Long(quote, 0),
@@ -89,7 +89,7 @@ impl Inside {
 }
 
 impl Lexer {
-    /// At the beginning of a text.
+    /// Returns the state at the beginning of a text.
     pub(crate) fn new() -> Lexer {
         Lexer {
             inside: Inside::Free,
@@ -97,7 +97,7 @@ impl Lexer {
         }
     }
 
-    /// Behind a byte.
+    /// Returns the state after a byte.
     pub(crate) fn behind(self, byte: u8) -> Lexer {
         let inside = self.inside.behind(byte);
         let depth = match byte {
@@ -108,7 +108,7 @@ impl Lexer {
         Lexer { inside, depth }
     }
 
-    /// Behind the end of a line.
+    /// Returns the state after the end of a line.
     pub(crate) fn behind_line(self) -> Lexer {
         Lexer {
             inside: self.inside.behind_line(),
@@ -116,33 +116,33 @@ impl Lexer {
         }
     }
 
-    /// Whether no value goes on: a head, a key or a comment may begin here.
+    /// Returns whether no value continues: a head, a key or a comment may begin here.
     pub(crate) fn is_at_rest(self) -> bool {
         self.inside == Inside::Free && self.depth == 0
     }
 
-    /// How many brackets are open.
+    /// Returns how many brackets are open.
     pub(crate) fn depth(self) -> u32 {
         self.depth
     }
 
-    /// Whether a text begins with the byte before.
+    /// Returns whether a text begins with the byte before.
     pub(crate) fn opens(self) -> bool {
         matches!(self.inside, Inside::Opened(_))
     }
 
-    /// Whether the byte before is one of a comment.
+    /// Returns whether the byte before is one of a comment.
     pub(crate) fn is_comment(self) -> bool {
         self.inside == Inside::Comment
     }
 
-    /// Whether the byte before belongs to no text and no comment.
+    /// Returns whether the byte before belongs to no text and no comment.
     pub(crate) fn is_free(self) -> bool {
         self.inside == Inside::Free
     }
 }
 
-/// What stands on a line before its comment.
+/// Returns the part of a line before its comment.
 pub(crate) fn before_comment(line: &[u8]) -> &[u8] {
     let mut lexer = Lexer::new();
     for (place, byte) in line.iter().enumerate() {

@@ -1,17 +1,16 @@
-//! Why an input is refused, in words: the lines that stand behind that of a refusal, which tell where it is wrong, what stands there,
-//! and what may.
+//! Why an input is refused, in words: the lines that follow that of a refusal. They say where the input is wrong, what it has there, and
+//! what it may have.
 //!
 //! - [`explanation`] makes these lines from the refusal's line and the files that the words name, which are a [`NamedFile`] each.
-//! - [`notes`] has what is worth a word though nothing is refused.
+//! - [`notes`] returns what is worth mentioning though nothing is refused.
 //!
 //! ```text
 //! cqf: domain: BadValue rate
-//!   plant.toml:12: link 3, a>b: rate = 250: a rate is 10, 100, 1000, 2500, 5000, 10000, 25000, 40000 or 100000 (Mb/s)
+//!   plan.toml:12: link 3, a>b: rate = 250: a rate is 10, 100, 1000, 2500, 5000, 10000, 25000, 40000 or 100000 (Mb/s)
 //! ```
 //!
-//! The second line is the explanation. All things with the refusal's fault are told, at most 20, in the order of the texts. What is
-//! wrong is found anew over the texts by plain code, with the lines on which keys stand found by a scan of their own; nothing of what a
-//! command comes to hangs on it.
+//! The second line is the explanation. All things with the refusal's fault are listed, at most 20, in the order of the texts. What is wrong
+//! is found anew in the texts by plain code, and the lines of keys by a scan of its own. No result of a command depends on it.
 #![tactic(auto)]
 
 mod budgets;

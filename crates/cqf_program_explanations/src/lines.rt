@@ -4,7 +4,7 @@ ghost use Rattle.std.specs.Iterator.{at_most};
 
 use cqf_text::split_line;
 
-/// The lines of a text that are left, and how many lines stand before them.
+/// The remaining lines of a text, and how many lines are before them.
 #[derive(Clone, Copy, Debug)]
 pub(crate) struct Lines<'a> {
     rest: &'a [u8],
@@ -12,7 +12,7 @@ pub(crate) struct Lines<'a> {
 }
 
 impl<'a> Lines<'a> {
-    /// All lines of a text that stands behind so many lines.
+    /// Returns all lines of a text that follows `before` lines.
     pub(crate) fn of(text: &'a [u8], before: u64) -> Lines<'a> {
         Lines { rest: text, before }
     }

@@ -1,4 +1,4 @@
-//! The network of a plant: its nodes and links by name.
+//! The network of a plan: its nodes and links by name.
 
 use crate::plant::{FoundKey, KeyOwner, Plant, WrittenItem, number_of};
 use crate::sketch::{is_duplex, talker_of};
@@ -8,7 +8,7 @@ use std::alloc::{AllocError, Global};
 use std::collections::BTreeMap;
 use toml::Value;
 
-/// A link as it is written; what isn't there is empty or 0.
+/// A link as it is written; what is missing is empty or 0.
 #[derive(Clone, Copy)]
 pub(crate) struct WrittenLink<'p> {
     pub item: WrittenItem<'p>,
@@ -19,14 +19,14 @@ pub(crate) struct WrittenLink<'p> {
     /// The greatest delay and the least, in ns.
     pub delay: u64,
     pub least: u64,
-    /// Its own guard time, in ns, or else the network's.
+    /// Its own guard band, in ns, or else the network's.
     pub guard: u64,
 }
 
-/// Places by the name of a node and that of another.
+/// Indexes by the name of a node and that of another.
 type EndsMap<'p> = BTreeMap<&'p str, BTreeMap<&'p str, usize>>;
 
-/// The nodes and links of a plant.
+/// The nodes and links of a plan.
 #[derive(Drop)]
 pub(crate) struct Network<'p> {
     pub bridges: Vec<&'p str>,
@@ -34,23 +34,23 @@ pub(crate) struct Network<'p> {
     pub links: Vec<WrittenLink<'p>>,
     /// Whether the node of a name is a bridge.
     are_bridges: BTreeMap<&'p str, bool>,
-    /// The place of the first link between two nodes, as it is written.
+    /// The index of the first link between two nodes, as it is written.
     ends: EndsMap<'p>,
-    /// Of a sketch, the same of a link that stands for two, for its way back.
+    /// In a network file, the same for the opposite direction of a link that is two.
     back: EndsMap<'p>,
-    /// Of a sketch, the place of the first talker's link of a station.
+    /// In a network file, the index of the first talker's link of a station.
     talkers: BTreeMap<&'p str, usize>,
     /// In ns.
     pub cycle: u64,
     pub guard: u64,
-    /// How far any two clocks may be apart.
+    /// How far any two clocks may differ.
     pub sync: u64,
     pub limits: Limits,
-    /// Whether it is a sketch's, in which a link may stand for two, there and back.
+    /// Whether it is a network file's, in which a link may be two, one in each direction.
     pub is_sketch: bool,
 }
 
-/// Puts the texts of an array behind others.
+/// Appends the texts of an array to others.
 fn put_texts<'p>(texts: &mut Vec<&'p str>, names: &[FoundKey<'p>]) -> Result<(), AllocError> {
     for name in names {
         if let Some(text) = name.value.as_str() {
@@ -60,7 +60,7 @@ fn put_texts<'p>(texts: &mut Vec<&'p str>, names: &[FoundKey<'p>]) -> Result<(),
     Ok(())
 }
 
-/// The delays of a link, the least and the greatest, in ns: one number is both.
+/// Returns the delays of a link, the least and the greatest, in ns; a single number is both.
 pub(crate) fn delays_of(item: &WrittenItem<'_>) -> (u64, u64) {
     match item.get("delay").and_then(Value::as_array) {
         Some(delays) => {
@@ -77,7 +77,7 @@ pub(crate) fn delays_of(item: &WrittenItem<'_>) -> (u64, u64) {
     }
 }
 
-/// A link as it is written, in a network of this guard time.
+/// Returns a link as it is written, in a network with this guard band.
 fn link_of<'p>(item: &WrittenItem<'p>, guard: u64) -> WrittenLink<'p> {
     let (least, delay) = delays_of(item);
     WrittenLink {
@@ -91,7 +91,7 @@ fn link_of<'p>(item: &WrittenItem<'p>, guard: u64) -> WrittenLink<'p> {
     }
 }
 
-/// The network of a plant, or of a sketch.
+/// Returns the network of a plan, or of a network file.
 pub(crate) fn network_of<'p>(
     alloc: Global,
     plant: &'p Plant<'_>,
@@ -116,7 +116,7 @@ pub(crate) fn network_of<'p>(
     Ok(network)
 }
 
-/// A network of nodes, of which the first are bridges, without links.
+/// Returns a network of nodes, beginning with the bridges, without links.
 fn nodes_alone<'p>(
     alloc: Global,
     bridges: Vec<&'p str>,
@@ -145,7 +145,7 @@ fn nodes_alone<'p>(
     })
 }
 
-/// The nodes of the smallest network, which the command `line` has: a bridge and a station.
+/// Returns the nodes of the smallest network, which the command `line` has: a bridge and a station.
 pub(crate) fn smallest_network<'p>(
     alloc: Global,
     limits: Limits,
@@ -155,17 +155,17 @@ pub(crate) fn smallest_network<'p>(
 }
 
 impl WrittenLink<'_> {
-    /// How long an octet takes, in ticks of 40 ps: 200,000 of them at 1 Mb/s (IEEE 802.3).
+    /// Returns how long an octet takes, in ticks of 40 ps: 200,000 of them at 1 Mb/s (IEEE 802.3).
     pub(crate) fn octet_ticks(&self) -> u64 {
         200_000u64.checked_div(self.rate).unwrap_or(0)
     }
 
-    /// How long so many octets take, in ns, the last of which counts whole.
+    /// Returns how long this many octets take, in ns, rounded up.
     pub(crate) fn time_of(&self, octets: u64) -> u64 {
         octets.saturating_mul(self.octet_ticks()).div_ceil(25)
     }
 
-    /// The most ticks that a frame of the shortest size takes.
+    /// Returns the most ticks that a frame of the shortest size takes.
     pub(crate) fn shortest(&self) -> u64 {
         let ticks = self.octet_ticks();
         let rounding = if ticks % 25 == 0 {
@@ -179,7 +179,7 @@ impl WrittenLink<'_> {
     }
 }
 
-/// Puts a place at two names, where none stands there.
+/// Puts an index at two names, if there is none yet.
 fn put_first<'p>(
     alloc: Global,
     places: &mut EndsMap<'p>,
@@ -198,7 +198,7 @@ fn put_first<'p>(
     Ok(())
 }
 
-/// The place at two names.
+/// Returns the index at two names.
 fn place_at(places: &EndsMap<'_>, from: &str, to: &str) -> Option<usize> {
     match places.get(from) {
         Some(behind) => behind.get(to).copied(),
@@ -207,7 +207,7 @@ fn place_at(places: &EndsMap<'_>, from: &str, to: &str) -> Option<usize> {
 }
 
 impl<'p> Network<'p> {
-    /// Takes a link more.
+    /// Adds a link.
     fn put_link(&mut self, alloc: Global, link: WrittenLink<'p>) -> Result<(), AllocError> {
         let place = self.links.len();
         put_first(alloc, &mut self.ends, link.from, link.to, place)?;
@@ -225,18 +225,18 @@ impl<'p> Network<'p> {
         Ok(())
     }
 
-    /// Whether the name is one of a bridge.
+    /// Returns whether the name is one of a bridge.
     pub(crate) fn is_bridge(&self, name: &str) -> bool {
         self.are_bridges.get(name).copied().unwrap_or(false)
     }
 
-    /// The link by which a station's talker sends, in a sketch.
+    /// Returns the link on which a station's talker sends, in a network file.
     pub(crate) fn talkers_link(&self, station: &str) -> Option<&WrittenLink<'p>> {
         let place = self.talkers.get(station)?;
         self.links.get(*place)
     }
 
-    /// The bridge at which a talker's link ends, which a link is or stands for.
+    /// Returns the bridge at which a talker's link ends; the link is a talker's, or one of its directions is.
     pub(crate) fn edge_of(&self, link: &WrittenLink<'p>) -> &'p str {
         if self.is_bridge(link.from) {
             link.from
@@ -245,33 +245,33 @@ impl<'p> Network<'p> {
         }
     }
 
-    /// Whether the name is one of a bridge or a station.
+    /// Returns whether the name is one of a bridge or a station.
     pub(crate) fn is_node(&self, name: &str) -> bool {
         self.are_bridges.contains_key(name)
     }
 
-    /// The place of the link between two nodes.
+    /// Returns the index of the link between two nodes.
     pub(crate) fn link_between(&self, from: &str, to: &str) -> Option<usize> {
         place_at(&self.ends, from, to)
     }
 
-    /// Whether a link of the plant leads from one node to another.
+    /// Returns whether a link of the plan leads from one node to another.
     pub(crate) fn leads(&self, from: &str, to: &str) -> bool {
         self.is_bridge(from)
             && (self.link_between(from, to).is_some() || place_at(&self.back, from, to).is_some())
     }
 
-    /// The question whether a bridge was meant.
+    /// Returns the question whether a bridge was meant.
     pub(crate) fn bridge_question(&self, alloc: Global, name: &str) -> Result<String, AllocError> {
         question(alloc, name, self.bridges.as_slice())
     }
 
-    /// The question whether a node was meant.
+    /// Returns the question whether a node was meant.
     pub(crate) fn node_question(&self, alloc: Global, name: &str) -> Result<String, AllocError> {
         question(alloc, name, self.nodes.as_slice())
     }
 
-    /// What a link may hold in a cycle, in octets.
+    /// Returns what a link may hold in a cycle, in octets.
     pub(crate) fn budget(&self, link: &WrittenLink<'_>) -> u64 {
         let open = self.cycle.saturating_sub(link.guard);
         open.saturating_mul(2100)

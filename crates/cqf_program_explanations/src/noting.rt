@@ -1,4 +1,4 @@
-//! What is worth a word though nothing is refused.
+//! What is worth mentioning though nothing is refused.
 ghost use Rattle.std.specs.Prelude.{IfOk};
 ghost use Rattle.cqf_program_explanations.specs.Explanations.{AreNotes};
 
@@ -20,7 +20,7 @@ use std::collections::BTreeSet;
 /// How many bridges a note names.
 const MOST_NAMED: usize = 8;
 
-/// Values in nanoseconds that may be meant in microseconds where all of a plant are below a bound.
+/// A key whose values in nanoseconds may be meant in microseconds if all of a plan's are below a bound.
 #[derive(Clone, Copy, Debug)]
 struct NanosKey {
     owner: KeyOwner,
@@ -28,7 +28,8 @@ struct NanosKey {
     below: u64,
 }
 
-/// Below 20 ns are cables of 4 m, which are 1 to 20 microseconds where they have 200 m to 4 km; below 10,000 ns is the shortest cycle time.
+/// Delays below 20 ns are cables of at most 4 m; as 1 to 20 microseconds they are cables of 200 m to 4 km. 10,000 ns is the shortest cycle
+/// time.
 const NANOS_KEYS: [NanosKey; 4] = [
     NanosKey {
         owner: KeyOwner::Link,
@@ -52,7 +53,7 @@ const NANOS_KEYS: [NanosKey; 4] = [
     },
 ];
 
-/// The number at a key; of two delays the greatest.
+/// Returns the number at a key; of two delays the greatest.
 fn greatest_at(item: &WrittenItem<'_>, key: &str) -> u64 {
     if key == "delay" {
         let (_, greatest) = delays_of(item);
@@ -61,7 +62,7 @@ fn greatest_at(item: &WrittenItem<'_>, key: &str) -> u64 {
     item.number(key)
 }
 
-/// Notes the first value at a key, where one is above 0 and all are below the bound.
+/// Notes the first value at a key, if one is above 0 and all are below the bound.
 fn note_nanos(
     given: &CommandInput<'_>,
     told: &mut ToldLines,
@@ -93,7 +94,7 @@ fn note_nanos(
     )?)
 }
 
-/// The names of bridges, with `..` behind them where there are more.
+/// Returns the names of bridges, followed by `..` if there are more.
 fn names_of(alloc: Global, bridges: &[FoundKey<'_>]) -> Result<String, AllocError> {
     let mut names = String::new(alloc);
     for found in bridges.iter().take(MOST_NAMED) {
@@ -135,7 +136,7 @@ fn note_bridges(given: &CommandInput<'_>, told: &mut ToldLines) -> Result<(), Al
     })
 }
 
-/// Whether a stream has its own talker among its listeners: at the end of a path, or among its ends.
+/// Returns whether a stream has its own talker among its listeners: at the end of a path, or among its ends.
 fn hears_itself(
     alloc: Global,
     asked: &WrittenStream<'_>,
@@ -164,7 +165,7 @@ fn note_talkers(given: &CommandInput<'_>, told: &mut ToldLines) -> Result<(), Al
     Ok(())
 }
 
-/// Whether a command that told this on standard error may have notes: it was done, or says how deliveries are.
+/// Returns whether a command that wrote this on standard error may have notes: it was done, or says how deliveries are.
 fn may_have_notes(line: &[u8]) -> bool {
     if line.is_empty() {
         return true;
@@ -175,14 +176,15 @@ fn may_have_notes(line: &[u8]) -> bool {
     }
 }
 
-/// What is worth a word of a plant that isn't refused: a line each, at most 20, and behind these how many more there are. Each begins with
-/// `note: ` and ends with LF, and has printable characters of ASCII alone. It is empty where there is nothing to say, where the command
-/// takes no plant, and where the input is refused.
+/// Returns what is worth mentioning about a plan that isn't refused: a line each, at most 20, followed by how many more there are. Each
+/// line begins with `note: ` and ends with LF, and has only printable characters of ASCII. The text is empty if there is nothing to say, if
+/// the command takes no plan, or if the input is refused.
 ///
-/// `command`, `limits` and `sources` are those of [`explanation`](crate::explanation), and `line` is what the command told on standard error.
+/// `command`, `limits` and `sources` are those of [`explanation`](crate::explanation), and `line` is what the command wrote on standard
+/// error.
 ///
 /// # Errors
-/// Where a growth is refused.
+/// If an allocation fails.
 pub fn notes(
     alloc: Global,
     command: &str,

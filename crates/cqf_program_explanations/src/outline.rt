@@ -1,10 +1,10 @@
-//! What stands on which line of a plant, found by its lines alone.
+//! What is on which line of a plan, found by its lines alone.
 
 use crate::lexer::Lexer;
 use crate::lines::Lines;
 use std::alloc::{AllocError, Global};
 
-/// A key, the line on which it stands, and what stands behind it there, as far as the scan saw.
+/// A key, its line, and what follows it there, as far as the scan read.
 #[derive(Clone, Copy, Debug)]
 pub(crate) struct KeyLine<'a> {
     pub key: &'a [u8],
@@ -19,7 +19,7 @@ pub(crate) struct Element<'a> {
     pub keys: Vec<KeyLine<'a>>,
 }
 
-/// The lines of a plant's file: of the keys of its top, of its links and streams, and of the texts in its arrays of names.
+/// The lines of a plan's file: of the keys of its top level, of its links and streams, and of the texts in its arrays of names.
 #[derive(Drop)]
 pub(crate) struct Outline<'a> {
     pub top: Vec<KeyLine<'a>>,
@@ -38,7 +38,7 @@ enum Section {
     Other,
 }
 
-/// The array of the top that is read.
+/// The array of the top level that is read.
 #[derive(Clone, Copy, Debug)]
 enum TopArray {
     Bridges,
@@ -48,7 +48,7 @@ enum TopArray {
     Other,
 }
 
-/// A scan, behind some lines.
+/// A scan, after some lines.
 #[derive(Drop)]
 struct Scan<'a> {
     alloc: Global,
@@ -58,7 +58,7 @@ struct Scan<'a> {
     listed: TopArray,
 }
 
-/// What stands before the first byte that is one of these, or all.
+/// Returns what is before the first byte that is one of these, or everything.
 fn before<'a>(text: &'a [u8], ends: &[u8]) -> &'a [u8] {
     match text.iter().position(|byte| ends.contains(byte)) {
         Some(end) => text.get(..end).unwrap_or(text),
@@ -66,13 +66,13 @@ fn before<'a>(text: &'a [u8], ends: &[u8]) -> &'a [u8] {
     }
 }
 
-/// What stands behind the first byte that is this, where there is one.
+/// Returns what follows the first byte that is this one, if there is one.
 fn behind(text: &[u8], end: u8) -> Option<&[u8]> {
     let place = text.iter().position(|byte| *byte == end)?;
     text.get(place.saturating_add(1)..)
 }
 
-/// The first part of a key, without its quotes.
+/// Returns the first part of a key, without its quotes.
 fn first_part(text: &[u8]) -> &[u8] {
     match *text {
         [b'"', ref quoted @ ..] => before(quoted, b"\""),
@@ -82,7 +82,7 @@ fn first_part(text: &[u8]) -> &[u8] {
 }
 
 impl<'a> Scan<'a> {
-    /// A scan before the first line.
+    /// Returns a scan before the first line.
     fn new(alloc: Global) -> Scan<'a> {
         Scan {
             alloc,
@@ -99,7 +99,7 @@ impl<'a> Scan<'a> {
         }
     }
 
-    /// An element that begins on a line.
+    /// Returns an element that begins on a line.
     fn element(&self, line: u64) -> Element<'a> {
         Element {
             line,
@@ -135,7 +135,7 @@ impl<'a> Scan<'a> {
         Ok(())
     }
 
-    /// Takes the head of another table: a key of the top, or one of the last link or stream.
+    /// Takes the head of another table: a key of the top level, or one of the last link or stream.
     fn take_table(&mut self, line: u64, head: &'a [u8]) -> Result<(), AllocError> {
         let key = first_part(head);
         let within = behind(head, b'.').map(|rest| KeyLine {
@@ -179,7 +179,7 @@ impl<'a> Scan<'a> {
         self.put_key(KeyLine { key, line, text })
     }
 
-    /// Takes what begins on a line, where no value goes on there.
+    /// Takes what begins on a line, if no value continues there.
     fn begin(&mut self, line: u64, text: &'a [u8]) -> Result<(), AllocError> {
         self.listed = TopArray::Other;
         match *text {
@@ -190,7 +190,7 @@ impl<'a> Scan<'a> {
         }
     }
 
-    /// Takes a byte of an array of the top: where an element begins, its line.
+    /// Takes a byte of an array of the top level: its line, if an element begins there.
     fn take_byte(&mut self, line: u64, byte: u8) -> Result<(), AllocError> {
         let outermost = self.lexer.depth() == 1;
         self.lexer = self.lexer.behind(byte);
@@ -225,7 +225,7 @@ impl<'a> Scan<'a> {
     }
 }
 
-/// Puts a key to the last of some elements, where there is one.
+/// Adds a key to the last of some elements, if there is one.
 fn put_within<'a>(elements: &mut Vec<Element<'a>>, key: KeyLine<'a>) -> Result<(), AllocError> {
     if let Some(element) = elements.last_mut() {
         element.keys.push(key)?;
@@ -233,7 +233,7 @@ fn put_within<'a>(elements: &mut Vec<Element<'a>>, key: KeyLine<'a>) -> Result<(
     Ok(())
 }
 
-/// The outline of a text that stands behind so many lines.
+/// Returns the outline of a text that follows `lines_before` lines.
 pub(crate) fn outline_of(
     alloc: Global,
     text: &[u8],

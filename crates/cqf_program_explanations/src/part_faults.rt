@@ -1,4 +1,4 @@
-//! Another number of parts than a command takes.
+//! A number of parts that the command doesn't take.
 
 use crate::given::CommandInput;
 use crate::parts::put_parts;
@@ -9,7 +9,7 @@ use std::alloc::AllocError;
 /// How many files are named.
 const MOST_NAMED: usize = 8;
 
-/// What a command takes.
+/// Returns what a command takes, in words.
 fn taken_by(command: &str) -> &'static str {
     match command {
         "port" => "a gate list and arrivals",
@@ -22,7 +22,7 @@ fn taken_by(command: &str) -> &'static str {
     }
 }
 
-/// The files' names, with the number of their parts where it isn't one, and those that are empty as such.
+/// Returns the files' names, with the number of their parts if it isn't 1, and with a remark for those that are empty.
 fn names_of(given: &CommandInput<'_>) -> Result<String, AllocError> {
     let mut names = String::new(given.alloc);
     for source in given.sources.iter().take(MOST_NAMED) {
@@ -47,7 +47,7 @@ fn names_of(given: &CommandInput<'_>) -> Result<String, AllocError> {
     Ok(names)
 }
 
-/// Tells what the command takes, and which files were given.
+/// Reports what the command takes, and which files were given.
 pub(crate) fn tell_parts(given: &CommandInput<'_>, told: &mut ToldLines) -> Result<(), AllocError> {
     let (command, takes) = (given.command, taken_by(given.command));
     let (count, names) = (given.sources.len(), names_of(given)?);

@@ -1,52 +1,52 @@
-//! The parts of the input, each with the file that it stands in.
+//! The parts of the input, each with its file.
 
 use crate::explaining::NamedFile;
 use cqf_text::parts;
 use std::alloc::{AllocError, Global};
 
-/// How many files are one plant at most.
+/// The most files that are one plan.
 const MOST_FILES: usize = 16;
 
-/// A text that is one part of the input, or a file of a plant of several.
+/// A text that is one part of the input, or a file of a plan of several.
 #[derive(Clone, Copy, Debug)]
 pub(crate) struct InputPart<'a> {
     pub file: &'a str,
     pub text: &'a [u8],
-    /// How many lines of the file stand before it.
+    /// How many lines of the file are before it.
     pub before: u64,
-    /// Whether it is all of its file.
+    /// Whether it is the whole file.
     pub is_whole: bool,
     /// Whether its file is the first.
     pub is_first: bool,
 }
 
 impl InputPart<'_> {
-    /// Whether its keys are checked: it is a file named like a TOML text, or the first file, and no line divides it.
+    /// Returns whether its keys are checked: it is a file named like a TOML text, or the first file, and no line divides it.
     pub(crate) fn is_checked(&self) -> bool {
         is_toml(self.file) || self.is_first && self.is_whole
     }
 }
 
-/// What the files come to: the plant's parts, and those behind it.
+/// The input that is made from the files: the plan's parts, and those after it.
 #[derive(Drop)]
 pub(crate) struct Input<'a> {
     pub plant: Vec<InputPart<'a>>,
     pub rest: Vec<InputPart<'a>>,
-    /// Whether the plant's are the domain and its streams, and not files that are one plant.
+    /// Whether the plan's parts are the domain and its streams, and not files that are one plan.
     pub are_two: bool,
 }
 
-/// Whether the command takes a domain.
+/// Returns whether the command takes a domain.
 pub(crate) fn takes_domain(command: &str) -> bool {
     command != "port" && command != "line"
 }
 
-/// Whether a file is named like a TOML text.
+/// Returns whether a file is named like a TOML text.
 pub(crate) fn is_toml(name: &str) -> bool {
     name.as_bytes().ends_with(b".toml")
 }
 
-/// How many files at the beginning, named like TOML texts, are one plant: 2 to 16, or 0 where they aren't several.
+/// Returns how many files at the beginning, named like TOML texts, are one plan: 2 to 16, or 0 if they aren't several.
 fn joint_files(sources: &[NamedFile<'_>]) -> usize {
     let leading = sources
         .iter()
@@ -59,7 +59,7 @@ fn joint_files(sources: &[NamedFile<'_>]) -> usize {
     }
 }
 
-/// How many line feeds a text has.
+/// Returns how many line feeds a text has.
 fn line_feeds(text: &[u8]) -> u64 {
     let mut found: u64 = 0;
     for byte in text {
@@ -70,7 +70,7 @@ fn line_feeds(text: &[u8]) -> u64 {
     found
 }
 
-/// The parts of a file, behind others.
+/// Appends the parts of a file to others.
 pub(crate) fn put_parts<'a>(
     alloc: Global,
     found: &mut Vec<InputPart<'a>>,
@@ -92,7 +92,7 @@ pub(crate) fn put_parts<'a>(
     Ok(())
 }
 
-/// All parts of the files, of which the first are one plant.
+/// Returns all parts of the files; the first `joint` files are one plan.
 fn all_parts<'a>(
     alloc: Global,
     joint: usize,
@@ -115,7 +115,7 @@ fn all_parts<'a>(
     Ok(found)
 }
 
-/// How many of the parts are the plant: the files that are one, one file that has no divider, or else the domain and its streams.
+/// Returns how many of the parts are the plan: the files that are one plan, one file without a divider, or else the domain and its streams.
 fn plant_parts(
     command: &str,
     joint: usize,
@@ -135,7 +135,7 @@ fn plant_parts(
     }
 }
 
-/// The parts of the input that the files come to for a command.
+/// Returns the parts of the input that is made from the files for a command.
 pub(crate) fn input_of<'a>(
     alloc: Global,
     command: &str,
@@ -164,7 +164,7 @@ pub(crate) fn input_of<'a>(
 }
 
 impl Input<'_> {
-    /// Whether the file behind the plant is one of calls, where no line divides it: the plant is one file, or several that are one.
+    /// Returns whether a file after the plan is one of calls, if no line divides it: the plan is one file, or several that are one.
     pub(crate) fn has_plant(&self) -> bool {
         match *self.plant.as_slice() {
             [] => false,

@@ -1,8 +1,8 @@
-//! Places in files, and numbers as they are told.
+//! Places in files, and numbers as they are printed.
 
 use std::fmt;
 
-/// Where something stands: in a file, at a line from 1 as far as that is known.
+/// A place: a file, and a line from 1 if that is known.
 #[derive(Clone, Copy, Debug)]
 pub(crate) struct Place<'a> {
     pub file: &'a str,
@@ -13,7 +13,7 @@ pub(crate) struct Place<'a> {
 #[derive(Clone, Copy, Debug)]
 pub(crate) struct Grouped(pub u64);
 
-/// How a file is called: `-` is standard input.
+/// Returns the name of a file as it is printed: `-` is standard input.
 pub(crate) fn called(file: &str) -> &str {
     if file == "-" { "standard input" } else { file }
 }

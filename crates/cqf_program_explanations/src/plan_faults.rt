@@ -1,4 +1,4 @@
-//! Streams of a sketch that aren't placed, or may be late.
+//! Streams of a network file that aren't placed, or may be late.
 
 use crate::domain_faults::{tell_guard_at, tell_link_guards_at};
 use crate::given::CommandInput;
@@ -14,7 +14,7 @@ use cqf_model::LARGE;
 use std::alloc::{AllocError, Global};
 use std::collections::BTreeMap;
 
-/// What a line of the command says of a stream: its name, the fault, and what stands behind the fault.
+/// What a line of the command says about a stream: its name, the fault, and what follows the fault.
 #[derive(Clone, Copy, Debug)]
 struct Unplaced<'a> {
     stream: &'a str,
@@ -22,13 +22,13 @@ struct Unplaced<'a> {
     value: &'a str,
 }
 
-/// The cycle time of a line that tells of several, and what stands behind `; at CYCLE `.
+/// Returns the cycle time of a line about several, and what follows `; at CYCLE `.
 fn at_cycle<'a>(refusal: Refusal<'a>) -> Option<(&'a str, &'a str)> {
     let (_, behind) = refusal.value.split_once("; at ")?;
     behind.split_once(' ')
 }
 
-/// The cycle time of a line that tells of several, in ns.
+/// Returns the cycle time of a line about several, in ns.
 fn cycle_of(refusal: Refusal<'_>) -> u64 {
     match at_cycle(refusal) {
         Some((cycle, _)) => number_in(Some(cycle)),
@@ -36,7 +36,7 @@ fn cycle_of(refusal: Refusal<'_>) -> u64 {
     }
 }
 
-/// The stream that a line tells of.
+/// Returns the stream that a line is about.
 fn unplaced_of<'a>(refusal: Refusal<'a>) -> Option<Unplaced<'a>> {
     let (stream, told) = match at_cycle(refusal) {
         Some((_, text)) => text.split_once(": ")?,
@@ -50,7 +50,7 @@ fn unplaced_of<'a>(refusal: Refusal<'a>) -> Option<Unplaced<'a>> {
     })
 }
 
-/// A number of a line.
+/// Returns a number of a line.
 fn number_in(text: Option<&str>) -> u64 {
     let mut number: u64 = 0;
     for byte in text.unwrap_or("").bytes() {
@@ -60,7 +60,7 @@ fn number_in(text: Option<&str>) -> u64 {
     number
 }
 
-/// Why a stream's `from` is where no talker is.
+/// Returns why a stream's `from` names no talker.
 fn no_talker(alloc: Global, network: &Network<'_>, name: &str) -> Result<String, AllocError> {
     let shown = shortened(alloc, name)?;
     if network.is_node(name) {
@@ -72,7 +72,7 @@ fn no_talker(alloc: Global, network: &Network<'_>, name: &str) -> Result<String,
     format!(in alloc; "no bridge or station {shown}{question}")
 }
 
-/// Tells of each stream that comes from where no talker is.
+/// Reports each stream whose `from` names no talker.
 fn tell_no_talkers(given: &CommandInput<'_>, told: &mut ToldLines) -> Result<(), AllocError> {
     let network = given.network()?;
     for item in &given.plant.items(KeyOwner::Stream)? {
@@ -90,7 +90,7 @@ fn tell_no_talkers(given: &CommandInput<'_>, told: &mut ToldLines) -> Result<(),
     Ok(())
 }
 
-/// The names of the stations.
+/// Returns the names of the stations.
 fn stations_of<'p>(alloc: Global, network: &Network<'p>) -> Result<Vec<&'p str>, AllocError> {
     let mut stations = Vec::new(alloc);
     for name in &network.nodes {
@@ -101,7 +101,7 @@ fn stations_of<'p>(alloc: Global, network: &Network<'p>) -> Result<Vec<&'p str>,
     Ok(stations)
 }
 
-/// Why a name is no listener's.
+/// Returns why a name isn't a listener's.
 fn no_listener(alloc: Global, network: &Network<'_>, name: &str) -> Result<String, AllocError> {
     let shown = shortened(alloc, name)?;
     if network.is_bridge(name) {
@@ -112,7 +112,7 @@ fn no_listener(alloc: Global, network: &Network<'_>, name: &str) -> Result<Strin
     format!(in alloc; "no station {shown}{question}")
 }
 
-/// Tells of each listener that is no station.
+/// Reports each listener that isn't a station.
 fn tell_no_listeners(given: &CommandInput<'_>, told: &mut ToldLines) -> Result<(), AllocError> {
     let network = given.network()?;
     for item in &given.plant.items(KeyOwner::Stream)? {
@@ -128,7 +128,7 @@ fn tell_no_listeners(given: &CommandInput<'_>, told: &mut ToldLines) -> Result<(
     Ok(())
 }
 
-/// Tells of each stream whose name an earlier one has.
+/// Reports each stream whose name an earlier one has.
 fn tell_names_twice(given: &CommandInput<'_>, told: &mut ToldLines) -> Result<(), AllocError> {
     let mut firsts: BTreeMap<&str, WrittenItem<'_>> = BTreeMap::new(given.alloc);
     for item in &given.plant.items(KeyOwner::Stream)? {
@@ -149,7 +149,7 @@ fn tell_names_twice(given: &CommandInput<'_>, told: &mut ToldLines) -> Result<()
     Ok(())
 }
 
-/// Tells of a deadline that is over before a frame is whole at its edge bridge.
+/// Reports a deadline that is over before a frame is whole at its edge bridge.
 fn tell_too_soon(
     given: &CommandInput<'_>,
     told: &mut ToldLines,
@@ -170,7 +170,7 @@ fn tell_too_soon(
     )?)
 }
 
-/// Tells of a stream whose traffic needs more than it may reserve, or does.
+/// Reports a stream whose traffic needs more than the stream may reserve, or reserves.
 fn tell_needs(
     given: &CommandInput<'_>,
     told: &mut ToldLines,
@@ -191,7 +191,7 @@ fn tell_needs(
     )?)
 }
 
-/// Tells of a stream for which a link has too little left, by the words of its line: `LISTENER COST LINK LEFT`.
+/// Reports a stream for which a link has too little left, by the words of its line: `LISTENER COST LINK LEFT`.
 fn tell_full(
     given: &CommandInput<'_>,
     told: &mut ToldLines,
@@ -209,7 +209,7 @@ fn tell_full(
     )?)
 }
 
-/// Tells of a stream for which a link of its branches has too little left, by the words of its line: `LINK LEFT`.
+/// Reports a stream for which a link of its branches has too little left, by the words of its line: `LINK LEFT`.
 fn tell_short(
     given: &CommandInput<'_>,
     told: &mut ToldLines,
@@ -229,7 +229,7 @@ fn tell_short(
     )?)
 }
 
-/// Tells of a stream that may be late, by the words of its line: `LISTENER MOST DEADLINE`.
+/// Reports a stream that may be late, by the words of its line: `LISTENER MOST DEADLINE`.
 fn tell_late(
     given: &CommandInput<'_>,
     told: &mut ToldLines,
@@ -247,7 +247,7 @@ fn tell_late(
     )?)
 }
 
-/// Tells of a listener to which no links lead.
+/// Reports a listener to which no links lead.
 fn tell_no_way(
     given: &CommandInput<'_>,
     told: &mut ToldLines,
@@ -260,7 +260,7 @@ fn tell_no_way(
     )?)
 }
 
-/// Tells of a stream whose ways have too many links together.
+/// Reports a stream whose found paths have too many links together.
 fn tell_wide(
     given: &CommandInput<'_>,
     told: &mut ToldLines,
@@ -274,7 +274,7 @@ fn tell_wide(
     )?)
 }
 
-/// Tells of each stream whose paths have too many links together, or of the one of this name whose ways have.
+/// Reports each stream whose given paths have too many links together; or the one of this name, whose found paths do.
 fn tell_many_hops(
     given: &CommandInput<'_>,
     told: &mut ToldLines,
@@ -288,7 +288,7 @@ fn tell_many_hops(
     tell_form_faults(given, told, FormFault::TooManyHops)
 }
 
-/// The cycle time that was tried, in ns: that of the line, or else the first candidate.
+/// Returns the cycle time that was tried, in ns: that of the line, or else the first candidate.
 fn cycle_tried(given: &CommandInput<'_>, refusal: Refusal<'_>) -> Result<u64, AllocError> {
     let told = cycle_of(refusal);
     if told > 0 {
@@ -298,8 +298,8 @@ fn cycle_tried(given: &CommandInput<'_>, refusal: Refusal<'_>) -> Result<u64, Al
     Ok(candidates.first().copied().unwrap_or(0))
 }
 
-/// What of a stream's traffic is in the way of its talker's being in step on a cycle time, in ns: the key that it stands at, and words. Nothing
-/// where it is another cycle time.
+/// Returns what in a stream's traffic prevents its talker from being in step on a cycle time, in ns: the key, and words; `None` if nothing
+/// does.
 fn step_words(
     given: &CommandInput<'_>,
     item: &WrittenItem<'_>,
@@ -328,7 +328,7 @@ fn step_words(
     Ok(None)
 }
 
-/// Tells of a stream whose talker can't be in step on a cycle time, in ns.
+/// Reports a stream whose talker can't be in step on a cycle time, in ns.
 fn tell_out_of_step(
     given: &CommandInput<'_>,
     told: &mut ToldLines,
@@ -344,13 +344,13 @@ fn tell_out_of_step(
     }
 }
 
-/// What is said of an interval that isn't whole cycles, in ns.
+/// Returns the words about an interval that isn't a whole number of cycles, in ns.
 fn uneven_words(alloc: Global, interval: u64, cycle: u64) -> Result<String, AllocError> {
     let (interval, cycle) = (Grouped(interval), Grouped(cycle));
     format!(in alloc; "an interval of {interval} ns isn't whole cycles of {cycle} ns")
 }
 
-/// What is said of frames that may come so soon behind a cycle's beginning, where clocks may be so far apart, in ns.
+/// Returns the words about frames that may arrive so soon after a cycle's beginning that clocks differ by more, in ns.
 fn first_words(alloc: Global, first: u64, sync: u64) -> Result<String, AllocError> {
     let (first, sync) = (Grouped(first), Grouped(sync));
     format!(in alloc;
@@ -358,7 +358,8 @@ fn first_words(alloc: Global, first: u64, sync: u64) -> Result<String, AllocErro
     )
 }
 
-/// What is said of frames that come so late behind a cycle's beginning, where clocks may be so far apart, all in ns.
+/// Returns the words about frames that may arrive so late after a cycle's beginning that, by clocks that differ, the cycle is over, all in
+/// ns.
 fn latest_words(alloc: Global, latest: u64, sync: u64, cycle: u64) -> Result<String, AllocError> {
     let (latest, cycle) = (Grouped(latest), Grouped(cycle));
     if sync == 0 {
@@ -372,7 +373,7 @@ fn latest_words(alloc: Global, latest: u64, sync: u64, cycle: u64) -> Result<Str
     )
 }
 
-/// Tells of a stream of a name why it isn't placed.
+/// Reports why a stream of a name isn't placed.
 fn tell_unplaced(
     given: &CommandInput<'_>,
     told: &mut ToldLines,
@@ -400,7 +401,7 @@ fn tell_unplaced(
     }
 }
 
-/// Tells of each guard time that isn't below a cycle time, the domain's first.
+/// Reports each guard band that isn't shorter than a cycle time, the domain's first.
 fn tell_guards_at(
     given: &CommandInput<'_>,
     told: &mut ToldLines,
@@ -412,8 +413,7 @@ fn tell_guards_at(
     tell_link_guards_at(given, told, cycle)
 }
 
-/// Tells why a sketch comes to no plant: of each stream that is wrong in this way whatever the cycle time is, or of the one that isn't
-/// placed.
+/// Reports why a network file has no plan: each stream that is wrong in this way at any cycle time, or the one that isn't placed.
 pub(crate) fn tell_plan(
     given: &CommandInput<'_>,
     told: &mut ToldLines,

@@ -1,4 +1,4 @@
-//! A plant as its files have it: what is written, and where.
+//! A plan as its files have it: what is written, and where.
 
 use crate::outline::{Element, KeyLine, Outline, outline_of};
 use crate::parts::InputPart;
@@ -7,16 +7,16 @@ use crate::words::shortened;
 use std::alloc::{AllocError, Global};
 use toml::{Table, Value};
 
-/// A file of a plant, or a part of one.
+/// A file of a plan, or a part of one.
 #[derive(Drop)]
 pub(crate) struct PlantFile<'a> {
     pub part: InputPart<'a>,
-    /// What its text means, where it is TOML.
+    /// What its text means, if it is TOML.
     pub table: Option<Table>,
     pub outline: Outline<'a>,
 }
 
-/// The files of a plant, in their order.
+/// The files of a plan, in their order.
 #[derive(Drop)]
 pub(crate) struct Plant<'a> {
     alloc: Global,
@@ -25,7 +25,7 @@ pub(crate) struct Plant<'a> {
     are_two: bool,
 }
 
-/// Whose key it is.
+/// The owner of a key.
 #[derive(Clone, Copy, Debug, PartialEq, Eq)]
 pub(crate) enum KeyOwner {
     Top,
@@ -33,12 +33,12 @@ pub(crate) enum KeyOwner {
     Stream,
 }
 
-/// A link or a stream as it is written: its number in the plant from 0, and where it stands.
+/// A link or a stream as it is written: its number in the plan from 0, and its place.
 #[derive(Clone, Copy)]
 pub(crate) struct WrittenItem<'p> {
     pub kind: KeyOwner,
     pub number: u64,
-    /// The place of its file in the plant.
+    /// The index of its file in the plan.
     pub file_number: usize,
     pub file: &'p str,
     pub line: Option<u64>,
@@ -46,16 +46,16 @@ pub(crate) struct WrittenItem<'p> {
     pub value: &'p Value,
 }
 
-/// What stands at a key: of the top, or of a link or a stream.
+/// The value at a key: of the top level, or of a link or a stream.
 #[derive(Clone, Copy)]
 pub(crate) struct FoundKey<'p> {
     pub place: Place<'p>,
     pub value: &'p Value,
-    /// What is written behind the key, where its line is known.
+    /// What is written after the key, if its line is known.
     pub text: &'p [u8],
 }
 
-/// The table of a text, where it is TOML.
+/// Returns the table of a text, if it is TOML.
 fn table_of(alloc: Global, text: &[u8]) -> Result<Option<Table>, AllocError> {
     match toml::table_from_slice(alloc, text) {
         Ok(table) => Ok(Some(table)),
@@ -64,12 +64,12 @@ fn table_of(alloc: Global, text: &[u8]) -> Result<Option<Table>, AllocError> {
     }
 }
 
-/// The first of the lines on which a key stands.
+/// Returns the first of the lines that have a key.
 pub(crate) fn line_of_key<'p>(keys: &'p [KeyLine<'p>], key: &str) -> Option<&'p KeyLine<'p>> {
     keys.iter().find(|line| line.key == key.as_bytes())
 }
 
-/// What stands behind a key, where its line is known.
+/// Returns what follows a key, if its line is known.
 fn text_behind<'p>(line: Option<&'p KeyLine<'p>>) -> &'p [u8] {
     match line {
         Some(line) => line.text,
@@ -78,7 +78,7 @@ fn text_behind<'p>(line: Option<&'p KeyLine<'p>>) -> &'p [u8] {
 }
 
 impl<'a> PlantFile<'a> {
-    /// What stands at a key of the top.
+    /// Returns the value at a key of the top level.
     pub(crate) fn get(&self, key: &str) -> Option<&Value> {
         match &self.table {
             Some(table) => table.get(key),
@@ -86,7 +86,7 @@ impl<'a> PlantFile<'a> {
         }
     }
 
-    /// The place of a line of the file.
+    /// Returns the place of a line of the file.
     pub(crate) fn at(&self, line: Option<u64>) -> Place<'a> {
         Place {
             file: self.part.file,
@@ -94,13 +94,13 @@ impl<'a> PlantFile<'a> {
         }
     }
 
-    /// Where a key of the top stands.
+    /// Returns the place of a key of the top level.
     pub(crate) fn place_of(&self, key: &str) -> Place<'a> {
         let line = line_of_key(self.outline.top.as_slice(), key);
         self.at(line.map(|line| line.line))
     }
 
-    /// The elements of the array at a key of the top.
+    /// Returns the elements of the array at a key of the top level.
     fn values(&self, key: &str) -> &[Value] {
         match self.get(key).and_then(Value::as_array) {
             Some(values) => values.as_slice(),
@@ -108,7 +108,7 @@ impl<'a> PlantFile<'a> {
         }
     }
 
-    /// What stands at a key of the top, with its place.
+    /// Returns the value at a key of the top level, with its place.
     pub(crate) fn found(&self, key: &str) -> Option<FoundKey<'_>> {
         let value = self.get(key)?;
         let line = line_of_key(self.outline.top.as_slice(), key);
@@ -120,7 +120,7 @@ impl<'a> PlantFile<'a> {
     }
 }
 
-/// A file of a plant, read.
+/// Returns a file of a plan, read.
 fn plant_file(alloc: Global, part: InputPart<'_>) -> Result<PlantFile<'_>, AllocError> {
     let table = table_of(alloc, part.text)?;
     let outline = outline_of(alloc, part.text, part.before)?;
@@ -131,7 +131,7 @@ fn plant_file(alloc: Global, part: InputPart<'_>) -> Result<PlantFile<'_>, Alloc
     })
 }
 
-/// The key of the top at which links or streams stand.
+/// Returns the key of the top level at which links or streams are.
 fn key_of(kind: KeyOwner) -> &'static str {
     match kind {
         KeyOwner::Link => "links",
@@ -139,7 +139,7 @@ fn key_of(kind: KeyOwner) -> &'static str {
     }
 }
 
-/// Puts the links or the streams of a file behind others.
+/// Appends the links or the streams of a file to others.
 fn put_items<'p>(
     items: &mut Vec<WrittenItem<'p>>,
     kind: KeyOwner,
@@ -165,7 +165,7 @@ fn put_items<'p>(
     Ok(())
 }
 
-/// Puts the elements of an array of names behind others.
+/// Appends the elements of an array of names to others.
 fn put_names<'p>(
     names: &mut Vec<FoundKey<'p>>,
     key: &str,
@@ -193,7 +193,7 @@ fn put_names<'p>(
 }
 
 impl<'a> Plant<'a> {
-    /// The plant of some parts, which are the domain's and its streams' where they are two.
+    /// Returns the plan of some parts; if `are_two`, these are the domain and its streams.
     pub(crate) fn read(
         alloc: Global,
         parts: &[InputPart<'a>],
@@ -210,7 +210,7 @@ impl<'a> Plant<'a> {
         })
     }
 
-    /// The same of which only the texts are looked at.
+    /// Returns the same with only the texts, not parsed.
     pub(crate) fn unread(alloc: Global, parts: &[InputPart<'a>]) -> Result<Plant<'a>, AllocError> {
         let mut files = Vec::new(alloc);
         for part in parts {
@@ -227,7 +227,7 @@ impl<'a> Plant<'a> {
         })
     }
 
-    /// The files in which a key of the top is read.
+    /// Returns the files in which a key of the top level is read.
     pub(crate) fn files_of(&self, key: &str) -> &[PlantFile<'a>] {
         let all = self.files.as_slice();
         let read = match (self.are_two, key) {
@@ -238,7 +238,7 @@ impl<'a> Plant<'a> {
         read.unwrap_or(all)
     }
 
-    /// What stands at a key of the top of the first file that has it.
+    /// Returns the value at a key of the top level, in the first file that has it.
     pub(crate) fn top(&self, key: &str) -> Option<FoundKey<'_>> {
         for file in self.files_of(key) {
             let found = file.found(key);
@@ -249,7 +249,7 @@ impl<'a> Plant<'a> {
         None
     }
 
-    /// The whole number at a key of the top, or 0.
+    /// Returns the whole number at a key of the top level, or 0.
     pub(crate) fn number(&self, key: &str) -> u64 {
         match self.top(key) {
             Some(found) => number_of(found.value),
@@ -257,17 +257,17 @@ impl<'a> Plant<'a> {
         }
     }
 
-    /// The links or the streams that are read.
+    /// Returns the links or the streams that are read.
     pub(crate) fn items(&self, kind: KeyOwner) -> Result<Vec<WrittenItem<'_>>, AllocError> {
         self.items_of(self.files_of(key_of(kind)), kind)
     }
 
-    /// The links or the streams of all texts.
+    /// Returns the links or the streams of all texts.
     pub(crate) fn all_items(&self, kind: KeyOwner) -> Result<Vec<WrittenItem<'_>>, AllocError> {
         self.items_of(self.files.as_slice(), kind)
     }
 
-    /// The links or the streams of some files.
+    /// Returns the links or the streams of some files.
     fn items_of<'p>(
         &self,
         files: &'p [PlantFile<'a>],
@@ -280,7 +280,7 @@ impl<'a> Plant<'a> {
         Ok(items)
     }
 
-    /// The elements of an array of names of the top.
+    /// Returns the elements of an array of names of the top level.
     pub(crate) fn names(&self, key: &str) -> Result<Vec<FoundKey<'_>>, AllocError> {
         let mut names = Vec::new(self.alloc);
         for file in self.files_of(key) {
@@ -290,7 +290,7 @@ impl<'a> Plant<'a> {
     }
 }
 
-/// The whole number of a value, or 0 where it is none or is below 0.
+/// Returns the whole number of a value; 0 if it isn't one, or is below 0.
 pub(crate) fn number_of(value: &Value) -> u64 {
     match value.as_integer() {
         Some(number) => u64::try_from(number).unwrap_or(0),
@@ -299,7 +299,7 @@ pub(crate) fn number_of(value: &Value) -> u64 {
 }
 
 impl<'p> WrittenItem<'p> {
-    /// Where it begins.
+    /// Returns the place where it begins.
     pub(crate) fn place(&self) -> Place<'p> {
         Place {
             file: self.file,
@@ -307,7 +307,7 @@ impl<'p> WrittenItem<'p> {
         }
     }
 
-    /// Where a key of it stands, or it begins.
+    /// Returns the place of one of its keys, or else where it begins.
     pub(crate) fn place_of(&self, key: &str) -> Place<'p> {
         let line = line_of_key(self.keys, key).map(|line| line.line);
         Place {
@@ -316,7 +316,7 @@ impl<'p> WrittenItem<'p> {
         }
     }
 
-    /// What stands at a key.
+    /// Returns the value at a key.
     pub(crate) fn get(&self, key: &str) -> Option<&'p Value> {
         match self.value.as_table() {
             Some(table) => table.get(key),
@@ -324,7 +324,7 @@ impl<'p> WrittenItem<'p> {
         }
     }
 
-    /// What stands at a key, with its place.
+    /// Returns the value at a key, with its place.
     pub(crate) fn found(&self, key: &str) -> Option<FoundKey<'p>> {
         let value = self.get(key)?;
         Some(FoundKey {
@@ -334,12 +334,12 @@ impl<'p> WrittenItem<'p> {
         })
     }
 
-    /// The text at a key.
+    /// Returns the text at a key.
     pub(crate) fn text(&self, key: &str) -> Option<&'p str> {
         self.get(key).and_then(Value::as_str)
     }
 
-    /// The whole number at a key, or 0.
+    /// Returns the whole number at a key, or 0.
     pub(crate) fn number(&self, key: &str) -> u64 {
         match self.get(key) {
             Some(value) => number_of(value),
@@ -347,7 +347,7 @@ impl<'p> WrittenItem<'p> {
         }
     }
 
-    /// How it is called: a link by its number and its ends, a stream by its name, or by its number from 1 where it has none.
+    /// Returns its name as printed: a link by its number and its ends, a stream by its name, or by its number from 1 if it has none.
     pub(crate) fn label(&self, alloc: Global) -> Result<String, AllocError> {
         let number = self.number;
         if self.kind == KeyOwner::Link {
@@ -368,7 +368,7 @@ impl<'p> WrittenItem<'p> {
         }
     }
 
-    /// How a stream is called where a line counts it.
+    /// Returns the name of a stream as printed if a line counts it.
     pub(crate) fn counted(&self, alloc: Global) -> Result<String, AllocError> {
         let place = self.number.saturating_add(1);
         match self.text("name") {

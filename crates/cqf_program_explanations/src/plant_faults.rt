@@ -1,4 +1,4 @@
-//! Files that make no plant: keys that no command knows, keys and streams in two files, lines that are too long.
+//! Files that aren't a plan: keys that no command knows, keys and streams in two files, lines that are too long.
 
 use crate::given::CommandInput;
 use crate::lines::Lines;
@@ -14,7 +14,7 @@ use std::alloc::{AllocError, Global};
 use std::collections::BTreeMap;
 use toml::Table;
 
-/// A key that no command knows, with its table, and the file and the line by which it comes in order.
+/// A key that no command knows, with its table, and the file and the line by which it is ordered.
 #[derive(Clone, Copy)]
 struct UnknownKey<'p> {
     file_number: usize,
@@ -23,19 +23,19 @@ struct UnknownKey<'p> {
     owner: UnknownOwner<'p>,
 }
 
-/// Whose key it is.
+/// The owner of the key.
 #[derive(Clone, Copy)]
 enum UnknownOwner<'p> {
     Top,
     Item(WrittenItem<'p>),
 }
 
-/// Whether a key is known of a kind, or the user's own.
+/// Returns whether a key is known of a kind, or the user's own.
 fn is_known(kind: KeyOwner, key: &str) -> bool {
     key.starts_with(OWN) || known_keys(kind).contains(&key)
 }
 
-/// What is said of a key that no command knows.
+/// Returns the words about a key that no command knows.
 fn unknown_words(alloc: Global, kind: KeyOwner, key: &str) -> Result<String, AllocError> {
     let shown = shortened(alloc, key)?;
     if kind != KeyOwner::Top && TOP.contains(&key) {
@@ -54,7 +54,7 @@ fn unknown_words(alloc: Global, kind: KeyOwner, key: &str) -> Result<String, All
     )
 }
 
-/// The first of the lines on which each key stands.
+/// Returns the first line of each key.
 fn lines_of<'p>(
     alloc: Global,
     keys: &'p [KeyLine<'p>],
@@ -68,7 +68,7 @@ fn lines_of<'p>(
     Ok(lines)
 }
 
-/// Puts the keys of a table that no command knows.
+/// Adds the keys of a table that no command knows.
 fn put_unknown<'p>(
     alloc: Global,
     unknown: &mut Vec<UnknownKey<'p>>,
@@ -94,7 +94,7 @@ fn put_unknown<'p>(
     Ok(())
 }
 
-/// Puts those of a file's top.
+/// Adds those of a file's top level.
 fn put_top<'p>(
     alloc: Global,
     unknown: &mut Vec<UnknownKey<'p>>,
@@ -114,7 +114,7 @@ fn put_top<'p>(
     put_unknown(alloc, unknown, KeyOwner::Top, table, lines, first)
 }
 
-/// Puts those of a link or a stream.
+/// Adds those of a link or a stream.
 fn put_item<'p>(
     alloc: Global,
     unknown: &mut Vec<UnknownKey<'p>>,
@@ -132,7 +132,7 @@ fn put_item<'p>(
     put_unknown(alloc, unknown, item.kind, table, item.keys, first)
 }
 
-/// Tells of a key that no command knows.
+/// Reports a key that no command knows.
 fn tell_unknown_key(
     given: &CommandInput<'_>,
     told: &mut ToldLines,
@@ -152,7 +152,7 @@ fn tell_unknown_key(
     }
 }
 
-/// The keys of files that are checked which no command knows.
+/// Returns the keys that no command knows, in files that are checked.
 fn unknown_keys<'p>(
     given: &'p CommandInput<'_>,
     links: &[WrittenItem<'p>],
@@ -173,7 +173,7 @@ fn unknown_keys<'p>(
     Ok(unknown)
 }
 
-/// Tells of each key that no command knows, in files whose keys are checked, in the order of the texts.
+/// Reports each key that no command knows, in files whose keys are checked, in the order of the texts.
 pub(crate) fn tell_unknown_keys(
     given: &CommandInput<'_>,
     told: &mut ToldLines,
@@ -190,7 +190,7 @@ pub(crate) fn tell_unknown_keys(
     Ok(())
 }
 
-/// Where the streams of a file begin.
+/// Returns where the streams of a file begin.
 fn first_streams<'a>(file: &PlantFile<'a>) -> Place<'a> {
     match file.outline.streams.first() {
         Some(element) => file.at(Some(element.line)),
@@ -198,7 +198,7 @@ fn first_streams<'a>(file: &PlantFile<'a>) -> Place<'a> {
     }
 }
 
-/// Tells of each file that has a key of the top which a file before it has.
+/// Reports each file that has a key of the top level which an earlier file has.
 pub(crate) fn tell_key_twice(
     given: &CommandInput<'_>,
     told: &mut ToldLines,
@@ -224,8 +224,7 @@ pub(crate) fn tell_key_twice(
     Ok(())
 }
 
-/// What was seen of a line: an open quote, how many dots stand in a row, with nothing but parts of a key between them, and the most
-/// that did in a key.
+/// What was read of a line: an open quote, how many dots are in a row, with nothing but parts of a key between them, and the most in a key.
 #[derive(Clone, Copy, Debug)]
 struct Dots {
     quote: Option<u8>,
@@ -234,7 +233,7 @@ struct Dots {
 }
 
 impl Dots {
-    /// Behind a byte that stands in no text.
+    /// Returns the state after a byte that is in no text.
     fn behind(self, byte: u8) -> Dots {
         match byte {
             b'"' | b'\'' => Dots {
@@ -256,7 +255,7 @@ impl Dots {
     }
 }
 
-/// The most parts, with dots between them, that stand in a row on a line.
+/// Returns the most parts, with dots between them, that are in a row on a line.
 fn parts_on(line: &[u8]) -> u64 {
     let mut dots = Dots {
         quote: None,
@@ -276,7 +275,7 @@ fn parts_on(line: &[u8]) -> u64 {
     dots.most.saturating_add(1)
 }
 
-/// Tells of each line of a file that is longer than it may be.
+/// Reports each line of a file that is longer than allowed.
 fn tell_lines(
     given: &CommandInput<'_>,
     told: &mut ToldLines,
@@ -303,7 +302,7 @@ fn tell_lines(
     Ok(())
 }
 
-/// Tells of each line that is longer than it may be.
+/// Reports each line that is longer than allowed.
 pub(crate) fn tell_long_lines(
     given: &CommandInput<'_>,
     told: &mut ToldLines,

@@ -1,6 +1,6 @@
-//! The line of a refusal, taken apart.
+//! The line of a refusal, split.
 
-/// What a line says: which part is refused, for which fault, and what stands behind the fault.
+/// What a line says: which part is refused, for which fault, and what follows the fault.
 #[derive(Clone, Copy, Debug)]
 pub(crate) struct Refusal<'a> {
     pub part: &'a str,
@@ -8,7 +8,7 @@ pub(crate) struct Refusal<'a> {
     pub value: &'a str,
 }
 
-/// The refusal of a line such as `cqf: domain: BadValue rate`, with its line feed.
+/// Returns the refusal of a line such as `cqf: domain: BadValue rate`, with its line feed.
 pub(crate) fn refusal_of(line: &[u8]) -> Option<Refusal<'_>> {
     let text = std::str::from_utf8(line).ok()?;
     let told = text.strip_prefix("cqf: ")?.strip_suffix("\n")?;

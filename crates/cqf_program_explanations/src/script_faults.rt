@@ -12,10 +12,10 @@ use cqf_text::read_decimal;
 use std::alloc::{AllocError, Global};
 use std::collections::BTreeSet;
 
-/// How many calls a script has at most.
+/// The most calls of a script.
 const MOST_CALLS: u64 = 100_000;
 
-/// The last cycle that a line may tell.
+/// The last cycle that a line may state.
 const LAST_TOLD: u64 = 4_294_967_295;
 
 /// The forms of a line.
@@ -26,7 +26,7 @@ const LINE_FORM: &str = "a line is N admit NAME, N withdraw NAME or seal";
 struct ScriptLine<'a> {
     place: Place<'a>,
     text: &'a [u8],
-    /// Whether it stands in a file of calls alone.
+    /// Whether it is in a file of calls alone.
     is_call: bool,
 }
 
@@ -38,12 +38,12 @@ struct ScriptCounts {
     cycle: u64,
 }
 
-/// The line as it is read in a file of calls: without the CR before its line feed.
+/// Returns the line as it is read in a file of calls: without the CR before its line feed.
 fn without_return(text: &[u8]) -> &[u8] {
     text.strip_suffix(b"\r").unwrap_or(text)
 }
 
-/// The lines of a script that aren't passed over.
+/// Returns the lines of a script that aren't ignored.
 fn lines_of<'a>(
     given: &CommandInput<'_>,
     part: InputPart<'a>,
@@ -67,7 +67,7 @@ fn lines_of<'a>(
     Ok(lines)
 }
 
-/// The cycle of a line `@N`.
+/// Returns the cycle of a line `@N`.
 fn cycle_of(line: &ScriptLine<'_>) -> Option<u64> {
     if !line.is_call {
         return None;
@@ -76,13 +76,13 @@ fn cycle_of(line: &ScriptLine<'_>) -> Option<u64> {
     read_decimal(number, 0, LAST_TOLD)
 }
 
-/// Whether a line is `seal`.
+/// Returns whether a line is `seal`.
 fn is_seal(line: &ScriptLine<'_>) -> bool {
     line.text == b"seal".as_slice()
 }
 
 impl ScriptCounts {
-    /// Before the first line.
+    /// Returns the counts before the first line.
     fn none() -> ScriptCounts {
         ScriptCounts {
             seals: 0,
@@ -91,7 +91,7 @@ impl ScriptCounts {
         }
     }
 
-    /// Behind a line.
+    /// Returns the counts after a line.
     fn behind(self, line: &ScriptLine<'_>) -> ScriptCounts {
         if is_seal(line) {
             ScriptCounts {
@@ -115,7 +115,7 @@ impl ScriptCounts {
     }
 }
 
-/// Whether a byte stands behind itself somewhere.
+/// Returns whether a byte occurs twice in a row.
 fn has_twice(text: &[u8], byte: u8) -> bool {
     let behind = text.iter().skip(1);
     text.iter()
@@ -123,7 +123,7 @@ fn has_twice(text: &[u8], byte: u8) -> bool {
         .any(|(a, b)| *a == byte && *b == byte)
 }
 
-/// What is wrong with a line before its words are looked at.
+/// Returns what is wrong with a line, before its words are checked.
 fn wrong_outside(line: &ScriptLine<'_>) -> Option<&'static str> {
     let text = line.text;
     if text.ends_with(b"\r") {
@@ -141,7 +141,7 @@ fn wrong_outside(line: &ScriptLine<'_>) -> Option<&'static str> {
     }
 }
 
-/// What is wrong with a line's beginning, its end, or between its words.
+/// Returns what is wrong with a line's beginning, its end, or between its words.
 fn wrong_between(line: &ScriptLine<'_>) -> Option<&'static str> {
     let text = line.text;
     if text.starts_with(b"@") {
@@ -163,22 +163,22 @@ fn wrong_between(line: &ScriptLine<'_>) -> Option<&'static str> {
     }
 }
 
-/// Whether a word is the digit of an administrator.
+/// Returns whether a word is the digit of an administrator.
 fn is_seat(word: &[u8]) -> bool {
     matches!(word, [b'0'..=b'7'])
 }
 
-/// Whether a word is a call's.
+/// Returns whether a word is a call's.
 fn is_verb(word: &[u8]) -> bool {
     word == b"admit".as_slice() || word == b"withdraw".as_slice()
 }
 
-/// Whether a word may name a stream.
+/// Returns whether a word may name a stream.
 fn is_word(word: &[u8]) -> bool {
     !word.is_empty() && word.len() <= 64 && word.iter().all(|byte| byte.is_ascii_graphic())
 }
 
-/// What is wrong with a line of three words, in words.
+/// Returns what is wrong with a line of three words, in words.
 fn wrong_call(alloc: Global, seat: &[u8], verb: &[u8]) -> Result<String, AllocError> {
     if !is_seat(seat) {
         let seat = shown(alloc, seat)?;
@@ -192,7 +192,7 @@ fn wrong_call(alloc: Global, seat: &[u8], verb: &[u8]) -> Result<String, AllocEr
     }
 }
 
-/// What is wrong with the words of a line, in words.
+/// Returns what is wrong with the words of a line, in words.
 fn wrong_words(alloc: Global, text: &[u8]) -> Result<String, AllocError> {
     let words: Vec<&[u8]> = text.split(|byte| *byte == b' ').collect(alloc)?;
     match *words.as_slice() {
@@ -212,7 +212,7 @@ fn wrong_words(alloc: Global, text: &[u8]) -> Result<String, AllocError> {
     }
 }
 
-/// Whether a text is a call: a digit, `admit` or `withdraw`, and a name, with one blank between.
+/// Returns whether a text is a call: a digit, `admit` or `withdraw`, and a name, with one blank between.
 fn is_call(text: &[u8]) -> bool {
     match *text {
         [seat, b' ', ref call @ ..] if is_seat(&[seat]) => {
@@ -225,7 +225,7 @@ fn is_call(text: &[u8]) -> bool {
     }
 }
 
-/// Whether a line has a form which a line may have there.
+/// Returns whether a line has a form that a line may have there.
 fn is_good(line: &ScriptLine<'_>, counts: ScriptCounts) -> bool {
     match cycle_of(line) {
         Some(cycle) => cycle >= counts.cycle,
@@ -233,7 +233,7 @@ fn is_good(line: &ScriptLine<'_>, counts: ScriptCounts) -> bool {
     }
 }
 
-/// What is wrong with a line that isn't good, in words.
+/// Returns what is wrong with a line that isn't good, in words.
 fn wrong_of(
     alloc: Global,
     line: &ScriptLine<'_>,
@@ -249,7 +249,7 @@ fn wrong_of(
     }
 }
 
-/// Tells of each line that has no form which a line may have.
+/// Reports each line without a form that a line may have.
 pub(crate) fn tell_bad_lines(
     given: &CommandInput<'_>,
     told: &mut ToldLines,
@@ -274,13 +274,13 @@ pub(crate) fn tell_bad_lines(
     Ok(())
 }
 
-/// The name that a line admits.
+/// Returns the name that a line admits.
 fn admitted<'a>(line: &ScriptLine<'a>) -> Option<&'a str> {
     let call = line.text.get(1..)?.strip_prefix(b" admit ")?;
     std::str::from_utf8(call).ok()
 }
 
-/// The names of the plant's streams.
+/// Returns the names of the plan's streams.
 fn names_of<'p>(given: &'p CommandInput<'_>) -> Result<Vec<&'p str>, AllocError> {
     let mut names = Vec::new(given.alloc);
     for item in &given.plant.items(KeyOwner::Stream)? {
@@ -291,7 +291,7 @@ fn names_of<'p>(given: &'p CommandInput<'_>) -> Result<Vec<&'p str>, AllocError>
     Ok(names)
 }
 
-/// Tells of each line that admits a stream which the plant hasn't, but of calls of cycles that aren't run.
+/// Reports each line that admits a stream which the plan lacks, except calls of cycles that aren't run.
 pub(crate) fn tell_unknown_streams(
     given: &CommandInput<'_>,
     told: &mut ToldLines,
@@ -322,7 +322,7 @@ pub(crate) fn tell_unknown_streams(
     Ok(())
 }
 
-/// Tells of an offer's name that no stream of the plant has.
+/// Reports an offer's name that no stream of the plan has.
 pub(crate) fn tell_unknown_offer(
     given: &CommandInput<'_>,
     told: &mut ToldLines,
@@ -341,7 +341,7 @@ pub(crate) fn tell_unknown_offer(
     told.tell(line)
 }
 
-/// Tells of the first line behind which the script has too many lines.
+/// Reports the first line after which the script has too many lines.
 pub(crate) fn tell_too_many_lines(
     given: &CommandInput<'_>,
     told: &mut ToldLines,

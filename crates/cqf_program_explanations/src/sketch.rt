@@ -1,4 +1,4 @@
-//! A sketch as it is written: what it has beyond a plant.
+//! A network file as it is written: what it has beyond a plan.
 
 use crate::given::CommandInput;
 use crate::network::{Network, WrittenLink};
@@ -12,12 +12,12 @@ const LONGEST_FRAME: u64 = 1522;
 /// The octets of preamble and start delimiter (IEEE 802.3).
 const PREAMBLE: u64 = 8;
 
-/// Whether the command reads a sketch.
+/// Returns whether the command reads a network file.
 pub(crate) fn reads_sketch(given: &CommandInput<'_>) -> bool {
     given.command == "plan"
 }
 
-/// The candidates for the cycle time: those that the words give, or else those of the plant, as far as they are numbers.
+/// Returns the candidates for the cycle time: those that the words give, or else those of the plan, as far as they are numbers.
 pub(crate) fn candidates_of(given: &CommandInput<'_>) -> Result<Vec<u64>, AllocError> {
     let mut candidates = Vec::new(given.alloc);
     for cycle in given.cycle_times {
@@ -39,7 +39,7 @@ pub(crate) fn candidates_of(given: &CommandInput<'_>) -> Result<Vec<u64>, AllocE
     Ok(candidates)
 }
 
-/// Whether a link stands for two, there and back.
+/// Returns whether a link is two, one in each direction.
 pub(crate) fn is_duplex(link: &WrittenLink<'_>) -> bool {
     link.item
         .get("duplex")
@@ -47,12 +47,12 @@ pub(crate) fn is_duplex(link: &WrittenLink<'_>) -> bool {
         .unwrap_or(false)
 }
 
-/// Whether a link is in the plant: one direction of it leaves a bridge.
+/// Returns whether a link is in the plan's domain: one direction of it leaves a bridge.
 pub(crate) fn is_of_plant(network: &Network<'_>, link: &WrittenLink<'_>) -> bool {
     network.is_bridge(link.from) || is_duplex(link) && network.is_bridge(link.to)
 }
 
-/// The station that a talker's link leaves, which a link has or stands for.
+/// Returns the station that a talker's link leaves; the link is a talker's, or one of its directions is.
 pub(crate) fn talker_of<'p>(network: &Network<'_>, link: &WrittenLink<'p>) -> Option<&'p str> {
     if !network.is_bridge(link.from) {
         Some(link.from)
@@ -63,14 +63,14 @@ pub(crate) fn talker_of<'p>(network: &Network<'_>, link: &WrittenLink<'p>) -> Op
     }
 }
 
-/// Whether a stream's talker is in step with the network.
+/// Returns whether a stream's talker is in step with the network.
 pub(crate) fn is_in_step(item: &WrittenItem<'_>) -> bool {
     item.get("in-step")
         .and_then(Value::as_bool)
         .unwrap_or(false)
 }
 
-/// How many octets a stream's frame may have.
+/// Returns how many octets a stream's frame may have.
 pub(crate) fn longest_frame(item: &WrittenItem<'_>) -> u64 {
     let size = item.number("size");
     if size > 0 {
@@ -80,13 +80,13 @@ pub(crate) fn longest_frame(item: &WrittenItem<'_>) -> u64 {
     }
 }
 
-/// What a talker's link takes until a frame is whole at the edge bridge, in ns.
+/// Returns how long a talker's link takes until a frame is whole at the edge bridge, in ns.
 pub(crate) fn time_on(link: &WrittenLink<'_>, octets: u64) -> u64 {
     let octets = octets.saturating_add(PREAMBLE);
     link.time_of(octets).saturating_add(link.delay)
 }
 
-/// The listeners of a stream that has ends: one name, or an array of them.
+/// Returns the listeners of a stream that has ends: one name, or an array of them.
 pub(crate) fn listeners_of<'p>(
     alloc: Global,
     item: &WrittenItem<'p>,

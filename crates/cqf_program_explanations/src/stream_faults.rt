@@ -13,7 +13,7 @@ use std::alloc::{AllocError, Global};
 use std::collections::BTreeMap;
 use toml::Value;
 
-/// In which cycles a stream is offered: in one of `every`, the first of which is `phase`.
+/// In which cycles a stream is offered: in one of `every`, from `phase` on.
 #[derive(Clone, Copy, Debug)]
 pub(crate) struct WrittenPace {
     pub every: u64,
@@ -56,10 +56,10 @@ enum WrongPath<'p> {
     TooLong,
 }
 
-/// After how many cycles each stream is offered again, as it was: each `every` divides them.
+/// All streams repeat after this many cycles: each `every` divides them.
 pub(crate) const MOST_EVERY: u64 = 80;
 
-/// The texts of an array.
+/// Returns the texts of an array.
 fn texts_of<'p>(alloc: Global, value: &'p Value) -> Result<Vec<&'p str>, AllocError> {
     let mut texts = Vec::new(alloc);
     if let Some(values) = value.as_array() {
@@ -70,7 +70,7 @@ fn texts_of<'p>(alloc: Global, value: &'p Value) -> Result<Vec<&'p str>, AllocEr
     Ok(texts)
 }
 
-/// The paths of a stream.
+/// Returns the paths of a stream.
 fn paths_of<'p>(alloc: Global, item: &WrittenItem<'p>) -> Result<Vec<Vec<&'p str>>, AllocError> {
     let mut paths = Vec::new(alloc);
     if let Some(path) = item.get("path") {
@@ -83,7 +83,7 @@ fn paths_of<'p>(alloc: Global, item: &WrittenItem<'p>) -> Result<Vec<Vec<&'p str
     Ok(paths)
 }
 
-/// In which cycles a stream is offered: in each, where it isn't written.
+/// Returns in which cycles a stream is offered: in each, if nothing is written.
 fn pace_of(item: &WrittenItem<'_>) -> WrittenPace {
     WrittenPace {
         every: item.get("every").map_or(1, number_of),
@@ -91,7 +91,7 @@ fn pace_of(item: &WrittenItem<'_>) -> WrittenPace {
     }
 }
 
-/// A stream as it is written.
+/// Returns a stream as it is written.
 fn asked_of<'p>(alloc: Global, item: &WrittenItem<'p>) -> Result<WrittenStream<'p>, AllocError> {
     Ok(WrittenStream {
         item: *item,
@@ -102,7 +102,7 @@ fn asked_of<'p>(alloc: Global, item: &WrittenItem<'p>) -> Result<WrittenStream<'
     })
 }
 
-/// The streams of the plant.
+/// Returns the streams of the plan.
 pub(crate) fn streams_of<'p>(
     given: &'p CommandInput<'_>,
 ) -> Result<Vec<WrittenStream<'p>>, AllocError> {
@@ -113,12 +113,12 @@ pub(crate) fn streams_of<'p>(
     Ok(streams)
 }
 
-/// Whether a path names no node at some place.
+/// Returns whether a path names no node at some index.
 fn has_unknown(network: &Network<'_>, path: &[&str]) -> bool {
     path.iter().any(|name| !network.is_node(name))
 }
 
-/// The first step of a path for which there is no link.
+/// Returns the first step of a path for which there is no link.
 fn first_gap<'p>(network: &Network<'_>, path: &[&'p str]) -> Option<(&'p str, &'p str)> {
     let behind = path.iter().skip(1);
     for (from, to) in path.iter().zip(behind) {
@@ -129,7 +129,7 @@ fn first_gap<'p>(network: &Network<'_>, path: &[&'p str]) -> Option<(&'p str, &'
     None
 }
 
-/// The first thing that is wrong with a path whose nodes are there.
+/// Returns the first thing that is wrong with a path whose nodes are there.
 fn broken_of<'p>(network: &Network<'_>, path: &[&'p str]) -> Option<WrongPath<'p>> {
     let (Some(first), Some(last)) = (path.first(), path.last()) else {
         return Some(WrongPath::Empty);
@@ -150,7 +150,7 @@ fn broken_of<'p>(network: &Network<'_>, path: &[&'p str]) -> Option<WrongPath<'p
     }
 }
 
-/// The first node of a path that stood before, with its place and the one before, from 1.
+/// Returns the first node of a path that occurred before, with its position and the earlier one, from 1.
 fn loop_of<'p>(path: &[&'p str]) -> Option<(&'p str, usize, usize)> {
     for (place, name) in path.iter().enumerate() {
         let first = path.iter().position(|other| other == name)?;
@@ -164,9 +164,9 @@ fn loop_of<'p>(path: &[&'p str]) -> Option<(&'p str, usize, usize)> {
 /// Why a path makes no tree with one before it.
 #[derive(Clone, Copy, Debug)]
 enum Stray<'p> {
-    /// It begins elsewhere than the one before.
+    /// It doesn't begin where the one before does.
     Begins(&'p str, &'p str),
-    /// It is the one before.
+    /// It is the same as the one before.
     Same,
     /// A node is reached in two ways.
     Meets(&'p str),
@@ -179,7 +179,7 @@ struct Reached<'p> {
     path: usize,
 }
 
-/// The tree of some good paths, so far as they make one.
+/// The tree of some good paths, as far as they make one.
 #[derive(Drop)]
 struct PathTree<'p> {
     root: Option<&'p str>,
@@ -187,7 +187,7 @@ struct PathTree<'p> {
 }
 
 impl<'p> PathTree<'p> {
-    /// The tree of no path.
+    /// Returns the tree of no path.
     fn new(alloc: Global) -> PathTree<'p> {
         PathTree {
             root: None,
@@ -195,12 +195,12 @@ impl<'p> PathTree<'p> {
         }
     }
 
-    /// How many links it has.
+    /// Returns how many links it has.
     fn hops(&self) -> usize {
         self.nodes.len()
     }
 
-    /// The first node of a path that is reached otherwise by an earlier one, and that one.
+    /// Returns the first node of a path that an earlier path reaches in another way, and that path.
     fn meeting(&self, path: &[&'p str]) -> Option<(Stray<'p>, usize)> {
         let behind = path.iter().skip(1);
         for (from, to) in path.iter().zip(behind) {
@@ -213,7 +213,7 @@ impl<'p> PathTree<'p> {
         None
     }
 
-    /// Why a path makes no tree with those before it, and the first of them with which it makes none.
+    /// Returns why a path makes no tree with those before it, and the first of them with which it makes none.
     fn stray_of(&self, path: &[&'p str]) -> Option<(Stray<'p>, usize)> {
         let (root, first, last) = (self.root?, path.first()?, path.last()?);
         if root != *first {
@@ -227,7 +227,7 @@ impl<'p> PathTree<'p> {
         Some((Stray::Same, reached.path))
     }
 
-    /// Takes a path more, which makes a tree with those before it.
+    /// Adds a path, which makes a tree with those before it.
     fn put(&mut self, number: usize, path: &[&'p str]) -> Result<(), AllocError> {
         if self.root.is_none() {
             self.root = path.first().copied();
@@ -246,7 +246,7 @@ impl<'p> PathTree<'p> {
     }
 }
 
-/// How many links the tree of some good paths has; `None` where they make none.
+/// Returns how many links the tree of some good paths has; `None` if they make none.
 fn hops_of(alloc: Global, paths: &[Vec<&str>]) -> Result<Option<usize>, AllocError> {
     let mut tree = PathTree::new(alloc);
     for (number, path) in paths.iter().enumerate() {
@@ -258,7 +258,7 @@ fn hops_of(alloc: Global, paths: &[Vec<&str>]) -> Result<Option<usize>, AllocErr
     Ok(Some(tree.hops()))
 }
 
-/// Whether the paths are none, or one of them is broken.
+/// Returns whether there are no paths, or one of them is broken.
 fn are_broken(network: &Network<'_>, paths: &[Vec<&str>]) -> bool {
     paths.is_empty()
         || paths
@@ -267,25 +267,26 @@ fn are_broken(network: &Network<'_>, paths: &[Vec<&str>]) -> bool {
 }
 
 impl WrittenPace {
-    /// Whether so many cycles apart are a part of those after which all is as it was.
+    /// Returns whether `every` divides the number of cycles after which everything repeats.
     fn divides(self) -> bool {
         MOST_EVERY.checked_rem(self.every) == Some(0)
     }
 
-    /// Whether the stream's frames are in this cycle on a link to which so many lead: they are on each a cycle later than on the one before.
+    /// Returns whether the stream's frames are in this cycle on a link to which `depth` links lead: they are on each link a cycle later
+    /// than on the one before.
     pub(crate) fn is_turn(self, depth: u64, cycle: u64) -> bool {
         let offered = self.phase.saturating_add(depth);
         offered.checked_rem(self.every) == cycle.checked_rem(self.every)
     }
 
-    /// Whether there are such cycles.
+    /// Returns whether there are such cycles.
     fn is_good(self) -> bool {
         self.divides() && self.phase < self.every
     }
 }
 
 impl WrittenStream<'_> {
-    /// Why the stream is refused for its own form.
+    /// Returns why the stream is refused for its own form.
     pub(crate) fn form_fault(
         &self,
         alloc: Global,
@@ -303,7 +304,7 @@ impl WrittenStream<'_> {
         })
     }
 
-    /// The same, but of what its paths come to together.
+    /// Returns the same, except for the tree of its paths.
     fn plain_fault(&self, network: &Network<'_>) -> Option<FormFault> {
         let paths = self.paths.as_slice();
         if Name::new(self.name.as_bytes()).is_none() {
@@ -330,12 +331,12 @@ impl WrittenStream<'_> {
         }
     }
 
-    /// Whether its paths are given, and not only the ends of its ways.
+    /// Returns whether its paths are given, and not only their ends.
     fn has_paths(&self) -> bool {
         self.item.get("path").is_some() || self.item.get("paths").is_some()
     }
 
-    /// The key of its paths.
+    /// Returns the key of its paths.
     fn paths_key(&self) -> &'static str {
         if self.item.get("path").is_some() {
             "path"
@@ -344,13 +345,13 @@ impl WrittenStream<'_> {
         }
     }
 
-    /// Where its paths stand.
+    /// Returns the place of its paths.
     fn paths_place(&self) -> Place<'_> {
         self.item.place_of(self.paths_key())
     }
 }
 
-/// Tells of the cycles of a stream that are none.
+/// Reports the cycles of a stream that aren't valid.
 fn tell_pace(
     given: &CommandInput<'_>,
     told: &mut ToldLines,
@@ -377,7 +378,7 @@ fn tell_pace(
     }
 }
 
-/// Tells of each node of a stream's paths that isn't there.
+/// Reports each node of a stream's paths that isn't there.
 fn tell_unknown_nodes(
     given: &CommandInput<'_>,
     told: &mut ToldLines,
@@ -399,7 +400,7 @@ fn tell_unknown_nodes(
     Ok(())
 }
 
-/// What is wrong with a path, in words.
+/// Returns what is wrong with a path, in words.
 fn broken_words(
     given: &CommandInput<'_>,
     network: &Network<'_>,
@@ -426,7 +427,7 @@ fn broken_words(
     }
 }
 
-/// Tells of each broken path of a stream.
+/// Reports each broken path of a stream.
 fn tell_broken_paths(
     given: &CommandInput<'_>,
     told: &mut ToldLines,
@@ -449,7 +450,7 @@ fn tell_broken_paths(
     Ok(())
 }
 
-/// Tells of each path of a stream that comes to a node twice.
+/// Reports each path of a stream that reaches a node twice.
 fn tell_loops(
     given: &CommandInput<'_>,
     told: &mut ToldLines,
@@ -469,7 +470,7 @@ fn tell_loops(
     Ok(())
 }
 
-/// Why two paths make no tree, in words; paths are numbered from 1.
+/// Returns why two paths make no tree, in words; paths are numbered from 1.
 fn stray_words(
     alloc: Global,
     stray: Stray<'_>,
@@ -488,7 +489,7 @@ fn stray_words(
     }
 }
 
-/// Tells of each path of a stream that makes no tree with those before it, with the first of these with which it makes none.
+/// Reports each path of a stream that makes no tree with those before it, with the first of these with which it makes none.
 fn tell_strays(
     given: &CommandInput<'_>,
     told: &mut ToldLines,
@@ -509,7 +510,7 @@ fn tell_strays(
     Ok(())
 }
 
-/// Tells how many links the tree of a stream has, which are too many.
+/// Reports how many links the tree of a stream has, which are too many.
 fn tell_hops(
     given: &CommandInput<'_>,
     told: &mut ToldLines,
@@ -526,7 +527,7 @@ fn tell_hops(
 }
 
 impl FormFault {
-    /// Whether one line tells of a stream with it.
+    /// Returns whether one line reports a stream with it.
     fn is_one_line(self) -> bool {
         matches!(
             self,
@@ -535,7 +536,7 @@ impl FormFault {
     }
 }
 
-/// Tells what is wrong with the form of a stream.
+/// Reports what is wrong with the form of a stream.
 fn tell_form(
     given: &CommandInput<'_>,
     told: &mut ToldLines,
@@ -567,7 +568,7 @@ fn tell_form(
     }
 }
 
-/// The number of a stream's gate: its place from 1, where none is written.
+/// Returns the number of a stream's gate: its position from 1, if none is written.
 fn gate_of(item: &WrittenItem<'_>) -> u64 {
     match item.get("x-gate") {
         Some(value) => number_of(value),
@@ -575,7 +576,7 @@ fn gate_of(item: &WrittenItem<'_>) -> u64 {
     }
 }
 
-/// Tells of a stream with the gate of an earlier one.
+/// Reports a stream with the gate of an earlier one.
 fn tell_gate_twice(
     given: &CommandInput<'_>,
     told: &mut ToldLines,
@@ -598,7 +599,7 @@ fn tell_gate_twice(
     )?)
 }
 
-/// Tells of each stream with the gate of an earlier one.
+/// Reports each stream with the gate of an earlier one.
 pub(crate) fn tell_gates_twice(
     given: &CommandInput<'_>,
     told: &mut ToldLines,
@@ -616,7 +617,7 @@ pub(crate) fn tell_gates_twice(
     Ok(())
 }
 
-/// The fault of a stream's own form that a line names.
+/// Returns the fault of a stream's own form that a line names.
 pub(crate) fn form_fault_of(fault: &str) -> Option<FormFault> {
     match fault {
         "BadName" => Some(FormFault::BadName),
@@ -631,7 +632,7 @@ pub(crate) fn form_fault_of(fault: &str) -> Option<FormFault> {
     }
 }
 
-/// Tells of each stream that is refused for a fault of its own form.
+/// Reports each stream that is refused for a fault of its own form.
 pub(crate) fn tell_form_faults(
     given: &CommandInput<'_>,
     told: &mut ToldLines,

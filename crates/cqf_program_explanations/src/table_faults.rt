@@ -29,7 +29,7 @@ enum Field {
     Number(u64, u64),
     Bridge,
     Stream,
-    /// An end of a link, of which both are looked at together.
+    /// An end of a link; both ends are checked together.
     End,
 }
 
@@ -83,7 +83,7 @@ const ARRIVAL_COLUMNS: [FieldForm; 4] = [
 ];
 
 impl InputTable {
-    /// The table of a part's name.
+    /// Returns the table of a part's name.
     pub(crate) fn of(part: &str) -> Option<InputTable> {
         match part {
             "offers" => Some(InputTable::Offers),
@@ -93,7 +93,7 @@ impl InputTable {
         }
     }
 
-    /// Its columns.
+    /// Returns its columns.
     fn columns(self) -> &'static [FieldForm] {
         match self {
             InputTable::Offers => &OFFER_COLUMNS,
@@ -102,7 +102,7 @@ impl InputTable {
         }
     }
 
-    /// Its header.
+    /// Returns its header.
     fn header(self) -> &'static str {
         match self {
             InputTable::Offers => "at,bridge,stream,octets",
@@ -111,7 +111,7 @@ impl InputTable {
         }
     }
 
-    /// Its place among the parts behind the plant.
+    /// Returns its index among the parts after the plan.
     fn place(self, command: &str, rest: &[InputPart<'_>]) -> usize {
         let is_third = match rest {
             [only] if only.text.is_empty() => true,
@@ -134,7 +134,7 @@ struct Record<'a> {
     text: &'a [u8],
 }
 
-/// The records of a part, its header first. Empty lines are none.
+/// Returns the records of a part, its header first. Empty lines aren't records.
 fn records_of(alloc: Global, part: InputPart<'_>) -> Result<Vec<Record<'_>>, AllocError> {
     let mut records = Vec::new(alloc);
     for (number, line) in Lines::of(part.text, part.before) {
@@ -150,7 +150,7 @@ fn records_of(alloc: Global, part: InputPart<'_>) -> Result<Vec<Record<'_>>, All
     Ok(records)
 }
 
-/// A field without its quotes.
+/// Returns a field without its quotes.
 fn unquoted(field: &[u8]) -> &[u8] {
     match field.strip_prefix(b"\"") {
         Some(rest) => rest.strip_suffix(b"\"").unwrap_or(field),
@@ -158,7 +158,7 @@ fn unquoted(field: &[u8]) -> &[u8] {
     }
 }
 
-/// The fields of a record.
+/// Returns the fields of a record.
 fn fields_of<'a>(alloc: Global, text: &'a [u8]) -> Result<Vec<&'a [u8]>, AllocError> {
     let mut fields = Vec::new(alloc);
     for field in text.split(|byte| *byte == b',') {
@@ -167,7 +167,7 @@ fn fields_of<'a>(alloc: Global, text: &'a [u8]) -> Result<Vec<&'a [u8]>, AllocEr
     Ok(fields)
 }
 
-/// What is wrong with a header as it is written.
+/// Returns what is wrong with a header as it is written.
 fn header_words(text: &[u8], table: InputTable) -> &'static str {
     let other = match table {
         InputTable::Background => InputTable::Offers,
@@ -186,7 +186,7 @@ fn header_words(text: &[u8], table: InputTable) -> &'static str {
     }
 }
 
-/// Tells of a header that isn't the one that is owed.
+/// Reports a header that isn't the expected one.
 fn tell_header(
     given: &CommandInput<'_>,
     told: &mut ToldLines,
@@ -214,7 +214,7 @@ fn tell_header(
 enum Wrong<'r> {
     /// It has another number of fields.
     Count(usize),
-    /// A field hasn't the form of its column.
+    /// A field doesn't have the form of its column.
     Form(&'static FieldForm, &'r [u8]),
     /// A field names no bridge.
     Bridge(&'r [u8]),
@@ -224,12 +224,12 @@ enum Wrong<'r> {
     Link(&'r [u8], &'r [u8]),
 }
 
-/// A field as a name; empty where it is no text.
+/// Returns a field as a name; an empty one if the field isn't a text.
 fn name_of(field: &[u8]) -> &str {
     std::str::from_utf8(field).unwrap_or("")
 }
 
-/// What is wrong with a field.
+/// Returns what is wrong with a field.
 fn wrong_field<'r>(
     network: &Network<'_>,
     column: &'static FieldForm,
@@ -246,7 +246,7 @@ fn wrong_field<'r>(
     }
 }
 
-/// What is wrong with the ends of a link.
+/// Returns what is wrong with the ends of a link.
 fn wrong_link<'r>(network: &Network<'_>, from: &'r [u8], to: &'r [u8]) -> Option<Wrong<'r>> {
     if network.link_between(name_of(from), name_of(to)).is_some() {
         None
@@ -259,7 +259,7 @@ fn wrong_link<'r>(network: &Network<'_>, from: &'r [u8], to: &'r [u8]) -> Option
     }
 }
 
-/// The first thing that is wrong with a row.
+/// Returns the first thing that is wrong with a row.
 fn wrong_row<'r>(
     network: &Network<'_>,
     table: InputTable,
@@ -281,7 +281,7 @@ fn wrong_row<'r>(
     }
 }
 
-/// Why a field names no bridge to which frames come, in words.
+/// Returns why a field doesn't name a bridge to which frames are offered, in words.
 fn bridge_words(alloc: Global, network: &Network<'_>, field: &[u8]) -> Result<String, AllocError> {
     let name = shown(alloc, field)?;
     if network.is_node(name_of(field)) {
@@ -291,7 +291,7 @@ fn bridge_words(alloc: Global, network: &Network<'_>, field: &[u8]) -> Result<St
     format!(in alloc; "no bridge {name}{question}")
 }
 
-/// How many fields a row has, and how many it has to have, in words.
+/// Returns how many fields a row has, and how many it has to have, in words.
 fn count_words(
     alloc: Global,
     table: InputTable,
@@ -303,7 +303,7 @@ fn count_words(
     format!(in alloc; "{text}: {count} {noun}, and {owed} are owed: {header}")
 }
 
-/// What is wrong with a row, in words.
+/// Returns what is wrong with a row, in words.
 fn wrong_words(
     alloc: Global,
     network: &Network<'_>,
@@ -331,7 +331,7 @@ fn wrong_words(
     }
 }
 
-/// Tells of each row with a field that isn't as it has to be.
+/// Reports each row with a wrong field.
 fn tell_rows(
     given: &CommandInput<'_>,
     told: &mut ToldLines,
@@ -353,7 +353,7 @@ fn tell_rows(
     Ok(())
 }
 
-/// Where an offer stands, by its number from 1.
+/// Returns the place of an offer, by its number from 1.
 pub(crate) fn place_of_offer<'p>(
     given: &'p CommandInput<'_>,
     number: &str,
@@ -370,7 +370,7 @@ pub(crate) fn place_of_offer<'p>(
     Ok(records.get(row as usize).map(|record| record.place))
 }
 
-/// The instant of a record.
+/// Returns the instant of a record.
 fn instant_of(record: &Record<'_>) -> u64 {
     match record.text.split(|byte| *byte == b',').next() {
         Some(field) => read_decimal(unquoted(field), 0, u64::MAX).unwrap_or(0),
@@ -378,7 +378,7 @@ fn instant_of(record: &Record<'_>) -> u64 {
     }
 }
 
-/// Tells of each row whose instant is before that of the row before it.
+/// Reports each row whose instant is before that of the row before it.
 fn tell_order(
     given: &CommandInput<'_>,
     told: &mut ToldLines,
@@ -398,7 +398,7 @@ fn tell_order(
     Ok(())
 }
 
-/// Tells that a table has too many rows.
+/// Reports that a table has too many rows.
 fn tell_count(
     given: &CommandInput<'_>,
     told: &mut ToldLines,
@@ -414,7 +414,7 @@ fn tell_count(
     told.tell(format!(in given.alloc; "{place}: {rows} rows: a table has at most {most}{larger}")?)
 }
 
-/// Tells why a table is refused.
+/// Reports why a table is refused.
 pub(crate) fn tell_table(
     given: &CommandInput<'_>,
     told: &mut ToldLines,

@@ -5,13 +5,13 @@ ghost use Rattle.cqf_program_explanations.specs.Explanations.{AreToldLines, prin
 
 use std::alloc::{AllocError, Global};
 
-/// How many lines are told; of more, how many they are.
+/// The most lines that are printed; if there are more, only their number is.
 const MOST_TOLD: usize = 20;
 
-/// What each hexadecimal digit of a character's number counts.
+/// The weight of each hexadecimal digit of a character's number.
 const HEX_PLACES: [u32; 6] = [1_048_576, 65_536, 4096, 256, 16, 1];
 
-/// The lines that were told so far.
+/// The lines so far.
 #[derive(Drop)]
 pub(crate) struct ToldLines {
     alloc: Global,
@@ -20,7 +20,7 @@ pub(crate) struct ToldLines {
     ghost few: { length lines.items ≤ 20 },
 }
 
-/// A byte as it is told: a question mark stands for one that isn't a printable one of ASCII.
+/// Returns a byte as it is printed: a question mark if it isn't a printable one of ASCII.
 fn printable(byte: u8) -> u8
     ensures { result ≡ printable byte }
 {
@@ -31,7 +31,7 @@ fn printable(byte: u8) -> u8
     }
 }
 
-/// Puts the bytes of a line behind a text, as they are told.
+/// Appends the bytes of a line to a text, as they are printed.
 fn put_printable(text: &mut Vec<u8>, line: &[u8]) -> Result<(), AllocError>
     ensures { OnOk result (text.new.items ≡ text.old.items ++ map printable line.now) }
 {
@@ -41,7 +41,7 @@ fn put_printable(text: &mut Vec<u8>, line: &[u8]) -> Result<(), AllocError>
     Ok(())
 }
 
-/// Puts a line behind a text: its start before it, a line feed behind it.
+/// Appends a line to a text, between its start and a line feed.
 fn put_line(text: &mut Vec<u8>, start: &str, line: &str) -> Result<(), AllocError>
     ensures { OnOk result (text.new.items ≡ text.old.items ++ told_line start.now line.now) }
 {
@@ -51,20 +51,20 @@ fn put_line(text: &mut Vec<u8>, start: &str, line: &str) -> Result<(), AllocErro
     Ok(())
 }
 
-/// Whether a character is a printable one of ASCII.
+/// Returns whether a character is a printable one of ASCII.
 fn is_printable(character: char) -> bool {
     let code = u32::from(character);
     (32..=126).contains(&code)
 }
 
-/// The last hexadecimal digit of a number.
+/// Returns the last hexadecimal digit of a number.
 fn hex_digit(number: u32) -> char {
     let digits = b"0123456789abcdef".as_slice();
     let digit = digits.get((number % 16) as usize).copied();
     char::from(digit.unwrap_or(b'0'))
 }
 
-/// Puts a character as `\u{..}`, with its number in hexadecimal digits.
+/// Appends a character as `\u{..}`, with its number in hexadecimal digits.
 fn put_escaped(text: &mut String, character: char) -> Result<(), AllocError> {
     let code = u32::from(character);
     text.push_str("\\u{")?;
@@ -78,7 +78,7 @@ fn put_escaped(text: &mut String, character: char) -> Result<(), AllocError> {
     Ok(())
 }
 
-/// A line with each character escaped that isn't a printable one of ASCII.
+/// Returns a line with each character escaped that isn't a printable one of ASCII.
 fn escaped(alloc: Global, line: &str) -> Result<String, AllocError> {
     let mut text = String::new(alloc);
     for character in line.chars() {
@@ -91,7 +91,7 @@ fn escaped(alloc: Global, line: &str) -> Result<String, AllocError> {
     Ok(text)
 }
 
-/// Lines as a text, each with its start.
+/// Returns lines as a text, each with its start.
 fn text_of(alloc: Global, start: &str, lines: &[String]) -> Result<Vec<u8>, AllocError>
     ensures { IfOk result (λ text. text.items ≡ flat_map (told_line start.now) (map string_bytes lines.now)) }
 {
@@ -103,7 +103,7 @@ fn text_of(alloc: Global, start: &str, lines: &[String]) -> Result<Vec<u8>, Allo
 }
 
 impl ToldLines {
-    /// No line yet.
+    /// Returns no lines.
     pub(crate) fn new(alloc: Global) -> ToldLines {
         ToldLines {
             alloc,
@@ -112,12 +112,12 @@ impl ToldLines {
         }
     }
 
-    /// Whether no line was told.
+    /// Returns whether there is no line.
     pub(crate) fn is_empty(&self) -> bool {
         self.lines.is_empty()
     }
 
-    /// Whether a line more is only counted: it is then, and needs no words.
+    /// Returns whether one more line is only counted, in which case it is counted, and needs no words.
     pub(crate) fn is_counted(&mut self) -> bool {
         if self.lines.len() < MOST_TOLD {
             return false;
@@ -126,7 +126,7 @@ impl ToldLines {
         true
     }
 
-    /// Takes one line more.
+    /// Adds a line.
     pub(crate) fn tell(&mut self, line: String) -> Result<(), AllocError> {
         if self.lines.len() < MOST_TOLD {
             let line = escaped(self.alloc, line.as_str())?;
@@ -137,7 +137,7 @@ impl ToldLines {
         Ok(())
     }
 
-    /// All lines, as a text, each with its start; behind them how many more there are.
+    /// Returns all lines as a text, each with its start, followed by how many more there are.
     pub(crate) fn text(&self, start: &str) -> Result<Vec<u8>, AllocError>
         ensures { IfOk result (λ text. AreToldLines 21 start.now text.items) }
     {

@@ -16,7 +16,7 @@ use cqf_program_files::{LINK, STREAM, TOP};
 use std::alloc::AllocError;
 use toml::Value;
 
-/// The keys that are known of a kind.
+/// Returns the keys that are known of a kind.
 pub(crate) fn known_keys(kind: KeyOwner) -> &'static [&'static str] {
     match kind {
         KeyOwner::Top => &TOP,
@@ -25,10 +25,11 @@ pub(crate) fn known_keys(kind: KeyOwner) -> &'static [&'static str] {
     }
 }
 
-/// The key of the top that a link may have too.
+/// The key of the top level that a link may have too.
 const GUARD: &str = "guard";
 
-/// Whose key it is that a part lacks or has in another form. Of one that links may have beside the top it is the top.
+/// Returns the owner of a key that a part lacks or has in another form. A key that both the top level and links may have is the top
+/// level's.
 fn kind_of(part: &str, key: &str) -> KeyOwner {
     if part == "domain" {
         if key != GUARD && LINK.contains(&key) {
@@ -43,7 +44,7 @@ fn kind_of(part: &str, key: &str) -> KeyOwner {
     }
 }
 
-/// What a text is that stands in a plant's place, where its beginning shows it.
+/// Returns what a text is that is in the place of a plan, if its beginning shows it.
 fn other_text(text: &[u8]) -> Option<&'static str> {
     let beginning = text.trim_ascii_start();
     if beginning.starts_with(b"at,from,") {
@@ -59,7 +60,7 @@ fn other_text(text: &[u8]) -> Option<&'static str> {
     }
 }
 
-/// The line and the column, both from 1, of a place in a text. A column counts characters.
+/// Returns the line and the column, both from 1, of a place in a text. A column counts characters.
 fn position_of(text: &[u8], place: usize) -> (u64, u64) {
     let (mut line, mut column) = (1u64, 1u64);
     for byte in text.iter().take(place) {
@@ -73,7 +74,7 @@ fn position_of(text: &[u8], place: usize) -> (u64, u64) {
     (line, column)
 }
 
-/// The key on a line of some keys, and the line on which it stood before.
+/// Returns the key on a line of some keys that occurred before, and the line on which it did.
 fn twice_among<'p>(keys: &'p [KeyLine<'p>], line: u64) -> Option<(&'p [u8], u64)> {
     let second = keys.iter().find(|key| key.line == line)?;
     let first = keys.iter().find(|key| key.key == second.key)?;
@@ -84,7 +85,7 @@ fn twice_among<'p>(keys: &'p [KeyLine<'p>], line: u64) -> Option<(&'p [u8], u64)
     }
 }
 
-/// The same among some elements.
+/// Returns the same for some elements.
 fn twice_within<'p>(elements: &'p [Element<'p>], line: u64) -> Option<(&'p [u8], u64)> {
     for element in elements {
         let found = twice_among(element.keys.as_slice(), line);
@@ -95,14 +96,14 @@ fn twice_within<'p>(elements: &'p [Element<'p>], line: u64) -> Option<(&'p [u8],
     None
 }
 
-/// The key on a line that stood before, and where.
+/// Returns the key on a line that occurred before, and the line on which it did.
 fn twice_in<'p>(outline: &'p Outline<'p>, line: u64) -> Option<(&'p [u8], u64)> {
     twice_among(outline.top.as_slice(), line)
         .or(twice_within(outline.links.as_slice(), line))
         .or(twice_within(outline.streams.as_slice(), line))
 }
 
-/// Tells why a file's text isn't TOML.
+/// Reports why a file's text isn't TOML.
 fn tell_no_toml(
     given: &CommandInput<'_>,
     told: &mut ToldLines,
@@ -134,7 +135,7 @@ fn tell_no_toml(
     told.tell(line)
 }
 
-/// Tells of each file of the plant that isn't TOML.
+/// Reports each file of the plan that isn't TOML.
 pub(crate) fn tell_not_toml(
     given: &CommandInput<'_>,
     told: &mut ToldLines,
@@ -149,7 +150,7 @@ pub(crate) fn tell_not_toml(
     Ok(())
 }
 
-/// Tells of a key of the top that stands in a link or a stream.
+/// Reports a key of the top level that is in a link or a stream.
 fn tell_misplaced(
     given: &CommandInput<'_>,
     told: &mut ToldLines,
@@ -172,7 +173,7 @@ fn tell_misplaced(
     Ok(found)
 }
 
-/// Tells of a key of the top that may be meant by one that is missing there.
+/// Reports a key of the top level that may be meant instead of one that is missing there.
 fn tell_near_top(
     given: &CommandInput<'_>,
     told: &mut ToldLines,
@@ -196,7 +197,7 @@ fn tell_near_top(
     Ok(found)
 }
 
-/// Tells of a key that the top lacks.
+/// Reports a key that the top level lacks.
 fn tell_missing_top(
     given: &CommandInput<'_>,
     told: &mut ToldLines,
@@ -219,7 +220,7 @@ fn tell_missing_top(
     Ok(())
 }
 
-/// The key of a link or a stream, none that is known, which may mean another.
+/// Returns the key of a link or a stream that no command knows and that may be meant as this key.
 fn near_key<'p>(
     given: &CommandInput<'_>,
     item: &WrittenItem<'p>,
@@ -237,14 +238,14 @@ fn near_key<'p>(
     Ok(None)
 }
 
-/// Whether a link or a stream is a table that lacks a key, and what may stand in its place.
+/// Returns whether a link or a stream is a table that lacks a key, and any keys that may replace it.
 fn lacks(item: &WrittenItem<'_>, key: &str) -> bool {
     item.value.is_table()
         && item.get(key).is_none()
         && !(key == "path" && item.get("paths").is_some())
 }
 
-/// What is said of a stream that lacks a key, where `plan` chooses what stands there.
+/// Returns the words about a stream that lacks a key, if `plan` chooses its value.
 fn hint_of_missing(given: &CommandInput<'_>, key: &str) -> Result<String, AllocError> {
     if matches!(key, "path" | "octets") && is_open(given)? {
         plan_hint(given)
@@ -253,7 +254,7 @@ fn hint_of_missing(given: &CommandInput<'_>, key: &str) -> Result<String, AllocE
     }
 }
 
-/// Tells of each link or stream that lacks a key.
+/// Reports each link or stream that lacks a key.
 fn tell_missing_within(
     given: &CommandInput<'_>,
     told: &mut ToldLines,
@@ -285,7 +286,7 @@ fn tell_missing_within(
     Ok(())
 }
 
-/// Tells where a key is owed that a part lacks.
+/// Reports where a part lacks a required key.
 pub(crate) fn tell_missing(
     given: &CommandInput<'_>,
     told: &mut ToldLines,
@@ -298,7 +299,7 @@ pub(crate) fn tell_missing(
     }
 }
 
-/// The form of a value of the top, for the command: a sketch may have several cycle times.
+/// Returns the form of a value of the top level, for the command: a network file may have several cycle times.
 fn form_at_top(given: &CommandInput<'_>, key: &str) -> Option<(Form, &'static str)> {
     if key == "cycle" && reads_sketch(given) {
         Some((Form::Cycles, CYCLES_FORM))
@@ -307,7 +308,7 @@ fn form_at_top(given: &CommandInput<'_>, key: &str) -> Option<(Form, &'static st
     }
 }
 
-/// What is said of several cycle times, or the question whether one is meant in microseconds.
+/// Returns the words about several cycle times, or the question whether one is meant in microseconds.
 fn unit_question(given: &CommandInput<'_>, key: &str, value: &Value) -> Result<String, AllocError> {
     if key == "cycle" && value.is_array() {
         return plan_hint(given);
@@ -320,7 +321,7 @@ fn unit_question(given: &CommandInput<'_>, key: &str, value: &Value) -> Result<S
     }
 }
 
-/// Tells of a value of the top that hasn't its form.
+/// Reports a value of the top level that doesn't have its form.
 fn tell_bad_top(
     given: &CommandInput<'_>,
     told: &mut ToldLines,
@@ -344,7 +345,7 @@ fn tell_bad_top(
     Ok(())
 }
 
-/// Tells of each element of an array of names that is none, or that there is no bridge.
+/// Reports each element of an array of names that isn't a name; or that there is no bridge.
 fn tell_bad_names(
     given: &CommandInput<'_>,
     told: &mut ToldLines,
@@ -368,7 +369,7 @@ fn tell_bad_names(
     }
 }
 
-/// Tells of each element of an array of tables that is none.
+/// Reports each element of an array of tables that isn't a table.
 fn tell_bad_tables(
     given: &CommandInput<'_>,
     told: &mut ToldLines,
@@ -391,7 +392,7 @@ fn tell_bad_tables(
     Ok(())
 }
 
-/// The form of a value of a link or a stream, within the limits of the plant.
+/// Returns the form of a value of a link or a stream, within the limits of the plan.
 fn form_within(
     given: &CommandInput<'_>,
     kind: KeyOwner,
@@ -404,7 +405,7 @@ fn form_within(
     }
 }
 
-/// What is wrong with the value at a key of a link or a stream, where it has another form than it must have.
+/// Returns what is wrong with the value at a key of a link or a stream, if it doesn't have the form that it must have.
 fn bad_form(given: &CommandInput<'_>, item: &WrittenItem<'_>, key: &str) -> Option<&'static str> {
     let value = item.get(key)?;
     let (form, words) = form_within(given, item.kind, key)?;
@@ -424,7 +425,7 @@ fn bad_form(given: &CommandInput<'_>, item: &WrittenItem<'_>, key: &str) -> Opti
     }
 }
 
-/// Tells of each link or stream in which the value at a key hasn't its form.
+/// Reports each link or stream in which the value at a key doesn't have its form.
 fn tell_bad_within(
     given: &CommandInput<'_>,
     told: &mut ToldLines,
@@ -447,7 +448,7 @@ fn tell_bad_within(
     Ok(())
 }
 
-/// Tells of the values at a key that haven't their form.
+/// Reports the values at a key that don't have their form.
 pub(crate) fn tell_bad_value(
     given: &CommandInput<'_>,
     told: &mut ToldLines,

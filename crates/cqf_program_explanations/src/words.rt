@@ -1,4 +1,4 @@
-//! Words of the texts, as an explanation shows them.
+//! Parts of the texts, as an explanation shows them.
 
 use std::alloc::{AllocError, Global};
 use strsim::levenshtein;
@@ -6,10 +6,10 @@ use strsim::levenshtein;
 /// How many characters of a text are shown.
 const MOST_SHOWN: usize = 60;
 
-/// How far apart a word and the one that was meant may be.
+/// The greatest distance between a word and the one that was meant.
 const FARTHEST: usize = 2;
 
-/// The beginning of a text, with `..` behind it where there is more.
+/// Returns the beginning of a text, followed by `..` if there is more.
 pub(crate) fn shortened(alloc: Global, text: &str) -> Result<String, AllocError> {
     let mut shown: String = text.chars().take(MOST_SHOWN).collect(alloc)?;
     if shown.len() < text.len() {
@@ -18,7 +18,7 @@ pub(crate) fn shortened(alloc: Global, text: &str) -> Result<String, AllocError>
     Ok(shown)
 }
 
-/// The beginning of some bytes, as a text.
+/// Returns the beginning of some bytes, as a text.
 pub(crate) fn shown(alloc: Global, bytes: &[u8]) -> Result<String, AllocError> {
     match std::str::from_utf8(bytes) {
         Ok(text) => shortened(alloc, text),
@@ -29,14 +29,14 @@ pub(crate) fn shown(alloc: Global, bytes: &[u8]) -> Result<String, AllocError> {
     }
 }
 
-/// Whether the lengths of two words don't rule out that one is meant by the other.
+/// Returns whether the lengths of two words allow that one is meant by the other.
 fn may_be_near(word: &str, other: &str) -> bool {
     let is_ascii = word.is_ascii() && other.is_ascii();
     let most = if is_ascii { FARTHEST } else { 4 * FARTHEST };
     word.len().abs_diff(other.len()) <= most && word.len() <= MOST_SHOWN
 }
 
-/// The first of the words that are nearest to a word, no farther than two edits and fewer than either is long.
+/// Returns the first of the words that are nearest to a word, at most two edits away and fewer than either is long.
 pub(crate) fn nearest<'a>(
     alloc: Global,
     word: &str,
@@ -56,7 +56,7 @@ pub(crate) fn nearest<'a>(
     Ok(found)
 }
 
-/// The question whether the nearest of the words was meant, or nothing where none is near.
+/// Returns the question whether the nearest of the words was meant; an empty text if none is near.
 pub(crate) fn question(alloc: Global, word: &str, words: &[&str]) -> Result<String, AllocError> {
     match nearest(alloc, word, words)? {
         Some(meant) => format!(in alloc; "; did you mean {meant}?"),

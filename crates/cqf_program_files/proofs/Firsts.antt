@@ -12,35 +12,35 @@ pub found_here : {X Y : Type 0} (f : X → Y) (here rest : Option X) (y : Y) →
 found_here f None rest y found = absurd (false≢true (sym (ap is_some found)))
 found_here f (Some x) rest y found = found
 
--- and where nothing is, what is found behind
+-- and if nothing is found here, what is found after it
 pub found_behind : {X Y : Type 0} (f : X → Y) (here rest : Option X) → None ≡ option_map f here → option_or here rest ≡ rest
 found_behind f None rest none = refl
 found_behind f (Some x) rest none = absurd (false≢true (ap is_some none))
 
--- the texts of names and texts from a place on
+-- the texts of names and texts from an index on
 pub toml_at : {A B : Type 0} (f : A → List ℕ) (g : B → List ℕ) (names : List A) (texts : List B) (i : ℕ) (name : A) (text : B)
     → i < length names → i < length texts
     → toml_texts (map f (drop i names)) (map g (drop i texts))
     ≡ toml_text (f (get_or names i name)) (g (get_or texts i text)) ++ toml_texts (map f (drop (i + 1) names)) (map g (drop (i + 1) texts))
 toml_at f g names texts i name text in_names in_texts = rw (drop_more names i name in_names, drop_more texts i text in_texts) refl
 
--- there are none behind the last
+-- there are none after the last
 pub toml_end : {A B : Type 0} (f : A → List ℕ) (g : B → List ℕ) (names : List A) (texts : List B) (i : ℕ) → length names ≤ i
     → toml_texts (map f (drop i names)) (map g (drop i texts)) ≡ []
 toml_end f g names texts i past = rw (drop_all i names past) refl
 
--- the first key of texts from a place on
+-- the first key of texts from an index on
 pub strange_at : {A : Type 0} (g : A → List ℕ) (texts : List A) (i : ℕ) (text : A) → i < length texts
     → first_strange_among (map g (drop i texts)) ≡ option_or (strange_in (g (get_or texts i text))) (first_strange_among (map g (drop (i + 1) texts)))
 strange_at g texts i text inside = rw (drop_more texts i text inside) refl
 
--- several files that are one plant
+-- several files that are one plan
 pub plant_is_good : (names texts : List (List ℕ)) (text : List ℕ) → texts_refusal (toml_texts names texts) ≡ None → first_refusal names texts ≡ None
     → are_several names ≡ true
     → joint_refusal (tables_of (take (leading names) texts)) ≡ None → IsPlantText (take (leading names) texts) text → IsCheckedPlant names texts (Some text)
 plant_is_good names texts text alone first several together is = record { sound = rw (alone, first, several, together) refl; text = rw several is }
 
--- and where they aren't
+-- and the end if they aren't
 pub plant_ends : (names texts : List (List ℕ)) (stop : Stop) → texts_refusal (toml_texts names texts) ≡ None → first_refusal names texts ≡ None
     → are_several names ≡ true
     → EndsTogether (take (leading names) texts) stop → EndsPlant names texts stop
@@ -53,7 +53,7 @@ plant_ends names texts stop alone first several ends = record {
   memory = ends.memory;
 }
 
--- what stands behind some first elements
+-- what follows some first elements
 pub behind_first : {A : Type 0} (f : A → List ℕ) (xs : List A) (n : ℕ) → map f (take (length xs - n) (drop n xs)) ≡ drop n (map f xs)
 behind_first f xs n =
     let whole : length (drop n xs) ≤ length xs - n = omega (arith, length-drop n xs) in

@@ -1,4 +1,4 @@
--- Values put behind others, and into a table.
+-- Values appended to others, and put into a table.
 use Rattle.std.proofs.Common.{◌≡◌, ℕ, ◌+◌, ◌<◌, List, [], ◌∷◌, ◌++◌, String, Global, Ordering, Less, Equal, Greater, string_bytes, get_or, length, take, refl, ap, ◌∙◌}
 use Rattle.std.proofs.lemmas.List.{take_more}
 use Rattle.std.specs.Ordering.{match_ordering}
@@ -10,17 +10,17 @@ use Rattle.toml.specs.View.{view, items_view, members_view}
 use Rattle.toml.proofs.Views.{Entry, items_view-push}
 use Rattle.cqf_program_files.specs.Plants.{append_items, put}
 
--- nothing behind some items
+-- nothing after some items
 pub append_nothing : (items : Items) → append_items items no_items ≡ items
 append_nothing no_items = refl
 append_nothing (item d ds) = ap (item d) (append_nothing ds)
 
--- one item more behind them
+-- one more item after them
 pub append_one : (items others : Items) (d : Data) → append_items items (push_item others d) ≡ push_item (append_items items others) d
 append_one no_items others d = refl
 append_one (item e es) others d = ap (item e) (append_one es others d)
 
--- a copy of the next value, put behind those so far
+-- a copy of the next value, appended to those so far
 pub put_one : (before : Items) (items more : List Value) (copy value : Value) (i : ℕ) → i < length more → get_or more i value ≡ value → view copy ≡ view value
     → items_view items ≡ append_items before (items_view (take i more)) → items_view (items ++ copy ∷ []) ≡ append_items before (items_view (take (i + 1) more))
 put_one before items more copy value i inside at same so_far =

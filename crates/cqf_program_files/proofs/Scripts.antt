@@ -26,12 +26,12 @@ begins text cycles script no_text no_numbers = record {
   counted = omega arith;
 }
 
--- what stands behind a list so far is what the next lines come to, and then the rest
+-- what follows a list so far is what is made from the next lines, and then the rest
 behind_all : {A : Type 0} (old new more rest all whole : List A) → new ≡ old ++ more → more ++ rest ≡ all → old ++ all ≡ whole → new ++ rest ≡ whole
 behind_all old new more rest all whole put split so_far =
     ap (λ t. t ++ rest) put ∙ append_assoc old more rest ∙ ap (λ t. old ++ t) split ∙ so_far
 
--- with the lines for one line of the file more
+-- with the lines for one more line of the file
 pub next_line : (text left behind line : List ℕ) (cycles number reached : ℕ) (old new : CallsScript) → lines_of left ≡ line ∷ lines_of behind
     → IsSoFar text left cycles number reached old → HasPut old new (numbered number (lines_for cycles reached (bare line))) → length behind < length left
     → reached_behind reached (bare line) ≤ last_told → IsSoFar text behind cycles (number + 1) (reached_behind reached (bare line)) new
@@ -69,7 +69,7 @@ put_more first old new lines line so_far put = record {
       ∙ ap (λ t. first.numbers.items ++ t) (sym (map-append (λ line. line.0) lines (line ∷ [])));
 }
 
--- one Seal more
+-- one more Seal
 pub seals_more : (number count : ℕ) → numbered number (replicate count (codes "seal")) ++ (number, codes "seal") ∷ [] ≡ numbered number (replicate (count + 1) (codes "seal"))
 seals_more number count =
     sym (map-append (λ line. (number, line)) (replicate count (codes "seal")) (codes "seal" ∷ [])) ∙ ap (numbered number) (sym (replicate_next count (codes "seal")))

@@ -1,4 +1,4 @@
--- What a file of calls comes to: the script that the program reads.
+-- The script that is made from a file of calls, and that the program reads.
 use Rattle.std.specs.Prelude.{ℕ, ◌≡◌, ◌==◌, ◌&&◌, ◌+◌, ◌-◌, Bool, true, List, [], ◌∷◌, ◌++◌, Option, Some, None, codes, if◌then◌else◌, is_some}
 use Rattle.std.specs.Prelude.{length, map, max, min, nat_eq, nat_le, nat_lt, replicate, take}
 use Rattle.std.specs.List.{ends_with, flat_map}
@@ -12,21 +12,21 @@ use Rattle.cqf_program_files.specs.declared.calls.CallsScript.{CallsScript}
 abbrev pub bare : List ℕ → List ℕ
 bare line = if ends_with nat_eq line (13 ∷ []) then take (length line - 1) line else line
 
--- a line that says nothing: it is empty, or a comment
+-- a line without content: it is empty, or a comment
 abbrev pub is_silent : List ℕ → Bool
 is_silent [] = true
 is_silent (first ∷ more) = first == 35
 
--- the last cycle that a line may tell, up to which cycles are counted
+-- the last cycle that a line may state; cycles are counted up to it
 abbrev pub last_told : ℕ
 last_told = 4294967295
 
--- the cycle that a line `@N` tells
+-- the cycle that a line `@N` states
 abbrev pub cycle_told : List ℕ → Option ℕ
 cycle_told [] = None
 cycle_told (first ∷ digits) = if first == 64 then decimal_in 0 last_told digits else None
 
--- the cycle that is reached behind a line that tells one, which isn't before the cycle reached; behind a Seal; and behind any line
+-- the cycle that is reached after a line that states one, which isn't before the cycle reached; after a Seal; and after any line
 abbrev pub told_behind : ℕ → Option ℕ → ℕ
 told_behind reached None = reached
 told_behind reached (Some cycle) = max reached cycle
@@ -34,16 +34,16 @@ told_behind reached (Some cycle) = max reached cycle
 abbrev pub reached_behind : ℕ → List ℕ → ℕ
 reached_behind reached line = min last_told (if is_seal_line line then reached + 1 else told_behind reached (cycle_told line))
 
--- how many Seals there are of a run of so many cycles from a cycle on, up to another
+-- how many Seals a run of `cycles` cycles has from a cycle on, up to another
 abbrev pub seals_between : ℕ → ℕ → ℕ → ℕ
 seals_between cycles reached cycle = min cycle cycles - reached
 
--- the lines of the script for a line that tells a cycle: as many Seals as it takes. Where the cycle is before the one reached it stays, and is
--- no line of a script
+-- the lines of the script for a line that states a cycle: as many Seals as that takes. If the cycle is before the one reached, the line is
+-- left unchanged, and isn't a line of a script
 abbrev pub lines_told : ℕ → ℕ → List ℕ → ℕ → List (List ℕ)
 lines_told cycles reached line cycle = if nat_lt cycle reached then line ∷ [] else replicate (seals_between cycles reached cycle) (codes "seal")
 
--- for another line: it stays, but a call of a cycle that isn't run is left out
+-- the lines for another line: it is left unchanged, but a call of a cycle that isn't run is left out
 abbrev pub lines_called : ℕ → ℕ → List ℕ → List (List ℕ)
 lines_called cycles reached line = if nat_le cycles reached && is_some (order_of_line line) then [] else line ∷ []
 
@@ -51,13 +51,13 @@ abbrev pub lines_by : ℕ → ℕ → List ℕ → Option ℕ → List (List ℕ
 lines_by cycles reached line None = lines_called cycles reached line
 lines_by cycles reached line (Some cycle) = lines_told cycles reached line cycle
 
--- for a line: a Seal past the last cycle is left out
+-- the lines for any line: a Seal past the last cycle is left out
 abbrev pub lines_for : ℕ → ℕ → List ℕ → List (List ℕ)
 lines_for cycles reached line =
     if is_silent line then []
     else (if is_seal_line line then replicate (seals_between cycles reached (reached + 1)) (codes "seal") else lines_by cycles reached line (cycle_told line))
 
--- the lines of the script, each with the number of the file's line that it is for
+-- the lines of the script, each with the number of the file's line from which it is made
 abbrev pub numbered : ℕ → List (List ℕ) → List (ℕ × List ℕ)
 numbered number lines = map (λ line. (number, line)) lines
 
@@ -76,7 +76,7 @@ text_of_script lines = flat_map (λ line. line_of line.1) lines
 abbrev pub numbers_of_script : List (ℕ × List ℕ) → List ℕ
 numbers_of_script lines = map (λ line. line.0) lines
 
--- lines were put behind a script, with their numbers
+-- lines were appended to a script, with their numbers
 pub record HasPut (old new : CallsScript) (lines : List (ℕ × List ℕ)) : Type 0 where
   pub text : new.text.items ≡ old.text.items ++ text_of_script lines
   pub numbers : new.numbers.items ≡ old.numbers.items ++ numbers_of_script lines

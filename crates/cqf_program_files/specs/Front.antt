@@ -1,4 +1,4 @@
--- What the texts of files come to for a job: the input that the program reads.
+-- The input that the program reads, made from the texts of files for a job.
 use Rattle.std.specs.Prelude.{ℕ, ◌≡◌, ◌⊎◌, ◌==◌, ◌-◌, ◌&&◌, ◌||◌, Bool, true, false, nat_eq, nat_le, not, List, [], ◌∷◌, Option, Some, None, Vec, codes, drop, if◌then◌else◌, is_some, length, option_and_then, option_map}
 use Rattle.std.specs.declared.alloc.Global.{Global}
 use Rattle.cqf_press.specs.Stops.{fault_line}
@@ -21,28 +21,30 @@ cycles_of (job.Summary cycles) = Some cycles
 cycles_of (job.Hops cycles stream frame) = Some cycles
 cycles_of other = None
 
--- what divides the fields of a table, also where it is written by another program: a comma, a semicolon, or where these count a tab
+-- an octet that divides the fields of a table, including one that another program has written: a comma, a semicolon, or, if tabs count, a
+-- tab
 abbrev pub is_between : Bool → ℕ → Bool
 is_between tabs octet = octet == 44 || (octet == 59 || (tabs && octet == 9))
 
--- it stands in the first line of a text, and no blank before it
+-- it is in the first line of a text, and no blank is before it
 abbrev pub has_fields : Bool → List ℕ → Bool
 has_fields tabs [] = false
 has_fields tabs (octet ∷ more) = if is_between tabs octet then true else (if octet == 32 || octet == 10 then false else has_fields tabs more)
 
--- what only a line of a file of calls begins with: `#` or `@`; and a digit, with which a row begins too
+-- the characters with which only a line of a file of calls begins: `#` and `@`; and a digit, with which a row begins too
 abbrev pub is_mark : ℕ → Bool
 is_mark octet = octet == 35 || octet == 64
 
 abbrev pub is_digit : ℕ → Bool
 is_digit octet = nat_le 48 octet && nat_le octet 57
 
--- a text begins as a table of offers does, or as another that is meant so: its first line has fields, and isn't one of a file of calls
+-- a text begins as a table of offers, or as another one that is intended as such: its first line has fields, and isn't a line of a file of
+-- calls
 abbrev pub begins_as_offers : List ℕ → Bool
 begins_as_offers [] = false
 begins_as_offers (first ∷ more) = not (is_mark first) && has_fields (not (is_digit first)) (first ∷ more)
 
--- the file of calls, where there is one: it stands right behind a plant, no line divides it, and it isn't a table of offers
+-- the script of the file of calls, if there is one: the file directly follows a plan, no line divides it, and it isn't a table of offers
 abbrev pub called_script : Job → List (List ℕ) → List ℕ → List ℕ → ℕ → Option (List (ℕ × List ℕ))
 called_script it names first second cycles =
     if is_plant it names first && (is_undivided second && not (begins_as_offers second)) then Some (script_of_calls cycles second) else None
@@ -51,7 +53,7 @@ abbrev pub script_at : Job → List (List ℕ) → List ℕ → List (List ℕ) 
 script_at it names first [] = None
 script_at it names first (second ∷ more) = option_and_then (called_script it names first second) (cycles_of it)
 
--- the texts behind the first, with that file's script in its place
+-- the texts after the first, with that file replaced by its script
 abbrev pub with_first : List (List ℕ) → List ℕ → List (List ℕ)
 with_first [] script = []
 with_first (second ∷ more) script = script ∷ more
@@ -64,50 +66,51 @@ called_texts texts (Some script) = with_first texts (text_of_script script)
 abbrev pub parts_of_script : List (ℕ × List ℕ) → List ℕ × List ℕ
 parts_of_script lines = (text_of_script lines, numbers_of_script lines)
 
--- what a first text and others behind it come to
+-- the input and the line numbers that are made from a first text and others after it
 pub record IsGathered (it : Job) (names : List (List ℕ)) (first : List ℕ) (rest : List (List ℕ)) (front : Front) : Type 0 where
   pub input : front.input.items ≡ composed_of it names (first ∷ called_texts rest (script_at it names first rest))
   pub numbers : option_map (λ (numbers : Vec ℕ Global). numbers.items) front.numbers ≡ option_map numbers_of_script (script_at it names first rest)
 
--- where the first names are those of one plant, it has the last of these
+-- if the first names are those of one plan, it has the last of these names
 abbrev pub joint_names : List (List ℕ) → List (List ℕ)
 joint_names names = drop (leading names - 1) names
 
--- what texts come to whose first are those of one plant with this text, if any; no texts come to nothing
+-- the input that is made from texts; the first of them are those of one plan with this text, if there is one. No texts make an empty input
 abbrev pub IsGatheredWith : Job → List (List ℕ) → List (List ℕ) → Option (List ℕ) → Front → Type 0
 IsGatheredWith it names texts (Some plant) front = IsGathered it (joint_names names) plant (drop (leading names) texts) front
 IsGatheredWith it names (first ∷ rest) None front = IsGathered it names first rest front
 IsGatheredWith it names [] None front = front.input.items ≡ []
 
--- an empty text right behind a plant, with none behind it, of a job that reads a script: it is one of offers, and lacks their header
+-- an empty text is the only one after a plan, of a job that reads a script: it is a text of offers that lacks their header
 abbrev pub lacks_header : Job → List (List ℕ) → List ℕ → List (List ℕ) → Bool
 lacks_header it names first (second ∷ []) = is_some (cycles_of it) && (nat_eq (length second) 0 && is_plant it names first)
 lacks_header it names first rest = false
 
--- of texts whose first are those of one plant with this text, if any
+-- the same for texts that begin with those of one plan with this text, if there is one
 abbrev pub is_headless : Job → List (List ℕ) → List (List ℕ) → Option (List ℕ) → Bool
 is_headless it names texts (Some plant) = lacks_header it (joint_names names) plant (drop (leading names) texts)
 is_headless it names (first ∷ rest) None = lacks_header it names first rest
 is_headless it names [] None = false
 
--- the files of a job that takes a domain are checked, and several that are one plant have its text; those of another job aren't looked at
+-- the files of a job that takes a domain are checked, and several files that are one plan have its text; those of another job aren't
+-- checked
 abbrev pub IsJointFor : Bool → List (List ℕ) → List (List ℕ) → Option (List ℕ) → Type 0
 IsJointFor true names texts plant = IsCheckedPlant names texts plant
 IsJointFor false names texts plant = plant ≡ None
 
--- what files come to for a job
+-- the input that is made from files for a job
 pub record IsFrontOf (it : Job) (names texts : List (List ℕ)) (front : Front) : Type 0 where
   pub plant : Option (List ℕ)
   pub is_joint : IsJointFor (takes_domain it) names texts plant
   pub headed : is_headless it names texts plant ≡ false
   pub gathered : IsGatheredWith it names texts plant front
 
--- how it ends where a plant's files are refused: only those of a job that takes a domain are, and else there was no memory
+-- the end if a plan's files are refused: only those of a job that takes a domain are; for any other job memory lacked
 abbrev pub EndsJoint : Bool → List (List ℕ) → List (List ℕ) → Stop → Type 0
 EndsJoint true names texts stop = EndsPlant names texts stop
 EndsJoint false names texts stop = EndsFor (λ line. ⊥) stop
 
--- and where they are good, but the offers lack their header
+-- and the end if they are good, but the offers lack their header
 abbrev pub headless_line : List ℕ
 headless_line = fault_line (codes "offers") (codes "BadHeader")
 

@@ -8,17 +8,17 @@ use cqf_text::{read_decimal, split_line};
 use cqf_units::Memory;
 use std::alloc::Global;
 
-/// The script of a file of calls, with the number of the file's line that each of its lines is for.
+/// The script that is made from a file of calls, with the number of the file's line for each of its lines.
 #[derive(Debug, Drop)]
 pub struct CallsScript {
     pub(crate) text: Vec<u8>,
     pub(crate) numbers: Vec<u64>,
 }
 
-/// The last cycle that a line may tell, up to which cycles are counted.
+/// The last cycle that a line may state; cycles are counted up to it.
 const LAST_TOLD: u64 = 4_294_967_295;
 
-/// A line without the carriage return before its line feed.
+/// Returns a line without the carriage return before its line feed.
 fn bare(line: &[u8]) -> &[u8]
     ensures { result.now ≡ bare line.now }
 {
@@ -29,7 +29,7 @@ fn bare(line: &[u8]) -> &[u8]
     }
 }
 
-/// Whether the line says nothing: it is empty, or a comment.
+/// Returns whether the line has no content: it is empty, or a comment.
 fn is_silent(line: &[u8]) -> bool
     ensures { result ≡ is_silent line.now }
 {
@@ -39,7 +39,7 @@ fn is_silent(line: &[u8]) -> bool
     }
 }
 
-/// The cycle that a line `@N` tells.
+/// Returns the cycle that a line `@N` states.
 fn cycle_told(line: &[u8]) -> Option<u64>
     ensures { result ≡ cycle_told line.now }
 {
@@ -49,7 +49,7 @@ fn cycle_told(line: &[u8]) -> Option<u64>
     }
 }
 
-/// How many Seals there are of a run of so many cycles from a cycle on, up to another.
+/// Returns how many Seals a run of `cycles` cycles has from a cycle on, up to another.
 fn seals_between(cycles: u64, reached: u64, cycle: u64) -> u64
     ensures value { result ≡ seals_between cycles reached cycle }
     ensures few { result ≤ cycles }
@@ -57,7 +57,7 @@ fn seals_between(cycles: u64, reached: u64, cycle: u64) -> u64
     cycle.min(cycles).saturating_sub(reached)
 }
 
-/// The cycle that is reached behind a line.
+/// Returns the cycle that is reached after a line.
 fn reached_behind(reached: u64, line: &[u8]) -> u64
     requires { reached ≤ last_told }
     ensures value { result ≡ reached_behind reached line.now }
@@ -71,7 +71,7 @@ fn reached_behind(reached: u64, line: &[u8]) -> u64
     LAST_TOLD.min(behind)
 }
 
-/// The cycle that is reached behind a line that tells one, or none.
+/// Returns the cycle that is reached after a line that states one, or none.
 fn told_behind(reached: u64, told: Option<u64>) -> u64
     ensures { result ≡ told_behind reached told }
 {
@@ -82,7 +82,7 @@ fn told_behind(reached: u64, told: Option<u64>) -> u64
 }
 
 impl CallsScript {
-    /// Puts a line, which is for the file's line of this number. The error is want of memory.
+    /// Appends a line for the file's line of this number. Returns `Memory` if an allocation fails.
     fn put(&mut self, number: u64, line: &[u8]) -> Result<(), Memory>
         ensures { OnOk result (HasPut self.old self.new ((number, line.now) ∷ [])) }
     {
@@ -92,7 +92,7 @@ impl CallsScript {
         Ok(())
     }
 
-    /// Puts so many Seals. The error is want of memory.
+    /// Appends `count` Seals. Returns `Memory` if an allocation fails.
     fn put_seals(&mut self, number: u64, count: u64) -> Result<(), Memory>
         ensures { OnOk result (HasPut self.old self.new (numbered number (replicate count (codes "seal")))) }
     {
@@ -102,7 +102,7 @@ impl CallsScript {
         Ok(())
     }
 
-    /// Puts what stands for a line that tells a cycle. The error is want of memory.
+    /// Appends the lines for a line that states a cycle. Returns `Memory` if an allocation fails.
     fn put_told(&mut self, place: CallsPlace, line: &[u8], cycle: u64) -> Result<(), Memory>
         ensures { OnOk result (HasPut self.old self.new (numbered place.number (lines_told place.cycles place.reached line.now cycle))) }
     {
@@ -115,7 +115,7 @@ impl CallsScript {
         )
     }
 
-    /// Puts what stands for a line that is neither a Seal nor tells a cycle. The error is want of memory.
+    /// Appends the lines for a line that is neither a Seal nor states a cycle. Returns `Memory` if an allocation fails.
     fn put_called(&mut self, place: CallsPlace, line: &[u8]) -> Result<(), Memory>
         ensures { OnOk result (HasPut self.old self.new (numbered place.number (lines_called place.cycles place.reached line.now))) }
     {
@@ -125,7 +125,7 @@ impl CallsScript {
         self.put(place.number, line)
     }
 
-    /// Puts what stands for a line. The error is want of memory.
+    /// Appends the lines for a line. Returns `Memory` if an allocation fails.
     fn put_for(&mut self, place: CallsPlace, line: &[u8]) -> Result<(), Memory>
         requires { place.reached ≤ last_told }
         ensures { OnOk result (HasPut self.old self.new (numbered place.number (lines_for place.cycles place.reached line.now))) }
@@ -144,7 +144,7 @@ impl CallsScript {
     }
 }
 
-/// Where a line stands: its number, from 1, the cycle that is reached before it, and how many cycles are run.
+/// The position of a line: its number, from 1, the cycle that is reached before it, and how many cycles are run.
 #[derive(Clone, Copy, Debug)]
 struct CallsPlace {
     cycles: u64,
@@ -153,7 +153,7 @@ struct CallsPlace {
 }
 
 impl CallsPlace {
-    /// Where the next line stands.
+    /// Returns the position of the next line.
     fn behind(self, line: &[u8]) -> CallsPlace
         requires number { self.number ≤ 2 ^ 63 }
         requires reached { self.reached ≤ last_told }
@@ -170,13 +170,15 @@ impl CallsPlace {
     }
 }
 
-/// The script of a file of calls, for a run of so many cycles: empty lines and those that begin with `#` are left out, so is a carriage
-/// return before a line feed; `@N` alone on a line says that what follows is called for in cycle N, and stands for as many Seals as that
-/// takes; Seals and calls of cycles that aren't run are left out. Every other line stays as it is, also one that no script may have,
-/// such as `@N` where N is before the cycle reached. Time and memory grow with the text and the cycles.
+/// Returns the script that is made from a file of calls, for a run of `cycles` cycles.
+///
+/// Empty lines and those that begin with `#` are left out, and so is a carriage return before a line feed. `@N` alone on a line says that
+/// the following calls are made in cycle N; it is replaced by as many Seals as that takes. Seals and calls of cycles that aren't run are
+/// left out. Every other line is left unchanged, even one that no script may have, such as `@N` if N is before the cycle reached. Time and
+/// memory grow with the text and the cycles.
 ///
 /// # Errors
-/// Where a growth is refused.
+/// If an allocation fails.
 pub fn script_of_calls(alloc: Global, cycles: u32, text: &[u8]) -> Result<CallsScript, Memory>
     ensures text { IfOk result (λ script. script.text.items ≡ text_of_script (script_of_calls cycles text.now)) }
     ensures numbers { IfOk result (λ script. script.numbers.items ≡ numbers_of_script (script_of_calls cycles text.now)) }

@@ -1,4 +1,4 @@
-//! The files of a plant, checked, and made one.
+//! The files of a plan, checked and joined.
 ghost use Rattle.std.specs.Prelude.{◌≡◌, ◌++◌, IfOk, IfErr, None, OnOk, length, map, option_map, string_bytes, take};
 ghost use Rattle.toml.specs.View.{table_view};
 ghost use Rattle.cqf_press.specs.Stops.{EndsWith};
@@ -21,7 +21,7 @@ use toml::Table;
 /// The most octets of a key that a line shows.
 const MOST_SHOWN: usize = 64;
 
-/// The table of a text, where it is TOML. The error is want of memory.
+/// Returns the table of a text; `None` if it isn't TOML. Returns `Memory` if an allocation fails.
 fn table_of(alloc: Global, text: &[u8]) -> Result<Option<Table>, Memory>
     ensures { IfOk result (λ table. option_map table_view table ≡ table_of text.now) }
 {
@@ -37,7 +37,7 @@ fn table_of(alloc: Global, text: &[u8]) -> Result<Option<Table>, Memory>
     }
 }
 
-/// The tables of some texts, where each is TOML. The error is want of memory.
+/// Returns the tables of some texts; `None` if one isn't TOML. Returns `Memory` if an allocation fails.
 fn tables_of(alloc: Global, texts: &[&[u8]]) -> Result<Option<Vec<Table>>, Memory>
     ensures { IfOk result (λ tables. option_map (λ tables. map table_view tables.items) tables ≡ tables_of (map (λ text. text.now) texts.now)) }
 {
@@ -51,7 +51,7 @@ fn tables_of(alloc: Global, texts: &[&[u8]]) -> Result<Option<Vec<Table>>, Memor
     Ok(Some(tables))
 }
 
-/// An octet of a key as a line shows it: `?` where it isn't a printable one of ASCII.
+/// Returns an octet of a key as a line shows it: `?` if it isn't a printable one of ASCII.
 fn shown_octet(octet: u8) -> u8
     ensures { result ≡ shown_octet octet }
 {
@@ -62,7 +62,7 @@ fn shown_octet(octet: u8) -> u8
     }
 }
 
-/// The octets of a key that a line shows.
+/// Returns the octets of a key that a line shows.
 fn shown_front(octets: &[u8]) -> &[u8]
     ensures { result.now ≡ take most_shown octets.now }
 {
@@ -73,7 +73,7 @@ fn shown_front(octets: &[u8]) -> &[u8]
     }
 }
 
-/// Octets as a line shows them. The error is want of memory.
+/// Returns octets as a line shows them. Returns `Memory` if an allocation fails.
 fn shown(alloc: Global, octets: &[u8]) -> Result<String, Memory>
     ensures { IfOk result (λ shown. string_bytes shown ≡ map shown_octet octets.now) }
 {
@@ -84,7 +84,7 @@ fn shown(alloc: Global, octets: &[u8]) -> Result<String, Memory>
     Ok(text)
 }
 
-/// A key as a line shows it. The error is want of memory.
+/// Returns a key as a line shows it. Returns `Memory` if an allocation fails.
 fn shown_key(alloc: Global, key: &str) -> Result<String, Memory>
     ensures { IfOk result (λ shown. string_bytes shown ≡ shown_key key.now) }
 {
@@ -95,7 +95,7 @@ fn shown_key(alloc: Global, key: &str) -> Result<String, Memory>
     Ok(text)
 }
 
-/// Puts the text of a file behind others where its name is that of a TOML file. The error is want of memory.
+/// Appends the text of a file to others if its name is that of a TOML file. Returns `Memory` if an allocation fails.
 fn put_toml<'t>(found: &mut Vec<&'t [u8]>, name: &str, text: &'t [u8]) -> Result<(), Memory>
     ensures { OnOk result (map (λ text. text.now) found.new.items ≡ map (λ text. text.now) found.old.items ++ toml_text name.now text.now) }
 {
@@ -105,7 +105,7 @@ fn put_toml<'t>(found: &mut Vec<&'t [u8]>, name: &str, text: &'t [u8]) -> Result
     Ok(())
 }
 
-/// The texts of the files whose names are those of TOML files. The error is want of memory.
+/// Returns the texts of the files whose names are those of TOML files. Returns `Memory` if an allocation fails.
 fn toml_texts<'t>(
     alloc: Global,
     names: &[&str],
@@ -122,7 +122,7 @@ fn toml_texts<'t>(
     Ok(found)
 }
 
-/// The number of the first line that is too long of the first text that has one.
+/// Returns the number of the first line that is too long, in the first text that has one.
 fn first_long_among(texts: &[&[u8]]) -> Option<u64>
     ensures { result ≡ first_long_among (map (λ text. text.now) texts.now) }
 {
@@ -135,7 +135,8 @@ fn first_long_among(texts: &[&[u8]]) -> Option<u64>
     None
 }
 
-/// The first key that no command knows of a text that is TOML, as a line shows it. The error is want of memory.
+/// Returns the first key of a text that no command knows, as a line shows it; `None` if the text isn't TOML. Returns `Memory` if an
+/// allocation fails.
 fn strange_in(alloc: Global, text: &[u8]) -> Result<Option<String>, Memory>
     ensures { IfOk result (λ shown. option_map string_bytes shown ≡ option_map shown_key (strange_in text.now)) }
 {
@@ -149,7 +150,7 @@ fn strange_in(alloc: Global, text: &[u8]) -> Result<Option<String>, Memory>
     Ok(Some(shown))
 }
 
-/// The same of the first text that has one. The error is want of memory.
+/// Returns such a key of the first text that has one. Returns `Memory` if an allocation fails.
 fn first_strange_among(alloc: Global, texts: &[&[u8]]) -> Result<Option<String>, Memory>
     ensures { IfOk result (λ shown. option_map string_bytes shown ≡ option_map shown_key (first_strange_among (map (λ text. text.now) texts.now))) }
 {
@@ -161,7 +162,7 @@ fn first_strange_among(alloc: Global, texts: &[&[u8]]) -> Result<Option<String>,
     Ok(None)
 }
 
-/// The fault of a plant's texts by themselves, where there is one. The error is want of memory.
+/// Returns the fault of a plan's texts by themselves, if there is one. Returns `Memory` if an allocation fails.
 fn texts_refusal(alloc: Global, texts: &[&[u8]]) -> Result<Option<PlantFault>, Memory>
     ensures { IfOk result (λ found. option_map plant_fault_line found ≡ texts_refusal (map (λ text. text.now) texts.now)) }
 {
@@ -174,7 +175,7 @@ fn texts_refusal(alloc: Global, texts: &[&[u8]]) -> Result<Option<PlantFault>, M
     }
 }
 
-/// The fault of one text by itself, of whose lines the octets don't count, where there is one. The error is want of memory.
+/// Returns the fault of one text by itself, if there is one; the octets of its lines don't count. Returns `Memory` if an allocation fails.
 fn plain_fault(alloc: Global, text: &[u8]) -> Result<Option<PlantFault>, Memory>
     ensures { IfOk result (λ found. option_map plant_fault_line found ≡ plain_fault text.now) }
 {
@@ -187,7 +188,8 @@ fn plain_fault(alloc: Global, text: &[u8]) -> Result<Option<PlantFault>, Memory>
     }
 }
 
-/// Whether a first text is one of a domain or a plant by itself that isn't named so: no line divides it. The error is want of memory.
+/// Returns whether a first text is that of a domain or a plan by itself, though its name doesn't say so: no line divides it. Returns
+/// `Memory` if an allocation fails.
 fn is_plain(alloc: Global, name: &str, text: &[u8]) -> Result<bool, Memory>
     ensures { IfOk result (λ plain. plain ≡ is_plain name.now text.now) }
 {
@@ -197,7 +199,7 @@ fn is_plain(alloc: Global, name: &str, text: &[u8]) -> Result<bool, Memory>
     is_undivided(alloc, text)
 }
 
-/// The fault of the first text by itself, where it is such a one, and has one. The error is want of memory.
+/// Returns the fault of the first text by itself, if it is such a text and has one. Returns `Memory` if an allocation fails.
 fn first_refusal(
     alloc: Global,
     names: &[&str],
@@ -217,7 +219,7 @@ fn first_refusal(
     }
 }
 
-/// The fault of several tables that are one plant, where there is one.
+/// Returns the fault of several tables that are one plan, if there is one.
 fn tables_refusal(tables: &[Table]) -> Option<PlantFault>
     ensures { option_map plant_fault_line result ≡ tables_refusal (map table_view tables.now) }
 {
@@ -230,7 +232,7 @@ fn tables_refusal(tables: &[Table]) -> Option<PlantFault>
     }
 }
 
-/// The end where a plant's files are refused: status 1 and the fault's line, or want of memory for it.
+/// Returns the end if a plan's files are refused: status 1 and the fault's line; status 3 if an allocation for it fails.
 pub(crate) fn stop_of(alloc: Global, fault: &PlantFault) -> Stop
     ensures { EndsWith 1 (plant_fault_line fault.now) result }
 {
@@ -241,7 +243,7 @@ pub(crate) fn stop_of(alloc: Global, fault: &PlantFault) -> Stop
     }
 }
 
-/// The text of a table. `Err` where it has a date that no text writes, and for want of memory.
+/// Returns the text of a table. Returns `Err` if the table has a date that no text writes, or if an allocation fails.
 fn text_of(alloc: Global, plant: &Table) -> Result<String, Stop>
     ensures ok { IfOk result (λ text. IsTextOf (table_view plant.now) (string_bytes text)) }
     ensures err { IfErr result (EndsUnwritten (table_view plant.now)) }
@@ -253,7 +255,7 @@ fn text_of(alloc: Global, plant: &Table) -> Result<String, Stop>
     }
 }
 
-/// The text of the plant of several texts. `Err` where they are refused, and for want of memory.
+/// Returns the text of the plan of several texts. Returns `Err` if they are refused, or if an allocation fails.
 fn joined(alloc: Global, texts: &[&[u8]]) -> Result<String, Stop>
     ensures sound { OnOk result (joint_refusal (tables_of (map (λ text. text.now) texts.now)) ≡ None) }
     ensures ok { IfOk result (λ text. IsPlantText (map (λ text. text.now) texts.now) (string_bytes text)) }
@@ -273,7 +275,7 @@ fn joined(alloc: Global, texts: &[&[u8]]) -> Result<String, Stop>
     }
 }
 
-/// Looks at the texts of the TOML files by themselves. `Err` where one is refused, and for want of memory.
+/// Checks each text of the TOML files by itself. Returns `Err` if one is refused, or if an allocation fails.
 fn check_texts(alloc: Global, names: &[&str], texts: &[&[u8]]) -> Result<(), Stop>
     requires { length names.now ≡ length texts.now }
     ensures ok { OnOk result (texts_refusal (toml_texts (map (λ name. name.now) names.now) (map (λ text. text.now) texts.now)) ≡ None) }
@@ -289,7 +291,7 @@ fn check_texts(alloc: Global, names: &[&str], texts: &[&[u8]]) -> Result<(), Sto
     }
 }
 
-/// Looks at the first text by itself. `Err` where it is refused, and for want of memory.
+/// Checks the first text by itself. Returns `Err` if it is refused, or if an allocation fails.
 fn check_first(alloc: Global, names: &[&str], texts: &[&[u8]]) -> Result<(), Stop>
     ensures ok { OnOk result (first_refusal (map (λ name. name.now) names.now) (map (λ text. text.now) texts.now) ≡ None) }
     ensures err { IfErr result (EndsBy (first_refusal (map (λ name. name.now) names.now) (map (λ text. text.now) texts.now))) }
@@ -301,8 +303,8 @@ fn check_first(alloc: Global, names: &[&str], texts: &[&[u8]]) -> Result<(), Sto
     }
 }
 
-/// Checks the files of a plant: the text of their one plant, where the first of them are 2 to 16 TOML files. `Err` with status 1 and the
-/// line of the first fault, and with status 3 for want of memory.
+/// Checks the files of a plan, and returns the text of their one plan if the first of them are 2 to 16 TOML files. Returns `Err` with
+/// status 1 and the line of the first fault; with status 3 if an allocation fails.
 pub(crate) fn check_plant(
     alloc: Global,
     names: &[&str],

@@ -1,4 +1,4 @@
-//! Why the files of a plant are refused.
+//! Why the files of a plan are refused.
 ghost use Rattle.std.specs.Prelude.{Some};
 ghost use Rattle.cqf_program_files.specs.Plants.{plant_fault_text};
 
@@ -6,20 +6,21 @@ use cqf_units::Memory;
 use std::fmt;
 use thiserror::Error;
 
-/// Why the files of a plant are refused. A fault prints as its name, and then its value.
+/// Why the files of a plan are refused. A fault prints as its name, followed by its value.
 #[derive(Debug, Drop, Error)]
 pub enum PlantFault {
-    /// The first line, from 1, of the first file that has one, with a key of more than 4 parts, or in a TOML file of more than 4,096 octets.
+    /// The first line, from 1, of the first file that has one, with a key of more than 4 parts, or, in a TOML file, of more than 4,096
+    /// octets.
     LineTooLong(u64),
-    /// The first key of the first file that has one that no command knows, as a line shows it.
+    /// The first key that no command knows, as a line shows it, in the first file that has one.
     UnknownKey(String),
     /// One of several files isn't TOML.
     NotToml,
-    /// The first of several files has streams, and the second too.
+    /// The first two of several files have streams.
     StreamsTwice,
-    /// The first key that may stand once and stands in two of several files.
+    /// The first key that may occur once and occurs in two of several files.
     KeyTwice(&'static str),
-    /// The only file behind a plant is empty, where offers may stand.
+    /// The only file after a plan is empty, where offers are expected.
     NoHeader,
 }
 

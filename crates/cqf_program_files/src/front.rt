@@ -1,4 +1,4 @@
-//! What the texts of files come to.
+//! The input that is made from the texts of files.
 ghost use Rattle.std.specs.Prelude.{◌≡◌, ◌∷◌, IfOk, IfErr, OnOk, Some, false, length, map, option_map, string_bytes};
 ghost use Rattle.cqf_program_words.specs.Composing.{composed_of};
 ghost use Rattle.cqf_program_words.specs.Words.{takes_domain};
@@ -15,15 +15,15 @@ use cqf_program_words::{Job, composed_behind, composed_between, is_plant, is_und
 use cqf_units::Memory;
 use std::alloc::Global;
 
-/// What the texts of files come to: the input, and where one of them is a file of calls, the number of its line that each line of the
-/// input's script is for.
+/// The input that is made from the texts of files; and, if one of them is a file of calls, the number of its line for each line of the
+/// input's script.
 #[derive(Debug, Drop)]
 pub struct Front {
     pub input: Vec<u8>,
     pub numbers: Option<Vec<u64>>,
 }
 
-/// The cycles of a job that reads a script: of `run`, `report`, `deliveries`, `check`, `summary` and `hops`.
+/// Returns the cycles of a job that reads a script: of `run`, `report`, `deliveries`, `check`, `summary` and `hops`.
 pub fn cycles_of(job: &Job) -> Option<u32>
     ensures { result ≡ cycles_of job.now }
 {
@@ -38,14 +38,14 @@ pub fn cycles_of(job: &Job) -> Option<u32>
     }
 }
 
-/// Whether the octet divides the fields of a table: a comma, a semicolon, or where these count a tab.
+/// Returns whether the octet divides the fields of a table: a comma, a semicolon, or, if tabs count, a tab.
 fn is_between(tabs: bool, octet: u8) -> bool
     ensures { result ≡ is_between tabs octet }
 {
     octet == b',' || octet == b';' || (tabs && octet == b'\t')
 }
 
-/// Whether the first line of a text has fields, with no blank before what divides them.
+/// Returns whether the first line of a text has fields, with no blank before what divides them.
 fn has_fields(tabs: bool, text: &[u8]) -> bool
     ensures { result ≡ has_fields tabs text.now }
 {
@@ -60,22 +60,23 @@ fn has_fields(tabs: bool, text: &[u8]) -> bool
     false
 }
 
-/// Whether only a line of a file of calls begins with the octet: `#` or `@`.
+/// Returns whether only a line of a file of calls begins with the octet: `#` or `@`.
 fn is_mark(octet: u8) -> bool
     ensures { result ≡ is_mark octet }
 {
     octet == b'#' || octet == b'@'
 }
 
-/// Whether the octet is a digit.
+/// Returns whether the octet is a digit.
 fn is_digit(octet: u8) -> bool
     ensures { result ≡ is_digit octet }
 {
     b'0' <= octet && octet <= b'9'
 }
 
-/// Whether the text begins as a table of offers does, or as another that is meant so: its first line has a comma or a semicolon with no blank
-/// before it, or a tab behind another beginning than a digit, and doesn't begin with `#` or `@` as lines of a file of calls do.
+/// Returns whether the text begins as a table of offers, or as another one that is intended as such. Its first line has a comma or a
+/// semicolon with no blank before it, or, if it doesn't begin with a digit, a tab; and it doesn't begin with `#` or `@` as lines of a file
+/// of calls do.
 pub fn begins_as_offers(text: &[u8]) -> bool
     ensures { result ≡ begins_as_offers text.now }
 {
@@ -90,7 +91,8 @@ pub fn begins_as_offers(text: &[u8]) -> bool
     }
 }
 
-/// The script of the second text, where it is a file of calls behind a plant, and no table of offers. The error is want of memory.
+/// Returns the script of the second text, if it is a file of calls after a plan, and not a table of offers. Returns `Memory` if an
+/// allocation fails.
 fn called_script(
     alloc: Global,
     job: &Job,
@@ -115,7 +117,7 @@ fn called_script(
     Ok(Some(script))
 }
 
-/// The script of the file of calls, where there is one. The error is want of memory.
+/// Returns the script of the file of calls, if there is one. Returns `Memory` if an allocation fails.
 fn script_at(
     alloc: Global,
     job: &Job,
@@ -135,7 +137,7 @@ fn script_at(
     }
 }
 
-/// What a first text and others come to. The error is want of memory.
+/// Returns the input that is made from a first text and others. Returns `Memory` if an allocation fails.
 fn gathered(
     alloc: Global,
     job: &Job,
@@ -157,7 +159,7 @@ fn gathered(
     }
 }
 
-/// The same with a script in the place of the text behind the first. The error is want of memory.
+/// Returns the same with the text after the first replaced by a script. Returns `Memory` if an allocation fails.
 fn called(
     alloc: Global,
     job: &Job,
@@ -181,7 +183,7 @@ fn called(
     })
 }
 
-/// The names, where the first of them are those of one plant: it has the last of their names.
+/// Returns the names, if the first of them are those of one plan: it has the last of its names.
 fn joint_names<'n>(names: &'n [&'n str]) -> &'n [&'n str]
     ensures { map (λ name. name.now) result.now ≡ joint_names (map (λ name. name.now) names.now) }
 {
@@ -189,7 +191,8 @@ fn joint_names<'n>(names: &'n [&'n str]) -> &'n [&'n str]
     &names[count.saturating_sub(1)..]
 }
 
-/// What texts come to, where the first of them are those of one plant with this text, if any. The error is want of memory.
+/// Returns the input that is made from texts; the first of them are those of one plan with this text, if there is one. Returns `Memory` if
+/// an allocation fails.
 fn gathered_with(
     alloc: Global,
     job: &Job,
@@ -217,7 +220,7 @@ fn gathered_with(
     }
 }
 
-/// The text of the plant of the first files, where they are several. `Err` where they are refused, and for want of memory.
+/// Returns the text of the plan of the first files, if they are several. Returns `Err` if they are refused, or if an allocation fails.
 fn joint_plant(
     alloc: Global,
     job: &Job,
@@ -236,7 +239,7 @@ fn joint_plant(
     }
 }
 
-/// Whether an empty text stands right behind a plant, with none behind it, where offers may stand. The error is want of memory.
+/// Returns whether an empty text is the only one after a plan, where offers are expected. Returns `Memory` if an allocation fails.
 fn lacks_header(
     alloc: Global,
     job: &Job,
@@ -260,7 +263,8 @@ fn lacks_header(
     }
 }
 
-/// The same of texts whose first are those of one plant with this text, if any. The error is want of memory.
+/// Returns the same for texts that begin with those of one plan with this text, if there is one. Returns `Memory` if an allocation
+/// fails.
 fn is_headless(
     alloc: Global,
     job: &Job,
@@ -285,7 +289,7 @@ fn is_headless(
     }
 }
 
-/// Looks whether offers lack their header. `Err` where they do, and for want of memory.
+/// Checks that offers don't lack their header. Returns `Err` if they do, or if an allocation fails.
 fn check_header(
     alloc: Global,
     job: &Job,
@@ -306,17 +310,21 @@ fn check_header(
     }
 }
 
-/// What the texts of files with these names come to, for a job.
+/// Returns the input that is made from the texts of files with these names, for a job.
 ///
-/// Where the job takes a domain, the first 2 to 16 names that end with `.toml` are those of one plant: its text has all that commands
-/// know of these texts, arrays one behind the other. Where the job reads a script, a text right behind a plant is a file of calls, which
-/// [`script_of_calls`] reads, unless it begins as offers do. The rest goes as [`cqf_program_words::composed`] has it.
+/// If the job takes a domain, the first 2 to 16 names that end with `.toml` are those of one plan. Its text has everything in these texts
+/// that commands know, with arrays concatenated. If the job reads a script, a text directly after a plan is a file of calls, which
+/// [`script_of_calls`] reads, unless it begins as offers do. All else is as in [`cqf_program_words::composed`].
 ///
 /// # Errors
-/// Where the job takes a domain, status 1 and the line of the first fault: of files whose names end with `.toml`, and then of the first file
-/// where no line divides it, a line that is too long to be parsed, and then a key that no command knows; of several files that are one plant
-/// one that isn't TOML, streams in the first two, `cycle`, `guard` or `sync` in two; and an only file behind a plant that is empty, of a job that
-/// reads a script. Status 3 for want of memory.
+/// If the job takes a domain, status 1 and the line of the first fault:
+///
+/// - in files whose names end with `.toml`, and then in the first file if no line divides it: a line that is too long to be parsed, and
+///   then a key that no command knows;
+/// - of several files that are one plan: one that isn't TOML, streams in the first two, or `cycle`, `guard` or `sync` in two;
+/// - an empty file that is the only one after a plan, of a job that reads a script.
+///
+/// Status 3 if an allocation fails.
 pub fn front_of(alloc: Global, job: &Job, names: &[&str], texts: &[&[u8]]) -> Result<Front, Stop>
     requires { length names.now ≡ length texts.now }
     ensures ok { IfOk result (IsFrontOf job.now (map (λ name. name.now) names.now) (map (λ text. text.now) texts.now)) }

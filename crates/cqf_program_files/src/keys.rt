@@ -1,4 +1,4 @@
-//! The keys that a plant's texts may have.
+//! The keys that a plan's texts may have.
 ghost use Rattle.std.specs.Prelude.{◌≡◌, bytes_eq, map, option_map, option_and_then};
 ghost use Rattle.std.specs.List.{list_any};
 ghost use Rattle.toml.specs.Data.{as_table, get_member};
@@ -8,7 +8,7 @@ ghost use Rattle.cqf_program_files.specs.Keys.{strange_key};
 
 use toml::{Table, Value};
 
-/// The keys of a plant's top that commands know.
+/// The keys of a plan's top level that commands know.
 pub const TOP: [&str; 7] = [
     "cycle", "guard", "sync", "bridges", "stations", "links", "streams",
 ];
@@ -31,17 +31,17 @@ pub const STREAM: [&str; 17] = [
     "interval", "frames", "size", "jitter", "offset", "mac", "vlan",
 ];
 
-/// How a key begins that is the user's own, which no command reads.
+/// The beginning of a key that is the user's own, which no command reads.
 pub const OWN: &str = "x-";
 
-/// Whether the key is the user's own.
+/// Returns whether the key is the user's own.
 fn is_own(key: &str) -> bool
     ensures { result ≡ is_own key.now }
 {
     key.as_bytes().starts_with(OWN.as_bytes())
 }
 
-/// Whether the key is one of those.
+/// Returns whether the key is one of those.
 fn is_among(known: &[&str], key: &str) -> bool
     ensures { result ≡ list_any (bytes_eq key.now) (map (λ it. it.now) known.now) }
 {
@@ -53,7 +53,7 @@ fn is_among(known: &[&str], key: &str) -> bool
     false
 }
 
-/// Whether the key is neither known nor the user's own.
+/// Returns whether the key is neither known nor the user's own.
 fn is_strange(known: &[&str], key: &str) -> bool
     ensures { result ≡ is_strange (map (λ it. it.now) known.now) key.now }
 {
@@ -63,7 +63,7 @@ fn is_strange(known: &[&str], key: &str) -> bool
     !is_among(known, key)
 }
 
-/// The first of a table's keys that is, in the order of their octets.
+/// Returns the first of a table's keys that is neither, in the order of their octets.
 fn first_strange<'t>(known: &[&str], table: &'t Table) -> Option<&'t str>
     ensures { option_map (λ key. key.now) result ≡ first_strange (map (λ it. it.now) known.now) (table_view table.now) }
 {
@@ -75,7 +75,7 @@ fn first_strange<'t>(known: &[&str], table: &'t Table) -> Option<&'t str>
     None
 }
 
-/// The same of a value, where it is a table.
+/// Returns the first such key of a value, if the value is a table.
 fn first_strange_in<'t>(known: &[&str], value: &'t Value) -> Option<&'t str>
     ensures { option_map (λ key. key.now) result ≡ option_and_then (first_strange (map (λ it. it.now) known.now)) (as_table (view value.now)) }
 {
@@ -85,7 +85,7 @@ fn first_strange_in<'t>(known: &[&str], value: &'t Value) -> Option<&'t str>
     }
 }
 
-/// The same of the tables of an array, in its order.
+/// Returns the first such key of the tables of an array, in its order.
 fn first_strange_within<'t>(known: &[&str], values: &'t [Value]) -> Option<&'t str>
     ensures { option_map (λ key. key.now) result ≡ first_strange_within (map (λ it. it.now) known.now) (items_view values.now) }
 {
@@ -98,7 +98,7 @@ fn first_strange_within<'t>(known: &[&str], values: &'t [Value]) -> Option<&'t s
     None
 }
 
-/// The same of the array at a key, where there is one.
+/// Returns the first such key of the array at a key, if there is one.
 fn first_strange_at<'t>(key: &str, known: &[&str], table: &'t Table) -> Option<&'t str>
     ensures { option_map (λ key. key.now) result ≡ first_strange_at key.now (map (λ it. it.now) known.now) (table_view table.now) }
 {
@@ -108,15 +108,15 @@ fn first_strange_at<'t>(key: &str, known: &[&str], table: &'t Table) -> Option<&
     }
 }
 
-/// What stands at a key of a table.
+/// Returns the value at a key of a table.
 pub(crate) fn value_at<'t>(table: &'t Table, key: &str) -> Option<&'t Value>
     ensures { option_map (λ v. view v.now) result ≡ get_member key.now (table_view table.now) }
 {
     table.get(key)
 }
 
-/// The first key of a plant that no command knows and that isn't the user's own: of its top, in the order of their octets, then of its
-/// links, one after the other, and then of its streams.
+/// Returns the first key of a plan that no command knows and that isn't the user's own: of its top level, in the order of their octets,
+/// then of its links, one after the other, and then of its streams.
 pub fn strange_key(table: &Table) -> Option<&str>
     ensures { option_map (λ key. key.now) result ≡ strange_key (table_view table.now) }
 {

@@ -1,12 +1,13 @@
-//! What stands in front of the engine where the words name files.
+//! The input for the engine, if the words name files.
 //!
-//! - [`front_of`] checks the files of a plant, and gives the input that all files come to, a [`Front`].
-//! - `strange_key` and `first_long_line` are what it looks for in a plant's texts; [`TOP`], [`LINK`] and [`STREAM`] are the keys that
-//!   commands know. `PlantFault` says why a plant is refused.
-//! - `script_of_calls` makes a script of a file of calls, a `CallsScript`, and [`renumbered`] gives the line of a script's fault the
-//!   number of the file's line.
+//! - [`front_of`] checks the files of a plan, and returns the input that is made from all files, a [`Front`].
+//! - `strange_key` and `first_long_line` are its checks of a plan's texts; [`TOP`], [`LINK`] and [`STREAM`] are the keys that commands
+//!   know. `PlantFault` says why a plan is refused.
+//! - `script_of_calls` makes a script from a file of calls, a `CallsScript`. [`renumbered`] puts the number of the file's line into the
+//!   line of a script's fault.
 //!
-//! `specs/Front.antt` says what files come to, `Plants` when they are refused, and `Calls` what a file of calls stands for:
+//! `specs/Front.antt` defines the input that is made from files, `Plants` when they are refused, and `Calls` the script that replaces a
+//! file of calls:
 //!
 //! ```text
 //! # the camera comes in cycle 2     left out

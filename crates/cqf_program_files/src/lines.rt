@@ -10,10 +10,10 @@ pub const MOST_OCTETS: usize = 4096;
 /// The most parts of a key, which dots divide.
 pub const MOST_PARTS: u8 = 4;
 
-/// The most dots between two dividers: a key of so many has one part more.
+/// The most dots between two dividers: a key with that many has one part more.
 const MOST_DOTS: u8 = MOST_PARTS - 1;
 
-/// What was seen of a line so far.
+/// What was read of a line so far.
 #[derive(Clone, Copy, Debug, PartialEq, Eq)]
 pub struct Seen {
     /// The quote that is open.
@@ -22,18 +22,18 @@ pub struct Seen {
     comment: bool,
     /// The dots since the last divider, at most one more than [`MOST_DOTS`].
     dots: u8,
-    /// Whether a key had so many.
+    /// Whether a key had too many.
     long: bool,
 }
 
-/// Whether the octet is a quote.
+/// Returns whether the octet is a quote.
 fn is_quote(octet: u8) -> bool
     ensures { result ≡ is_quote octet }
 {
     octet == b'"' || octet == b'\''
 }
 
-/// Whether the octet stands between keys and values.
+/// Returns whether the octet divides keys and values.
 fn is_divider(octet: u8) -> bool
     ensures { result ≡ is_divider octet }
 {
@@ -45,7 +45,7 @@ fn is_divider(octet: u8) -> bool
         || octet == b']'
 }
 
-/// Whether a key is over behind the octet.
+/// Returns whether the octet ends a key.
 fn ends_key(octet: u8) -> bool
     ensures { result ≡ ends_key octet }
 {
@@ -53,7 +53,7 @@ fn ends_key(octet: u8) -> bool
 }
 
 impl Seen {
-    /// One dot more.
+    /// Returns the state after one more dot.
     fn with_dot(self) -> Seen
         ensures { result ≡ with_dot self }
     {
@@ -67,7 +67,7 @@ impl Seen {
         }
     }
 
-    /// A divider.
+    /// Returns the state after a divider.
     fn with_divider(self, octet: u8) -> Seen
         ensures { result ≡ with_divider self octet }
     {
@@ -78,7 +78,7 @@ impl Seen {
         }
     }
 
-    /// One octet more, where no quote is open and no comment has begun.
+    /// Returns the state after one more octet, if no quote is open and no comment has begun.
     fn with_open(self, octet: u8) -> Seen
         ensures { result ≡ with_open self octet }
     {
@@ -103,7 +103,7 @@ impl Seen {
         self
     }
 
-    /// One octet more within a quote.
+    /// Returns the state after one more octet within a quote.
     fn with_quoted(self, quote: u8, octet: u8) -> Seen
         ensures { result ≡ with_quoted self quote octet }
     {
@@ -117,7 +117,7 @@ impl Seen {
         }
     }
 
-    /// One octet more.
+    /// Returns the state after one more octet.
     fn with(self, octet: u8) -> Seen
         ensures { result ≡ with_octet self octet }
     {
@@ -131,7 +131,7 @@ impl Seen {
     }
 }
 
-/// What is seen of a line.
+/// Returns the state after a line.
 fn seen_of(line: &[u8]) -> Seen
     ensures { result ≡ seen_of line.now }
 {
@@ -147,7 +147,7 @@ fn seen_of(line: &[u8]) -> Seen
     seen
 }
 
-/// Whether the line has more parts in a row than are parsed, or where octets count, more of these.
+/// Returns whether the line has a key of more parts than are parsed, or, if octets count, too many octets.
 fn is_too_long(counts: bool, line: &[u8]) -> bool
     ensures { result ≡ is_too_long counts line.now }
 {
@@ -157,8 +157,8 @@ fn is_too_long(counts: bool, line: &[u8]) -> bool
     seen_of(line).long
 }
 
-/// The number of the text's first line that has a key of more than 4 parts, or where octets count, more than 4,096 of these, from 1. Time
-/// grows with the text, and no memory is asked for.
+/// Returns the number, from 1, of the text's first line that has a key of more than 4 parts, or, if octets count, more than 4,096 octets.
+/// Time grows with the text, and no memory is allocated.
 pub fn first_long_line(counts: bool, text: &[u8]) -> Option<u64>
     requires { length text.now < 2 ^ 63 }
     ensures { result ≡ first_long_line counts text.now }

@@ -1,4 +1,4 @@
-//! Line numbers of a file of calls, in the lines that tell of its script's faults.
+//! Line numbers of a file of calls, in the lines of its script's faults.
 ghost use Rattle.std.specs.Prelude.{◌≡◌, IfOk, option_map, string_bytes};
 ghost use Rattle.cqf_program_files.specs.Numbers.{behind, number_in_file, number_told, renumbered, told_by, unended};
 
@@ -6,7 +6,7 @@ use cqf_text::read_decimal;
 use cqf_units::Memory;
 use std::alloc::Global;
 
-/// A text without the line feed at its end, where it has one.
+/// Returns a text without the line feed at its end; `None` if it has no line feed there.
 fn unended(text: &[u8]) -> Option<&[u8]>
     ensures { option_map (λ rest. rest.now) result ≡ unended text.now }
 {
@@ -17,7 +17,7 @@ fn unended(text: &[u8]) -> Option<&[u8]>
     }
 }
 
-/// What stands in a line behind its beginning, where it begins so.
+/// Returns the rest of a line, if the line begins so.
 fn behind<'l>(start: &str, line: &'l [u8]) -> Option<&'l [u8]>
     ensures { option_map (λ rest. rest.now) result ≡ behind start.now line.now }
 {
@@ -28,7 +28,7 @@ fn behind<'l>(start: &str, line: &'l [u8]) -> Option<&'l [u8]>
     }
 }
 
-/// The number of the file's line for the script's line of a number, from 1.
+/// Returns the number of the file's line for the script's line of a number, from 1.
 fn number_in_file(numbers: &[u64], number: u64) -> Option<u64>
     ensures { result ≡ number_in_file numbers.now number }
 {
@@ -36,7 +36,7 @@ fn number_in_file(numbers: &[u64], number: u64) -> Option<u64>
     numbers.get(place).copied()
 }
 
-/// The number for a fault's line that begins so and ends with one of the script's.
+/// Returns the number for a fault's line that begins so and ends with the number of a script's line.
 fn number_told(numbers: &[u64], start: &str, line: &[u8]) -> Option<u64>
     ensures { result ≡ number_told numbers.now start.now line.now }
 {
@@ -49,7 +49,7 @@ fn number_told(numbers: &[u64], start: &str, line: &[u8]) -> Option<u64>
     }
 }
 
-/// The fault's line with that number. The error is want of memory.
+/// Returns the fault's line with that number. Returns `Memory` if an allocation fails.
 fn told_by(
     alloc: Global,
     numbers: &[u64],
@@ -67,11 +67,11 @@ fn told_by(
     }
 }
 
-/// The line of a script's fault, with the number of the file's line in place of the script's, where `numbers` has that of each of the
-/// script's lines, as [`Front`](crate::Front) has them; any other line stays as it is.
+/// Returns the line of a script's fault with the number of the script's line replaced by that of the file's line. `numbers` has the latter
+/// for each of the script's lines, as [`Front`](crate::Front) has. Any other line is returned unchanged.
 ///
 /// # Errors
-/// Where a growth is refused.
+/// If an allocation fails.
 pub fn renumbered(alloc: Global, numbers: &[u64], line: &[u8]) -> Result<Vec<u8>, Memory>
     ensures { IfOk result (λ told. told.items ≡ renumbered numbers.now line.now) }
 {

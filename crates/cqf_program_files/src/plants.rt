@@ -1,4 +1,4 @@
-//! Files that are one plant.
+//! Files that are one plan.
 ghost use Rattle.std.specs.Prelude.{◌≡◌, ◌≤◌, IfOk, OnOk, Some, is_some, length, map, option_map};
 ghost use Rattle.toml.specs.Data.{get_member};
 ghost use Rattle.toml.specs.View.{items_view, table_view, view};
@@ -11,10 +11,10 @@ use cqf_units::Memory;
 use std::alloc::Global;
 use toml::{Table, Value};
 
-/// The most files that are one plant.
+/// The most files that are one plan.
 pub const MOST_FILES: usize = 16;
 
-/// How many of the first names are those of TOML files.
+/// Returns how many of the first names are those of TOML files.
 pub(crate) fn leading(names: &[&str]) -> usize
     ensures value { result ≡ leading (map (λ name. name.now) names.now) }
     ensures inside { result ≤ length names.now }
@@ -29,7 +29,7 @@ pub(crate) fn leading(names: &[&str]) -> usize
     count
 }
 
-/// Whether the first of the names are those of 2 to 16 TOML files, which are one plant.
+/// Returns whether the first of the names are those of 2 to 16 TOML files, which are one plan.
 pub(crate) fn are_several(names: &[&str]) -> bool
     ensures { result ≡ are_several (map (λ name. name.now) names.now) }
 {
@@ -37,21 +37,21 @@ pub(crate) fn are_several(names: &[&str]) -> bool
     2 <= count && count <= MOST_FILES
 }
 
-/// Whether something stands at the key.
+/// Returns whether the table has the key.
 fn has(table: &Table, key: &str) -> bool
     ensures { result ≡ is_some (get_member key.now (table_view table.now)) }
 {
     value_at(table, key).is_some()
 }
 
-/// Whether something stands at the key in two of the tables.
+/// Returns whether two of the tables have the key.
 fn stands_twice(tables: &[Table], key: &str) -> bool
     ensures { result ≡ stands_twice (map table_view tables.now) key.now }
 {
     tables.iter().filter(|table| has(table, key)).count() >= 2
 }
 
-/// The first of the keys that may stand once, `cycle`, `guard` and `sync`, that stands in two of the tables.
+/// Returns the first of the keys that may occur once, `cycle`, `guard` and `sync`, that two of the tables have.
 pub(crate) fn key_twice(tables: &[Table]) -> Option<&'static str>
     ensures { option_map (λ key. key.now) result ≡ key_twice (map table_view tables.now) }
 {
@@ -67,7 +67,7 @@ pub(crate) fn key_twice(tables: &[Table]) -> Option<&'static str>
     None
 }
 
-/// Whether the first of the tables has streams, and the second too.
+/// Returns whether the first two of the tables have streams.
 pub(crate) fn streams_twice(tables: &[Table]) -> bool
     ensures { result ≡ streams_twice (map table_view tables.now) }
 {
@@ -82,7 +82,7 @@ pub(crate) fn streams_twice(tables: &[Table]) -> bool
     }
 }
 
-/// Puts copies of the values behind the items. The error is want of memory.
+/// Appends copies of the values to the items. Returns `Memory` if an allocation fails.
 fn put_behind(mut items: Vec<Value>, more: &[Value]) -> Result<Vec<Value>, Memory>
     ensures { IfOk result (λ all. items_view all.items ≡ append_items (items_view items.items) (items_view more.now)) }
 {
@@ -93,7 +93,7 @@ fn put_behind(mut items: Vec<Value>, more: &[Value]) -> Result<Vec<Value>, Memor
     Ok(items)
 }
 
-/// An array with a copy of what stands at the same key behind it. The error is want of memory.
+/// Returns an array joined with a copy of a later value at the same key. Returns `Memory` if an allocation fails.
 fn behind_items(items: Vec<Value>, value: &Value) -> Result<Value, Memory>
     ensures { IfOk result (λ all. view all ≡ behind_items (items_view items.items) (view value.now)) }
 {
@@ -109,7 +109,7 @@ fn behind_items(items: Vec<Value>, value: &Value) -> Result<Value, Memory>
     }
 }
 
-/// What stands at a key, with a copy of what stands there in one table more. The error is want of memory.
+/// Returns the value at a key, joined with a copy of that in one more table. Returns `Memory` if an allocation fails.
 fn joined(found: Option<Value>, value: &Value) -> Result<Value, Memory>
     ensures { IfOk result (λ all. Some (view all) ≡ joined_values (option_map view found) (Some (view value.now))) }
 {
@@ -123,7 +123,7 @@ fn joined(found: Option<Value>, value: &Value) -> Result<Value, Memory>
     }
 }
 
-/// What stands at a key of a plant of several tables: a copy. The error is want of memory.
+/// Returns a copy of the value at a key of a plan of several tables. Returns `Memory` if an allocation fails.
 fn joined_at(key: &str, tables: &[Table]) -> Result<Option<Value>, Memory>
     ensures { IfOk result (λ found. option_map view found ≡ joined_at key.now (map table_view tables.now)) }
 {
@@ -137,7 +137,7 @@ fn joined_at(key: &str, tables: &[Table]) -> Result<Option<Value>, Memory>
     Ok(found)
 }
 
-/// Puts what stands at a key of several tables into the table of their plant. The error is want of memory.
+/// Puts the value at a key of several tables into the table of their plan. Returns `Memory` if an allocation fails.
 fn put_found(alloc: Global, plant: &mut Table, key: &str, tables: &[Table]) -> Result<(), Memory>
     ensures { OnOk result (table_view plant.new ≡ put_found key.now (joined_at key.now (map table_view tables.now)) (table_view plant.old)) }
 {
@@ -151,7 +151,7 @@ fn put_found(alloc: Global, plant: &mut Table, key: &str, tables: &[Table]) -> R
     }
 }
 
-/// Puts what stands at each of the keys into the table of a plant. The error is want of memory.
+/// Returns the table of a plan of several tables, with their joined value at each of the keys. Returns `Memory` if an allocation fails.
 fn put_each(alloc: Global, keys: &[&str], tables: &[Table]) -> Result<Table, Memory>
     ensures { IfOk result (λ plant. table_view plant ≡ plant_by (map table_view tables.now) (map (λ key. key.now) keys.now)) }
 {
@@ -162,8 +162,8 @@ fn put_each(alloc: Global, keys: &[&str], tables: &[Table]) -> Result<Table, Mem
     Ok(plant)
 }
 
-/// The table of a plant of several tables: at each key that commands know, copies of what stands there in each, arrays one behind the
-/// other. The error is want of memory.
+/// Returns the table of a plan of several tables: at each key that commands know, copies of the values of all tables, with arrays
+/// concatenated. Returns `Memory` if an allocation fails.
 pub(crate) fn plant_of(alloc: Global, tables: &[Table]) -> Result<Table, Memory>
     ensures { IfOk result (λ plant. table_view plant ≡ plant_of (map table_view tables.now)) }
 {

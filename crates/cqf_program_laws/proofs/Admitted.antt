@@ -1,4 +1,4 @@
--- What a script admits is told of, so each row that covers an offer is that of a stream of which is told.
+-- What a script admits is listed, so each row that covers an offer is that of a listed stream.
 use Rattle.std.proofs.Common.{◌≡◌, ◌∙◌, ℕ, Bool, true, List, Some, None, Option, Result, Ok, ap, filter, length, refl, subst, sym, take}
 use Rattle.std.specs.Prelude.{◌&&◌, is_none, nat_le, not}
 use Rattle.std.proofs.lemmas.Bool.{le-leb, le-ltb}
@@ -118,7 +118,7 @@ good_granted d rows asked none =
           (both_none _ _ broken (both_none _ _ looping (both_none _ _ stray hops))))))),
     )
 
--- so a legal history that admits the first streams of their names alone admits the good ones of which is told alone
+-- so if a legal history admits only the first streams of their names, it admits only the good listed ones
 pub admits_good : (d : Domain) (entries : List Recorded) (requests : List Asked) → IsLegalHistory d entries → AdmitsOnly (firsts requests) entries →
     AdmitsOnly (filter (is_good d) (told_streams requests)) entries
 admits_good d entries requests legal only e asked receipt among admits accepted =

@@ -1,4 +1,4 @@
--- Each offer that a row counts ends in just one of four ways.
+-- Each offer that a row counts ends in exactly one of four ways.
 use Rattle.std.proofs.Common.{◌≡◌, ◌∙◌, ◌+◌, ◌∷◌, ◌<◌, [], ℕ, Bool, true, false, Contains, List, Some, None, Option, ap, arith, count_by, if◌then◌else◌, length, nat_lt, refl, sum_by, sym}
 use Rattle.std.specs.Prelude.{◌&&◌}
 use Rattle.std.proofs.lemmas.Bool.Decides.{nat_tests}
@@ -41,7 +41,7 @@ use Rattle.cqf_program_summary.specs.Summary.Tallies.{count_to, is_dropped, is_l
 sum_same : {X : Type 0} (f g : X → ℕ) (xs : List X) → ((x : X) → Contains xs x → f x ≡ g x) → sum_by f xs ≡ sum_by g xs
 sum_same {X} f g xs same = fold_same (λ (n : ℕ) (x : X). n + f x) (λ (n : ℕ) (x : X). n + g x) 0 xs (λ n x c. ap (λ (k : ℕ). n + k) (same x c))
 
--- one where a test passes
+-- 1 if a test passes
 abbrev one_if : Bool → ℕ
 one_if b = if b then 1 else 0
 
@@ -150,7 +150,7 @@ module _ (run : Run) (streams : List PlannedText) (book : Contents) (says : Says
         ∙ ap (λ (ds : List Delivery). count_by (λ (y : Delivery). goes_to (name_of_end run.domain hop.link) y.passage) ds) (sym told)
         ∙ listeners run streams book x row hop domain orderly says inside within covered there.1
 
-    -- and one that isn't is dropped once
+    -- and one that isn't covered is dropped once
     uncovered_counts : (x : Offered) → Contains (numbered run.offers) x → offer_cycle run.domain x < length run.tables → (reason : Reason) →
         IsUncovered run x reason → sum_by (counts_at to) (deliveries_of_offer run streams book x) ≡ 1
     uncovered_counts x inside within reason uncovered =

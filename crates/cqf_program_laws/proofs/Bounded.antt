@@ -1,4 +1,4 @@
--- What frames took that came is within the bounds of their row.
+-- The times that arrived frames took are within the bounds of their row.
 use Rattle.std.proofs.Common.{◌≡◌, ◌≢◌, ◌∙◌, ◌∷◌, ◌≤◌, [], ℕ, Bool, true, false, Contains, List, Some, None, Option, ap, arith, filter, if◌then◌else◌, length, refl, subst, subst₂, sym}
 use Rattle.std.specs.Prelude.{◌&&◌, fold, max, min, nat_le, not}
 use Rattle.std.proofs.Math.Nat.{le-min, max-le}
@@ -58,7 +58,7 @@ use Rattle.cqf_program_summary.specs.Summary.Tallies.{latencies_to, latency_by, 
 use Rattle.cqf_program_summary.specs.Summary.Told.{is_good, row_of_stream, row_unless, told_cost, told_streams}
 use Rattle.cqf_program_laws.proofs.RowLaws.{IsOwnRow, admits_told, no_refusal, own_row}
 
--- the least of some is no less, and the most no more, than what holds of each
+-- if something holds of each of some numbers, their least is no less than a lower bound, and their most no more than an upper one
 least_of_all : (low m : ℕ) (ns : List ℕ) → low ≤ m → ((n : ℕ) → Contains ns n → low ≤ n) → low ≤ fold min m ns
 least_of_all low m [] first each = first
 least_of_all low m (n ∷ ns) first each = least_of_all low (min m n) ns (le-min first (each n (contains_here n ns))) (λ k c. each k (contains_later n ns k c))
@@ -67,7 +67,7 @@ most_of_all : (high m : ℕ) (ns : List ℕ) → m ≤ high → ((n : ℕ) → C
 most_of_all high m [] first each = first
 most_of_all high m (n ∷ ns) first each = most_of_all high (max m n) ns (max-le first (each n (contains_here n ns))) (λ k c. each k (contains_later n ns k c))
 
--- what is taken of latencies that are within bounds
+-- the least and the most of latencies that are within bounds
 taken_within : (low high : ℕ) (ns : List ℕ) (taken : LatencySummary) → taken_of ns ≡ Some taken → ((n : ℕ) → Contains ns n → (low ≤ n) × (n ≤ high)) →
     (low ≤ taken.least) × (taken.most ≤ high)
 taken_within low high [] taken is each = absurd cc
@@ -104,7 +104,7 @@ taken_by listener y n (passage.Goes journey) goes true there c = by journey.whol
       took = sym (contains_one (latency_of y.at.0 whole) n k);
     }
 
--- what goes somewhere goes one way
+-- a passage has only one journey
 one_journey : (a b : Journey) → passage.Goes a ≡ passage.Goes b → a ≡ b
 one_journey a b e = cc
 
@@ -121,7 +121,7 @@ goods_paced d told asked among =
     let c = or_else_none paced (tree_refusal d asked.paths) b.1 in
     not-false (is_pace asked.every asked.phase) (refused_if_none (not (is_pace asked.every asked.phase)) BadPace c.0)
 
--- where there is no listener nothing is taken
+-- if there is no listener nothing is taken
 none_taken : (ds : List Delivery) → latencies_to None ds ≡ []
 none_taken [] = refl
 none_taken (y ∷ ds) = none_taken ds
@@ -156,7 +156,7 @@ module _ (rows : RowsAreOfList) (timely : HistoryIsTimely) (orderly : TablesAreO
           let member = find_member (λ (r : Row). is_text r.name a.x.offer.stream) (table_of run.tables (offer_cycle d a.x)) a.row a.covered.named in
           (orderly d (history_of cycles s) cycles (legal_of cycles s is.short is.may.room) is.is_book.is_book.sealed).trees (offer_cycle d a.x) a.row member.0
 
-      -- two hops of the tree with one end are one
+      -- two hops of the tree with one end are the same
       one_end : (b c : Hop) → Contains a.row.tree.items b → Contains a.row.tree.items c → end_of d b.link ≡ end_of d c.link → b ≡ c
       one_end b c cb cc' same = one_of_pairs (λ (x z : Hop). end_of d x.link ≢ end_of d z.link) a.row.tree.items b c tree.reached_once cb cc'
           (λ differ. differ same) (λ differ. differ (sym same))
@@ -191,7 +191,7 @@ module _ (rows : RowsAreOfList) (timely : HistoryIsTimely) (orderly : TablesAreO
       one_link : a.start.link ≡ hop.link
       one_link = at.2 ∙ ap (λ (h : Hop). h.link) one_hop
 
-      -- the bound is by the cycles of the stream's own
+      -- the bound is by the stream's own cycles
       one_cost : (of : IsOfList d goods shift.row) → most_beside_all d goods of.asked hop.link ≡ most_beside_all d goods asked hop.link
       one_cost of =
           let items = sym of.tree ∙ ap (λ (r : Row). r.tree.items) one_row ∙ row.tree in
@@ -234,7 +234,7 @@ module _ (rows : RowsAreOfList) (timely : HistoryIsTimely) (orderly : TablesAreO
         let at_is : y.at.0 ≡ a.x.offer.at.0 = ap (λ (z : Delivery). z.at.0) a.is in
         (omega (arith, t.took, instant, at_is, bounds.least), omega (arith, t.took, instant, at_is, bounds.most))
 
-  -- so is what is taken of them at a listener of which is told
+  -- so are the least and the most at a listed listener
   bounded_to : (asked : Asked) → Contains told asked → (o : Option Refused) → (to : Option Listener) →
       Contains (listeners_by d (told_cost d told asked) (row_unless d asked o)) to → (taken : LatencySummary) →
       taken_of (latencies_to (name_of_listener to) (deliveries_named asked.name (deliveries_of run streams book))) ≡ Some taken →

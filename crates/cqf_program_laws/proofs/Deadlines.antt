@@ -1,4 +1,4 @@
--- The deadline that is told of a stream's row is that of its frames.
+-- The deadline of a stream's row is that of its frames.
 use Rattle.std.proofs.Common.{◌≡◌, ◌≢◌, ◌∙◌, ℕ, List, Option, Some, None, ap, sym, refl}
 use Rattle.std.proofs.Common.{AllPairs}
 use Rattle.std.specs.Prelude.{option_map, slice_get}
@@ -15,7 +15,7 @@ use Rattle.cqf_program_plans.specs.Latency.Input.{asked_in, deadlines_in}
 use Rattle.cqf_program_plans.specs.Latency.Text.{deadline_of}
 use Rattle.cqf_program_runs.specs.Deliveries.{deadline_named}
 
--- where no two streams have one name, the deadline of a name is that of the stream's place
+-- if no two streams have one name, the deadline of a name is that of the stream's index
 pub deadline_is : (streams : List PlannedText) (place : ℕ) (asked : Asked) (name : List ℕ) → AllPairs (λ (a b : Asked). a.name ≢ b.name) (asked_in streams) →
     slice_get (asked_in streams) place ≡ Some asked → name ≡ asked.name → deadline_named streams name ≡ deadline_of (deadlines_in streams) place
 deadline_is streams place asked name apart stands is = by_place (slice_get streams place) refl

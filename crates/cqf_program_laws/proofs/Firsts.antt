@@ -1,4 +1,4 @@
--- The streams of which is told are all that a script can have admitted.
+-- The listed streams are all that a script can have admitted.
 use Rattle.std.proofs.Common.{◌≡◌, ◌∙◌, ◌+◌, ◌∷◌, [], ℕ, Bool, true, false, Contains, List, Some, None, Option, Result, Ok, Err, ap, filter, find, if◌then◌else◌, inl, inr, refl, subst, sym}
 use Rattle.std.specs.Prelude.{codes, cond, fold, nat_le, ok_or, option_map}
 use Rattle.std.specs.List.{list_any}
@@ -24,7 +24,7 @@ use Rattle.cqf_admission.specs.Lines.{Written, is_seal_line, order_behind, order
 use Rattle.cqf_admission.specs.Script.{Called, act_for, administrators, call_of_line, call_of_order, call_of_seal, called_behind, calls_from, request_named, script_of, sealed_behind}
 use Rattle.cqf_program_summary.specs.Summary.Told.{told_streams}
 
--- what is found among some, and else among others
+-- what is found among some, or else among others
 or_none : {X : Type 0} (o : Option X) → option_or o None ≡ o
 or_none None = refl
 or_none (Some x) = refl
@@ -36,7 +36,7 @@ or_apart (Some x) b c = refl
 or_found : {X : Type 0} (a b c : Option X) (x : X) → a ≡ Some x → option_or a b ≡ option_or a c
 or_found a b c x e = ap (λ o. option_or o b) e ∙ sym (ap (λ o. option_or o c) e)
 
--- a test that can't tell what is the same finds the first of the list among the first of each
+-- if a test doesn't distinguish what is the same, it finds the first of the list among the first of each
 module _ {X : Type 0} (same : X → X → Bool) (p : X → Bool) (stable : (a b : X) → same a b ≡ true → p b ≡ true → p a ≡ true) where
   find_kept : (kept : List X) (x : X) (more : Option X) → option_or (find p (keep same kept x)) more ≡ option_or (find p kept) (cond (p x) (Some x) more)
   find_kept kept x more = elim (cases_Bool (list_any (λ y. same y x) kept)) [
@@ -76,7 +76,7 @@ named_first requests name =
     sym (find_once same_name (λ (a : Asked). is_text a.name name)
     (λ a b alike own. subst (λ (n : List ℕ). is_text n name ≡ true) (sym (is_text_same a.name b.name alike)) own) requests)
 
--- the same is called for by an order that may be found
+-- an order that is found calls for the same
 abbrev AgreesOn : List Asked → Option Written → Type 0
 AgreesOn requests found = (order : Written) → found ≡ Some order →
     act_for requests order.wish order.name ≡ act_for (firsts requests) order.wish order.name
@@ -128,7 +128,7 @@ calls_first requests seat cycles number sealed called (line ∷ lines) = λ i.
 pub script_first : (requests : List Asked) (cycles : ℕ) (text : List ℕ) → script_of requests cycles text ≡ script_of (firsts requests) cycles text
 script_first requests cycles text = calls_first requests (administrators (lines_of text)) cycles 1 0 0 (lines_of text)
 
--- a test that only what is kept passes finds the same among what is kept
+-- a test that passes only what is kept finds the same among what is kept
 find_filtered : {X : Type 0} (p q : X → Bool) (xs : List X) → ((x : X) → p x ≡ true → q x ≡ true) → find p (filter q xs) ≡ find p xs
 find_filtered p q [] enough = refl
 find_filtered p q (x ∷ xs) enough = by (find_filtered p q xs enough)
@@ -145,7 +145,7 @@ find_filtered p q (x ∷ xs) enough = by (find_filtered p q xs enough)
       | inr other ↦ passed_over rest (q x) other ∙ sym (cond-false (p x) (Some x) (find p xs) other)
     ]
 
--- so each first one whose name is a name is told of
+-- so each first stream whose name has the form of a name is listed
 pub told_has : (requests : List Asked) (asked : Asked) → Contains (firsts requests) asked → is_name asked.name ≡ true →
     Contains (told_streams requests) asked
 told_has requests asked c named = (find_member (λ (a : Asked). is_text a.name asked.name) (told_streams requests) asked told).0

@@ -1,4 +1,4 @@
--- A stream of a plan that was told, as its row in a run has it, and its deadlines.
+-- A stream of a written plan, as its row in a run has it, and its deadlines.
 use Rattle.std.proofs.Common.{◌≡◌, ◌≢◌, ◌∙◌, ◌≤◌, ◌∷◌, [], ℕ, Bool, true, false, List, Option, Some, None}
 use Rattle.std.proofs.Common.{ap, sym, subst, subst₂, refl, All, Contains, fold, if◌then◌else◌, map, max}
 use Rattle.std.specs.Prelude.{option_map, slice_get}
@@ -73,14 +73,14 @@ module _ (costs : ListCostsItsTable) (d : Domain) (flows : List FlowText) (plan 
       subst (λ (entries : List Recorded). All (λ (latency : Latency). is_not_sure latency ≡ false) (latencies_of d (held_in d entries 0) deadlines)) is
       plan.in_time
 
-  -- the deadline that is told of the stream's row
+  -- the deadline of the stream's row
   is_deadline : (most : ℕ) → flow.0.1 ≡ Some most → deadline_of deadlines has.row.no ≡ Some most
   is_deadline most deadline =
       ap (deadline_of deadlines) has.is_number
       ∙ get_or_from_slice_get deadlines place (Some most) None
       (slice_get-map (λ (f : FlowText). f.0.1) flows place ∙ ap (λ (o : Option FlowText). option_map (λ (f : FlowText). f.0.1) o) there ∙ ap Some deadline)
 
-  -- the most that the rows cost of a link in the cycles of its own is the most that the list does
+  -- the most that the rows cost of a link in the stream's own cycles is the most that the list costs
   same_most : (link : ℕ) → most_beside rows has.row.tree.items has.row.pace link ≡ most_beside_all d streams (asked_in flow) link
   same_most link =
       λ i. fold max 0 (each_below (λ k. if uses (has.tree i) (has.pace i) link k then costs d streams link k granted i ∷ [] else []) most_every)

@@ -1,4 +1,4 @@
--- What the verdicts of `latency` say of deliveries.
+-- What the verdicts of `latency` say about deliveries.
 use Rattle.std.proofs.Common.{◌≡◌, ◌≢◌, ◌∙◌, ◌+◌, ◌-◌, ◌≤◌, ◌∷◌, [], ℕ, Bool, true, false, List, Option, Some, None, Ok}
 use Rattle.std.proofs.Common.{arith, ap, sym, subst, subst₂, refl, Contains, length, if◌then◌else◌, lt-ltb, nat_lt}
 use Rattle.std.specs.Prelude.{option_map}
@@ -69,7 +69,7 @@ not_late : (at : ℕ) (whole : Nanos) (deadline : ℕ) → whole.0 ≤ at + dead
 not_late at whole deadline within true e is = omega (arith, within, ltb-true deadline (whole.0 - at) e)
 not_late at whole deadline within false e is = cc
 
--- what is known of a delivery that has come: when its frame was offered and whole, and that what is told holds of it
+-- what is known of a delivery that has arrived: when its frame was offered and when it was whole, and that the latency's bounds hold for it
 record HasBounds (latency : Latency) (delivery : Delivery) : Type 0 where
   at : ℕ
   whole : Nanos
@@ -126,7 +126,7 @@ judged_by latency delivery bounds = record {
 
 -- ---- plans
 
--- streams that are all admitted are granted, and the history is that of all
+-- if all streams are admitted, they are granted, and the history is that of all
 pub all_granted : (d : Domain) (entries all : List Recorded) (place : ℕ) (streams : List Asked) → admitted_from d entries place streams ≡ Ok all →
     AreGranted d entries streams × (all ≡ with_all d entries streams)
 all_granted d entries all place [] h = (tt, sym (same_ok entries all h))
@@ -138,7 +138,7 @@ all_granted d entries all place (asked ∷ more) h =
 
 -- ---- deliveries
 
--- what goes somewhere goes one way
+-- a passage has only one journey
 one_journey : (a b : Journey) → passage.Goes a ≡ passage.Goes b → a ≡ b
 one_journey a b e = cc
 
@@ -150,7 +150,7 @@ module _ (planned : RowsArePlanned) (names : NamesTellStreams) (holds : ToldHold
   abbrev run : Run
   run = run_of_history d entries offers background cycles
 
-  -- a row of the plan, a hop to one of its listeners, and a delivery that has come of a frame of the row's name to that listener's
+  -- a row of the plan, a hop to one of its listeners, and a delivery that has arrived of a frame of the row's name at that hop's listener
   module _ (row : Row) (hop : Hop) (c : Contains (planned_rows d (asked_in streams)) row) (among : Contains (listeners_of d row) hop)
       (delivery : Delivery) (a : IsArrivalOfOffer run streams book delivery) (stream : a.x.offer.stream ≡ row.name)
       (listener : name_of_end d a.hop.link ≡ name_of_end d hop.link) where
@@ -175,7 +175,7 @@ module _ (planned : RowsArePlanned) (names : NamesTellStreams) (holds : ToldHold
         ((orderly d entries cycles legal is.sealed).trees cycle a.row member.0).reached_once own.0
         (subst (λ (items : List Hop). Contains items hop) same.tree other.0) (λ differ. differ ends) (λ differ. differ (sym ends))
 
-    -- so the start there is as it's told of the hop
+    -- so the start there is as `latency` says of the hop
     as_told : IsAsToldAt d (asked_in streams) row hop a.x.offer.at.0 (whole_of d a.start)
     as_told =
         let at = at_start book.starts a.x.frame a.hop.link a.start a.starts in
@@ -206,7 +206,7 @@ module _ (planned : RowsArePlanned) (names : NamesTellStreams) (holds : ToldHold
       said = as_told.verdict;
     }
 
--- of each history that admits streams of the plan alone
+-- in each history that admits streams of the plan alone
 pub verdicts_hold_of_deliveries : RowsArePlanned → NamesTellStreams → ToldHolds → AdmittedHaveNames → TablesAreOrderly → BookOfHistorySaysTheShift →
     ArrivalsAreTheShift → VerdictsHoldOfDeliveries
 verdicts_hold_of_deliveries planned names holds apart orderly says arrivals d streams plan entries offers background cycles book domain admitted legal only
@@ -234,13 +234,13 @@ verdicts_hold_of_deliveries planned names holds apart orderly says arrivals d st
     (has_bounds planned names holds apart orderly d streams entries offers background cycles book domain g.0 legal only offered behind is row h.0 r.1 h.1
     delivery a stream listener))
 
--- so of a script
+-- so in a script
 pub verdicts_hold_of_scripts : VerdictsHoldOfDeliveries → PlannedScenariosAskOnly → HistoriesAdmitOnly → HistoriesAreLegal → VerdictsHoldOfScripts
 verdicts_hold_of_scripts verdicts asks histories legal limits cycles input s streams plan book short holds domain may admitted is =
     verdicts s.domain streams plan (history_of cycles s) s.offers s.background cycles book domain admitted (legal cycles s short may.room)
     (histories cycles s (asked_in streams) (asks limits cycles input s streams holds)) may.offers may.background is.is_book
 
--- and of each account
+-- and in each account
 pub verdicts_hold_of_accounts : VerdictsHoldOfDeliveries → PlannedScenariosAskOnly → AccountsAdmitOnly → VerdictsHoldOfAccounts
 verdicts_hold_of_accounts verdicts asks accounts limits cycles input s streams plan entries asked book holds domain may admitted commands account =
     verdicts s.domain streams plan entries s.offers s.background cycles book domain admitted account.history.legal

@@ -1,4 +1,4 @@
--- Where there is room for calls, the history that they make is legal.
+-- If there is room for calls, the history that they make is legal.
 use Rattle.std.proofs.Common.{◌≡◌, ◌+◌, ◌-◌, ◌≤◌, ◌∷◌, [], ℕ, zero, suc, Bool, true, false, List, Some, arith, length, length-append, refl}
 use Rattle.std.specs.Prelude.{if◌then◌else◌, not, slice_get}
 use Rattle.std.proofs.lemmas.List.Sums.{count_by-le-length, sum_by-cons}
@@ -18,7 +18,7 @@ seals-cons call more = sum_by-cons (λ (c : Called). if is_seal c.1 then 1 else 
 others-cons : (call : Called) (more : List Called) → others_among (call ∷ more) ≡ (if not (is_seal call.1) then 1 else 0) + others_among more
 others-cons call more = sum_by-cons (λ (c : Called). if not (is_seal c.1) then 1 else 0) call more
 
--- room for the first call, and for the rest behind it, by numbers
+-- room for the first call, and for the rest after it, by numbers
 record IsRoom (b : Bool) (sealed long cycles more_seals more_others : ℕ) : Type 0 where
   few_seals : sealed + (if b then 1 else 0) ≤ 100000
   few_calls : long + 1 - (sealed + (if b then 1 else 0)) ≤ 100000
@@ -41,7 +41,7 @@ is_room false sealed long cycles more_seals more_others all_seals all_others low
   rest_calls = omega (arith, low, o, second);
 }
 
--- the history with calls behind it is legal, and has room for no more of them
+-- the history with calls after it is legal, and has room for no more of them
 record IsCalled (d : Domain) (cycles : ℕ) (entries : List Recorded) : Type 0 where
   legal : IsLegalHistory d entries
   few_seals : seals entries ≤ cycles
@@ -74,7 +74,7 @@ module _ (goes_on : HistoryGoesOn) (counted : SealsAreCounted) (d : Domain) (cyc
           new_long ≡ long + 1 → new_long - new_sealed + others ≤ 100000
       rest long sealed one others new_long new_sealed few same longer = omega (arith, few, same, longer)
 
--- so many Seals
+-- the number of Seals is one more
 one_more : (some all number : ℕ) → some ≡ 1 + all → all ≡ number → some ≡ suc number
 one_more some all number more is = omega (arith, more, is)
 
@@ -90,7 +90,7 @@ sealed_all seat (suc number) =
       still_none (others_among (seals_by seat (suc number))) (others_among (seals_by seat number)) (others-cons seal (seals_by seat number)) r.1,
     )
 
--- for which there is room behind the calls
+-- there is room for them after the calls
 seals_have_room : (sealed cycles called more_seals more_others : ℕ) → sealed ≤ cycles → called ≤ 100000 → more_seals ≡ cycles - sealed → more_others ≡ 0 →
     (sealed + more_seals ≤ cycles) × (called + more_others ≤ 100000)
 seals_have_room sealed cycles called more_seals more_others few some seals none = (omega (arith, few, seals), omega (arith, some, none))

@@ -1,4 +1,4 @@
--- A plan that was told keeps its word in every loose network.
+-- A written plan keeps its word in every loose network.
 use Rattle.std.proofs.Common.{◌≡◌, ◌∙◌, [], ℕ, List, Contains, ap, map, subst, sym}
 use Rattle.cqf_model.specs.declared.frames.Background.{Background}
 use Rattle.cqf_model.specs.declared.frames.Offer.{Offer}
@@ -43,7 +43,7 @@ module _ (held : GrantedIsHeld) (goes_on : HistoryGoesOn) (counted : SealsAreCou
   one_there : (of : IsOfList d all row) → of.asked ≡ asked_in flow
   one_there of = one_asked held goes_on counted room of_list names d flows entries offers background cycles plan only flow t x row promised of
 
-  -- its frame comes through
+  -- its frame passes all links
   comes_through : ComesThroughLoosely d all cycles net carries x row
   comes_through =
       comes d all entries offers background cycles net carries (promise_of t) x row loose only (plan_paced d all plan.entries plan.admitted)

@@ -12,7 +12,7 @@ use Rattle.cqf_laws_history.specs.StateLaws.{GrantedFindsRoom, GrantedIsHeld, Hi
 use Rattle.cqf_laws_timing.specs.Streams.{AreGranted, with_all}
 use Rattle.cqf_laws_timing.specs.Told.{planned_rows}
 
--- the row of a stream among some, by its number; and rows beside which the stream is not refused
+-- the row of a stream among some, by its number; and rows with which the stream isn't refused
 pub record HasItsRow (d : Domain) (rows : List Row) (number : ℕ) (asked : Asked) : Type 0 where
   pub row : Row
   pub among : Contains rows row
@@ -23,7 +23,7 @@ pub record HasItsRow (d : Domain) (rows : List Row) (number : ℕ) (asked : Aske
   pub beside : List Row
   pub free : refusal_of d beside asked ≡ None
 
--- a history of admissions alone, with the rows that are held behind it
+-- a history of admissions alone, with the rows that are held after it
 record HoldsRows (d : Domain) (entries : List Recorded) (rows : List Row) (next : ℕ) : Type 0 where
   legal : IsLegalHistory d entries
   state : IsState d entries rows next
@@ -31,7 +31,7 @@ record HoldsRows (d : Domain) (entries : List Recorded) (rows : List Row) (next 
   one_each : length rows ≡ length entries
 
 module _ (held : GrantedIsHeld) (goes_on : HistoryGoesOn) (counted : SealsAreCounted) (room : GrantedFindsRoom) (d : Domain) where
-  -- a stream that is granted there isn't refused beside those rows
+  -- a stream that is granted there isn't refused with those rows
   is_free : (entries : List Recorded) (rows : List Row) (next : ℕ) (asked : Asked) → HoldsRows d entries rows next →
       refusal_of d (held_in d entries (seals entries)) asked ≡ None → refusal_of d rows asked ≡ None
   is_free entries rows next asked holds granted = ap (λ (xs : List Row). refusal_of d xs asked) (sym holds.state.held) ∙ granted

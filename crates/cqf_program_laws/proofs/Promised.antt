@@ -1,4 +1,4 @@
--- A plan that was told keeps its word.
+-- A written plan keeps its word.
 use Rattle.std.proofs.Common.{◌≡◌, ◌∙◌, ◌+◌, ◌-◌, ◌<◌, ◌≤◌, ◌∷◌, [], ◌==◌, ◌&&◌, ℕ, Bool, true, false, List, Option, Some, None, Result, Ok, Err, inl, inr}
 use Rattle.std.proofs.Common.{arith, ap, sym, subst, refl, Contains, eq-eqb, if◌then◌else◌, map, nat_lt}
 use Rattle.std.specs.Prelude.{slice_get}
@@ -49,9 +49,9 @@ use Rattle.cqf_program_laws.specs.ScriptLaws.{AccountsAdmitOnly, AskOnly, Histor
 use Rattle.cqf_program_laws.proofs.PlannedRows.{HasItsRow}
 use Rattle.cqf_program_laws.proofs.InPlan.{all_are_granted, enough, is_sure, its_place, its_row, named_row, one_asked}
 
--- ---- deadlines behind a talker's link
+-- ---- deadlines after a talker's link
 
--- what is left is what was wished without what is taken, which is less
+-- what is left is what was wished less what is taken, which is less
 left_of : (taken wished : ℕ) (deadline : Option ℕ) → deadline_behind taken (Some wished) ≡ Ok deadline →
     (deadline ≡ Some (wished - taken)) × (taken < wished)
 left_of taken wished deadline e = by_test (nat_lt taken wished) refl e
@@ -79,7 +79,7 @@ deadlines_run_from_talkers talker octets longest wished deadline sent at whole b
     from_start (taken_on talker octets) (taken_on talker longest) wished deadline sent at whole
     (same_Some deadline (wished - taken_on talker longest) left.0) left.1 (takes_no_longer talker octets longest short) came within
 
--- ---- a frame that is promised to come
+-- ---- a promised frame
 
 module _ (held : GrantedIsHeld) (goes_on : HistoryGoesOn) (counted : SealsAreCounted) (room : GrantedFindsRoom) (of_list : RowsAreOfList)
     (names : AdmittedHaveNames) (costs : ListCostsItsTable) (ends : BranchesEnd) (covers : ConformingStreamIsCovered) (covers_own : ConformingOwnIsCovered)
@@ -96,7 +96,7 @@ module _ (held : GrantedIsHeld) (goes_on : HistoryGoesOn) (counted : SealsAreCou
   granted = all_are_granted held goes_on counted room of_list names d flows entries offers background cycles plan over.only
 
   module _ (flow : FlowText) (t : TrafficText) (x : Offered) (row : Row) (promised : IsPromised run flows flow t x row) where
-    -- its place and its row in the plan, its row in the run, and that this reserves enough
+    -- its index and its row in the plan, its row in the run, and that this reserves enough
     abbrev place_there : (place : ℕ) × (slice_get flows place ≡ Some flow)
     place_there = its_place held goes_on counted room of_list names d flows entries offers background cycles plan over.only flow t x row promised
 
@@ -112,7 +112,7 @@ module _ (held : GrantedIsHeld) (goes_on : HistoryGoesOn) (counted : SealsAreCou
     enough_there : needed d.cycle_time (promise_of t) ≤ reserved_in row 0 (offer_cycle d x)
     enough_there = enough held goes_on counted room of_list names d flows entries offers background cycles plan over.only flow t x row promised
 
-    -- so it is covered, and comes through
+    -- so it is covered, and passes all links
     comes_through : IsCovered run x row × ComesThrough d all cycles book x row
     comes_through =
         let some : 0 < d.cycle_time = omega (arith, over.accepted.cycle_least) in
@@ -153,7 +153,7 @@ module _ (held : GrantedIsHeld) (goes_on : HistoryGoesOn) (counted : SealsAreCou
               (contains_filter (is_own run row.no) offers x.offer offered own)
         ]
 
-    -- a deadline from an instant on that is kept where the plan's is
+    -- a deadline after an instant that is kept if the plan's is
     abbrev IsKeptWith : ℕ → Option ℕ → Type 0
     IsKeptWith since deadline = (wished : ℕ) → deadline ≡ Some wished →
         (most : ℕ) × (flow.0.1 ≡ Some most) × ((whole : ℕ) → whole ≤ x.offer.at.0 + most → whole ≤ since + wished)
@@ -194,7 +194,7 @@ module _ (held : GrantedIsHeld) (goes_on : HistoryGoesOn) (counted : SealsAreCou
       heard = heard since deadline kept;
     }
 
-    -- from its offer on, and from its start at the talker
+    -- after its offer, and after its start at the talker
     pub from_edge : ComesAsPromised run flows flow cycles book x row x.offer.at.0 flow.0.1
     from_edge = comes_as_promised x.offer.at.0 flow.0.1 (λ wished is. (wished, is, λ whole within. within))
 
@@ -229,7 +229,7 @@ asked_without : (flows : List FlowText) → asked_in_plan (map (λ (flow : FlowT
 asked_without [] = refl
 asked_without (flow ∷ flows) = ap (λ (rest : List Asked). asked_by flow.0.0 ∷ rest) (asked_without flows)
 
--- of a script
+-- in a script
 pub plans_keep_their_word_to_scripts : PlansKeepTheirWord → PlannedScenariosAskOnly → HistoriesAdmitOnly → HistoriesAreLegal → PlansKeepTheirWordToScripts
 plans_keep_their_word_to_scripts keep asks histories legal limits cycles input s flows book short holds accepted may plan is =
     let only = subst (λ (streams : List Asked). AskOnly streams s.calls) (asked_without flows)
@@ -244,7 +244,7 @@ plans_keep_their_word_to_scripts keep asks histories legal limits cycles input s
       is_book = is.is_book;
     })
 
--- and of each account
+-- and in each account
 pub plans_keep_their_word_on_threads : PlansKeepTheirWord → PlannedScenariosAskOnly → AccountsAdmitOnly → PlansKeepTheirWordOnThreads
 plans_keep_their_word_on_threads keep asks accounts limits cycles input s flows entries asked book holds accepted may plan commands account =
     let only = subst (λ (streams : List Asked). AskOnly streams s.calls) (asked_without flows)

@@ -40,7 +40,7 @@ use Rattle.cqf_program_laws.proofs.Balance.{four_counts, row_adds_up}
 use Rattle.cqf_program_laws.proofs.Firsts.{firsts}
 use Rattle.cqf_program_summary.proofs.OneMore.{told_apart}
 
--- where there is none, nothing is refused
+-- if there is none, nothing is refused
 pub no_refusal : (o : Option Refused) → is_none o ≡ true → o ≡ None
 no_refusal None e = refl
 no_refusal (Some refused) e = absurd cc
@@ -49,13 +49,13 @@ no_refusal (Some refused) e = absurd cc
 good_row : (d : Domain) (asked : Asked) → is_good d asked ≡ true → row_of_stream d asked ≡ Some (granted_row d 0 0 asked)
 good_row d asked good = ap (row_unless d asked) (no_refusal (form_refusal d asked) good)
 
--- the row that covers an offer of a stream of which is told is that stream's
+-- the row that covers an offer of a listed stream is that stream's
 pub record IsOwnRow (d : Domain) (asked : Asked) (row : Row) : Type 0 where
   pub good : is_good d asked ≡ true
   pub tree : row.tree.items ≡ tree_of d asked.paths
   pub pace : row.pace ≡ pace_of asked
 
--- streams of one name are one
+-- streams of one name are the same
 clash : (m n : List ℕ) → m ≡ n → is_text m n ≡ false → ⊥
 clash m n same differs = not_both (sym (is_text_itself m) ∙ ap (is_text m) same ∙ differs)
   where
@@ -90,7 +90,7 @@ module _ (rows : RowsAreOfList) (cycles : ℕ) (s : Scenario) (requests : List A
         pace = of.pace ∙ ap pace_of one;
       }
 
-  -- so it leads to each listener of which is told
+  -- so it leads to each listed listener
   leads_by : (asked : Asked) (row : Row) (to : Option Listener) → IsOwnRow d asked row →
       Contains (listeners_by d (told_cost d (told_streams requests) asked) (row_of_stream d asked)) to →
       (hop : Hop) × Contains (listeners_of d row) hop × (name_of_listener to ≡ Some (name_of_end d hop.link))

@@ -1,4 +1,4 @@
--- A script's calls ask for streams of its requests alone, and so do its histories.
+-- A script's calls request streams of its requests alone, and so do its histories.
 use Rattle.std.proofs.Common.{◌≡◌, ◌∙◌, ◌+◌, ◌-◌, ◌<◌, ◌∷◌, [], ℕ, Bool, true, false, List, Option, Some, None, Result, Ok, Err, inl, inr}
 use Rattle.std.proofs.Common.{arith, ap, sym, subst, refl, map, Contains, take}
 use Rattle.std.specs.Prelude.{codes, if◌then◌else◌, option_and_then, filter, nat_le, ok_or, option_map}
@@ -42,7 +42,7 @@ use Rattle.cqf_program_laws.specs.ScriptLaws.{AccountsAdmitOnly, AskOnly, Histor
 
 -- ---- steps of reading
 
--- what a step gave that another one followed
+-- what a step gave, if another step followed
 pub stepped : {A B E : Type 0} (first : Result A E) (next : A → Result B E) (found : B) → and_then first next ≡ Ok found →
     (x : A) × (first ≡ Ok x) × (next x ≡ Ok found)
 stepped (Err e) next found h = absurd (cc)
@@ -55,12 +55,12 @@ parted (Err e) rest found h = absurd (cc)
 parted (Ok x) (Err e) found h = absurd (cc)
 parted (Ok x) (Ok xs) found h = (x, xs, refl, refl, cc)
 
--- what was there is what was found
+-- what is found is what was there
 there : {A E : Type 0} (found : Option A) (fault : E) (x : A) → ok_or found fault ≡ Ok x → found ≡ Some x
 there None fault x h = absurd (cc)
 there (Some y) fault x h = cc
 
--- a test that isn't met lets the rest through
+-- a test that fails lets the rest through
 unless : {A : Type 0} (test : Bool) (fault : ScriptFault) (x found : A) → (if test then Err fault else Ok x) ≡ Ok found → found ≡ x
 unless true fault x found h = absurd (cc)
 unless false fault x found h = cc
@@ -72,7 +72,7 @@ lined line (Ok y) x h = cc
 
 -- ---- a script's calls
 
--- a Seal asks for nothing, and a withdrawal doesn't
+-- a Seal requests nothing, and a withdrawal doesn't
 seal_asks : (streams : List Asked) → AsksOnly streams Seals
 seal_asks streams asked admits = absurd (cc)
 
@@ -97,7 +97,7 @@ named_asks requests name act (Some one) e h =
 withdrawn_asks : (requests : List Asked) (name : List ℕ) (act : Act) → ◌≡◌ {A = Option Act} (Some (Withdraws name)) (Some act) → AsksOnly requests act
 withdrawn_asks requests name act h = subst (AsksOnly requests) (same_Some (Withdraws name) act h) (withdrawal_asks requests name)
 
--- what is called for by an order that may be found asks for a request at most
+-- an order that is found requests at most one of the requests
 abbrev AsksAtMost : List Asked → Option Written → Type 0
 AsksAtMost requests found =
     (order : Written) → found ≡ Some order → (act : Act) → act_for requests order.wish order.name ≡ Some act → AsksOnly requests act
@@ -168,7 +168,7 @@ scripts_ask_only requests cycles text calls h =
 
 -- ---- a scenario's calls
 
--- the scenario of a domain, its calls and its frames, and of the frames that are read behind these
+-- the scenario of a domain, its calls and its frames; and of the frames that are read after these
 abbrev made_of : RunTexts → Domain → List Called → List Offer × List Background → Scenario
 made_of texts d calls frames = record {
   domain = d;
@@ -199,7 +199,7 @@ scenarios_ask_only limits cycles texts s requests h streams =
     subst (λ (xs : List Called). AskOnly (map asked_by requests) xs) (made_calls texts a.0 b.0 s b.2)
     (subst (λ (found : List PacedText). AskOnly (map asked_by found) b.0) read (scripts_ask_only (map asked_by e.0) cycles texts.script b.0 calls))
 
--- of a scenario behind its domain and its streams
+-- the calls of a scenario after its domain and its streams
 behind_ask : (cycles : ℕ) (d : Domain) (streams : List Asked) (texts : RunTexts) (s : Scenario) → scenario_behind cycles d streams texts ≡ Ok s →
     AskOnly streams s.calls
 behind_ask cycles d streams texts s h =
@@ -217,7 +217,7 @@ with_scenario found scenario = Ok (scenario, found)
 abbrev with_streams : ℕ → RunTexts → Domain → List PlannedText → Result Read (List ℕ)
 with_streams cycles texts d found = and_then (scenario_behind cycles d (asked_in found) texts) (with_scenario found)
 
--- what is read behind the domain and the streams
+-- what is read after the domain and the streams
 read_ask : (cycles : ℕ) (texts : RunTexts) (d : Domain) (found : List PlannedText) (s : Scenario) (read : Read) →
     scenario_behind cycles d (asked_in found) texts ≡ Ok s → with_scenario found s ≡ Ok read → AskOnly (asked_in read.1) read.0.calls
 read_ask cycles texts d found s read h is =
@@ -239,7 +239,7 @@ planned_scenarios_ask_only limits cycles input s streams h = planned_ask limits 
 
 -- ---- histories
 
--- Seals behind them ask for nothing
+-- Seals after them request nothing
 seals_ask : (streams : List Asked) (seat number : ℕ) → AskOnly streams (seals_by seat number)
 seals_ask streams seat number call c =
     let inside : c.0 < number = omega (arith, c.1, length-replicate {A = Called} number (seat, Seals)) in
@@ -253,7 +253,7 @@ histories_admit_only calls cycles s streams asks =
     (calls s.domain streams [] s.calls (none_admits_only streams) asks)
     (seals_ask streams s.sealer (cycles - seals (called_for s)))
 
--- what an administrator calls for behind the first Seal
+-- the calls of an administrator after the first Seal
 commands_ask : (streams : List Asked) (found : List Called) (admin : ℕ) (act : Act) → AskOnly streams found →
     Contains (commands_by (calls_from_seal found) admin) act → AsksOnly streams act
 commands_ask streams found admin act asks c =

@@ -1,4 +1,4 @@
--- What a settled stream has from its sketch, and that the sketch's deadline is kept.
+-- What a settled stream has from its network file, and that the network file's deadline is kept.
 use Rattle.std.proofs.Common.{◌≡◌, ◌∙◌, ◌+◌, ◌++◌, ℕ, zero, suc, ◌∷◌, [], List, Option, Some, None, Result, Ok, Err, refl, sym, ap, subst, subst₂, length}
 use Rattle.std.specs.Prelude.{not, option_map, slice_get}
 use Rattle.std.proofs.lemmas.Option.{same_Some}
@@ -27,7 +27,7 @@ not_refused : {A B E : Type 0} (o : Option A) (why : A → E) (rest : Result B E
 not_refused None why rest x h = h
 not_refused (Some a) why rest x h = absurd (cc)
 
--- a stream that is settled, whatever its name
+-- a stream that is settled, with any name
 was_settled : (name : List ℕ) (found : Result SettledStream PlanFault) (settled : SettledStream) → or_unsettled name found ≡ Ok settled → found ≡ Ok settled
 was_settled name (Err e) settled h = absurd (cc)
 was_settled name (Ok x) settled h = cc
@@ -39,7 +39,7 @@ module _ (sketch : SketchDomain) (d : Domain) where
     traffic : settled.traffic ≡ stream.traffic
     deadline : deadline_of_stream sketch d stream ≡ Ok settled.deadline
 
-  -- behind its way
+  -- after its path is settled
   abbrev behind_way : List (List ℕ) → StreamText → SettledWay → Result SettledStream PlanFault
   behind_way before stream way =
       refuse (refusal_behind d before stream.name) fault.Refused

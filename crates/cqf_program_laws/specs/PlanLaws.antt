@@ -1,4 +1,4 @@
--- A plan that was told keeps its word: of a stream whose talker keeps its own, no frame is lost and none is late.
+-- A written plan keeps its word: of a stream whose talker keeps its own word, no frame is lost and none is late.
 use Rattle.std.specs.Prelude.{ℕ, ◌≡◌, ◌⊎◌, ◌+◌, ◌<◌, ◌≤◌, List, [], All, Contains, false, map, Option, Some, Ok, option_map, slice_get, true}
 use Rattle.std.specs.Option.{ForSome}
 use Rattle.cqf_model.specs.declared.frames.Background.{Background}
@@ -43,8 +43,8 @@ use Rattle.cqf_program_offers.specs.OffersOutput.{asked_in}
 use Rattle.cqf_program_placing.specs.Settled.{SettledStream, deadline_behind, deadline_of_stream, open_domain, settled_of, taken_on, talker_of_stream}
 use Rattle.cqf_program_runs.specs.Deliveries.PlannedScenario.{planned_scenario, run_of_scenario}
 
--- what a plan has that was told: its streams are all admitted before cycle 0, each reserves what its talker needs of a cycle, and the
--- frames of none may miss its deadline
+-- what each written plan has: its streams are all admitted before cycle 0, each reserves what its talker needs in a cycle, and no frame of
+-- theirs may miss its deadline
 pub record IsKeptPlan (d : Domain) (flows : List FlowText) : Type 0 where
   pub entries : List Recorded
   pub admitted : admitted_from d [] 1 (map asked_in flows) ≡ Ok entries
@@ -52,8 +52,8 @@ pub record IsKeptPlan (d : Domain) (flows : List FlowText) : Type 0 where
   pub in_time : All (λ (latency : Latency). is_not_sure latency ≡ false)
       (latencies_of d (held_in d entries 0) (map (λ (flow : FlowText). flow.0.1) flows))
 
--- a frame that is promised to come: it is offered of a stream of the plan at its edge, in a cycle in which the stream is offered, while a
--- row of the stream's name is live, and its talker keeps its word, in all that is offered by that name, or in the stream's own offers
+-- a frame that the plan promises: it is offered of a stream of the plan at its edge bridge, in a cycle in which the stream is offered,
+-- while a row of the stream's name is live. Its talker keeps its word, either in all offers of that name, or in the stream's own offers
 pub record IsPromised (run : Run) (flows : List FlowText) (flow : FlowText) (t : TrafficText) (x : Offered) (row : Row) : Type 0 where
   pub listed : Contains flows flow
   pub has : flow.1 ≡ Some t
@@ -63,14 +63,14 @@ pub record IsPromised (run : Run) (flows : List FlowText) (flow : FlowText) (t :
   pub in_turn : is_turn (pace_of (asked_in flow)) 0 (offer_cycle run.domain x) ≡ true
   pub keeps : Conforms (promise_of t) (offers_named flow.0.0.name run.offers) ⊎ Conforms (promise_of t) (own_offers run row.no)
 
--- the frame leaves on a link of this depth as many cycles after its own, and is whole at the link's end within the plan's bounds, and
--- within a deadline that runs from an instant, where there is one
+-- the frame leaves on a link with this hop number as many cycles after its own cycle, and is whole at the link's end within the plan's
+-- bounds; and within the given deadline after an instant, if there is a deadline
 pub record ArrivesWithin (d : Domain) (streams : List Asked) (asked : Asked) (book : Contents) (x : Offered) (depth link since : ℕ) (deadline : Option ℕ) : Type 0 where
   pub arrival : ArrivesInTime d streams asked book x depth link
   pub within : ForSome deadline (λ (most : ℕ). whole_of d arrival.start ≤ since + most)
 
--- the last link of a branch, so many bridges on, ends in its listener's station, and the frame arrives there within the deadline, where
--- the run lasts so long
+-- the last link of a branch, after `bridges` bridges, ends in its listener's station, and the frame arrives there within the deadline, if
+-- the run is long enough
 pub record IsHeardWithin (d : Domain) (streams : List Asked) (asked : Asked) (cycles : ℕ) (book : Contents) (x : Offered) (branch : Branch)
     (since : ℕ) (deadline : Option ℕ) : Type 0 where
   pub bridges : ℕ
@@ -79,8 +79,8 @@ pub record IsHeardWithin (d : Domain) (streams : List Asked) (asked : Asked) (cy
   pub ends_at : EndsAtListener d branch bridges link station
   pub arrives : offer_cycle d x + bridges < cycles → ArrivesWithin d streams asked book x bridges link since deadline
 
--- the frame is covered, so it isn't dropped and leaves on each link of its row's tree; and it arrives within the deadline at each
--- listener that the plan has for its stream
+-- the frame is covered, so it isn't dropped and leaves on each link of its row's tree; and it arrives within the deadline at each listener
+-- that the plan has for its stream
 pub record ComesAsPromised (run : Run) (flows : List FlowText) (flow : FlowText) (cycles : ℕ) (book : Contents) (x : Offered) (row : Row) (since : ℕ)
     (deadline : Option ℕ) : Type 0 where
   pub covered : IsCovered run x row
@@ -88,10 +88,10 @@ pub record ComesAsPromised (run : Run) (flows : List FlowText) (flow : FlowText)
   pub heard : (branch : Branch) → Contains flow.0.0.paths branch →
       IsHeardWithin run.domain (map asked_in flows) (asked_in flow) cycles book x branch since deadline
 
--- a plan keeps its word in the book of a run over so many cycles: each frame that is promised to come does so within the plan's deadline
--- from its offer on. And where that is what is over of a wished deadline when the longest frame that the traffic allows is whole at its
--- edge bridge, it does so within the wished one, from the instant at which the talker begins to send it: a talker's link brings the
--- stream's frames, or its talker is the edge bridge itself
+-- a plan keeps its word in the book of a run over `cycles` cycles: each promised frame arrives within the plan's deadline after its offer.
+-- Moreover, let the plan's deadline be what is left of a wished one when the longest frame that the traffic allows is whole at its edge
+-- bridge. Then the frame arrives within the wished deadline after the instant at which the talker begins to send it, either on a talker's
+-- link, or at once if the talker is the edge bridge itself
 pub record PlanKeepsItsWord (run : Run) (flows : List FlowText) (cycles : ℕ) (book : Contents) : Type 0 where
   pub from_edge : (flow : FlowText) (t : TrafficText) (x : Offered) (row : Row) → IsPromised run flows flow t x row →
       ComesAsPromised run flows flow cycles book x row x.offer.at.0 flow.0.1
@@ -99,7 +99,7 @@ pub record PlanKeepsItsWord (run : Run) (flows : List FlowText) (cycles : ℕ) (
       IsPromised run flows flow t x row → deadline_behind (taken_on talker t.size) wished ≡ Ok flow.0.1 →
       x.offer.at.0 ≡ sent + taken_on talker x.offer.octets → ComesAsPromised run flows flow cycles book x row sent wished
 
--- so it does in the book of each history that admits streams of the plan alone, whatever is withdrawn and offered by others, and beside
+-- a plan keeps its word in the book of each history that admits streams of the plan alone, with any withdrawals, any offers of others and
 -- any background frames
 abbrev pub PlansKeepTheirWord : Type 0
 PlansKeepTheirWord =
@@ -107,14 +107,15 @@ PlansKeepTheirWord =
     IsKeptPlan d flows → IsBookOverList d (map asked_in flows) entries offers background cycles book →
     PlanKeepsItsWord (run_of_history d entries offers background cycles) flows cycles book
 
--- in a loose network the frame leaves on a link of this depth as many cycles after its own, and is whole at the link's end within the plan's
--- bounds, and within the plan's deadline, where there is one: from its offer by the edge bridge's clock to its being whole by the clock there
+-- in a loose network the frame leaves on a link with this hop number as many cycles after its own cycle, and is whole at the link's end
+-- within the plan's bounds; and within the plan's deadline, if there is one. The time runs from its offer, by the edge bridge's clock,
+-- until it is whole, by the clock at the link's end
 pub record HearsWithin (d : Domain) (streams : List Asked) (asked : Asked) (net : Network) (heard : Carried) (x : Offered) (depth link : ℕ) (deadline : Option ℕ) :
     Type 0 where
   pub hearing : IsHeardInTime d streams asked net heard x depth link
   pub within : ForSome deadline (λ (most : ℕ). whole_at d link hearing.h ≤ x.offer.at.0 + most)
 
--- so it is at the listener of a branch, where the run lasts so long
+-- the same at the listener of a branch, if the run is long enough
 pub record IsHeardLoosely (d : Domain) (streams : List Asked) (asked : Asked) (cycles : ℕ) (net : Network) (heard : Carried) (x : Offered) (branch : Branch)
     (deadline : Option ℕ) : Type 0 where
   pub bridges : ℕ
@@ -123,8 +124,8 @@ pub record IsHeardLoosely (d : Domain) (streams : List Asked) (asked : Asked) (c
   pub ends_at : EndsAtListener d branch bridges link station
   pub hears : offer_cycle d x + bridges < cycles → HearsWithin d streams asked net heard x bridges link deadline
 
--- in every loose network of such a history, with the slack that the domain states, each frame that is promised to come is heard at each of
--- its stream's listeners within the plan's deadline, where the talker keeps its word in all that is offered by the stream's name
+-- in every loose network of such a history, with the slack that the domain states, each promised frame is heard at each of its stream's
+-- listeners within the plan's deadline, if the talker keeps its word in all offers of the stream's name
 abbrev pub PlansKeepTheirWordLoosely : Type 0
 PlansKeepTheirWordLoosely =
     (d : Domain) (flows : List FlowText) (entries : List Recorded) (offers : List Offer) (background : List Background) (cycles : ℕ) (net : Network)
@@ -134,14 +135,14 @@ PlansKeepTheirWordLoosely =
     (branch : Branch) → Contains flow.0.0.paths branch →
     IsHeardLoosely d (map asked_in flows) (asked_in flow) cycles net heard x branch flow.0.1
 
--- in that of each script over the plan
+-- a plan keeps its word in the book of each script over the plan
 abbrev pub PlansKeepTheirWordToScripts : Type 0
 PlansKeepTheirWordToScripts =
     (limits : Limits) (cycles : ℕ) (input : List ℕ) (s : Scenario) (flows : List FlowText) (book : Contents) → cycles ≤ most_cycles →
     planned_scenario limits cycles input ≡ Ok (s, map (λ (flow : FlowText). flow.0) flows) → IsAccepted s.domain → MayBeRun cycles s →
     IsKeptPlan s.domain flows → IsBookOfScenario cycles s book → PlanKeepsItsWord (run_of_scenario cycles s) flows cycles book
 
--- and in that of each account of such a script's run on threads
+-- and in the book of each account of such a script's run on threads
 abbrev pub PlansKeepTheirWordOnThreads : Type 0
 PlansKeepTheirWordOnThreads =
     (limits : Limits) (cycles : ℕ) (input : List ℕ) (s : Scenario) (flows : List FlowText) (entries : List Recorded) (asked : List (List Act))
@@ -151,29 +152,30 @@ PlansKeepTheirWordOnThreads =
     IsAccountOf s.domain (opening_history s) s.offers s.background cycles asked entries book →
     PlanKeepsItsWord (run_of_history s.domain entries s.offers s.background cycles) flows cycles book
 
--- what is over of a deadline when the longest frame is whole at its edge bridge is enough for each: one that is whole so long behind the
--- instant at which the talker's link has brought it there is whole within the deadline from the instant at which the talker begins to
--- send it
+-- the deadline that is left when the longest frame is whole at its edge bridge is enough for each frame: if a frame is whole within it
+-- after the instant at which the talker's link has brought it there, then it is whole within the wished deadline after the instant at which
+-- the talker begins to send it
 abbrev pub DeadlinesRunFromTalkers : Type 0
 DeadlinesRunFromTalkers =
     (talker : Option TalkerLink) (octets longest wished deadline sent at whole : ℕ) →
     deadline_behind (taken_on talker longest) (Some wished) ≡ Ok (Some deadline) → octets ≤ longest → at ≡ sent + taken_on talker octets →
     whole ≤ at + deadline → whole ≤ sent + wished
 
--- a settled stream has its name and its traffic from the sketch, and its deadline is what is over of the sketch's at its edge bridge
+-- a settled stream has its name and its traffic from the network file, and its deadline is what is left of the network file's at its edge
+-- bridge
 pub record IsOfSketch (sketch : SketchDomain) (stream : StreamText) (settled : SettledStream) : Type 0 where
   pub name : settled.name ≡ stream.name
   pub traffic : settled.traffic ≡ stream.traffic
   pub deadline : deadline_of_stream sketch (open_domain sketch) stream ≡ Ok settled.deadline
 
--- so is each, in its place
+-- each settled stream is so, at its index
 abbrev pub SettledStreamsAreOfSketches : Type 0
 SettledStreamsAreOfSketches =
     (sketch : SketchDomain) (streams : List StreamText) (all : List SettledStream) (place : ℕ) (stream : StreamText) (settled : SettledStream) →
     settled_of sketch streams ≡ Ok all → slice_get streams place ≡ Some stream → slice_get all place ≡ Some settled → IsOfSketch sketch stream settled
 
--- so where a stream of a plan that keeps its word has what its talker promises and its deadline from a settled one, each frame that is
--- promised to come does so within the sketch's deadline, from the instant at which the talker begins to send it
+-- if a stream of a plan that keeps its word has its talker's promise and its deadline from a settled one, each promised frame arrives
+-- within the network file's deadline after the instant at which the talker begins to send it
 abbrev pub DeadlinesOfSketchesAreKept : Type 0
 DeadlinesOfSketchesAreKept =
     (sketch : SketchDomain) (stream : StreamText) (settled : SettledStream) (run : Run) (flows : List FlowText) (cycles : ℕ) (book : Contents)

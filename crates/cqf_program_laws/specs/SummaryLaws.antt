@@ -1,4 +1,4 @@
--- What a summary tells of a script over its streams.
+-- What a summary says about a script over its streams.
 use Rattle.std.specs.Prelude.{ℕ, ◌≡◌, ◌+◌, ◌≤◌, Contains, List, Ok, Some}
 use Rattle.cqf_model.specs.declared.limits.Limits.{Limits}
 use Rattle.cqf_model.specs.declared.topology.Hop.{Hop}
@@ -23,7 +23,7 @@ use Rattle.cqf_program_summary.specs.declared.summary.tallies.LatencySummary.{La
 use Rattle.cqf_program_summary.specs.Summary.{Fare, summary_of}
 use Rattle.cqf_program_summary.specs.Summary.Told.{told_streams}
 
--- a script over streams that was read under limits, and its one-thread book
+-- a script over streams that was read within limits, and its one-thread book
 pub record IsReadRun (limits : Limits) (cycles : ℕ) (input : List ℕ) (s : Scenario) (streams : List PlannedText) (book : Contents) : Type 0 where
   pub short : cycles ≤ most_cycles
   pub read : planned_scenario limits cycles input ≡ Ok (s, streams)
@@ -31,19 +31,19 @@ pub record IsReadRun (limits : Limits) (cycles : ℕ) (input : List ℕ) (s : Sc
   pub may : MayBeRun cycles s
   pub is_book : IsBookOfScenario cycles s book
 
--- a way is one of a summary's, and whose
+-- a listener's path, and the stream with that path, are a summary's
 abbrev pub IsRowOf : ℕ → Scenario → List PlannedText → Contents → Fare → ListenerWay → Type 0
 IsRowOf cycles s streams book fare way =
     Contains (summary_of (run_of_scenario cycles s) streams book).fares fare × Contains fare.ways way
 
--- the offers that a row counts are as many as those that are delivered, late, dropped and under way at its listener together
+-- the offers that a row counts are as many as the delivered, late, dropped and under-way ones at its listener together
 abbrev pub RowsAddUp : Type 0
 RowsAddUp =
     (limits : Limits) (cycles : ℕ) (input : List ℕ) (s : Scenario) (streams : List PlannedText) (book : Contents) (fare : Fare) (way : ListenerWay) →
     IsReadRun limits cycles input s streams book → IsRowOf cycles s streams book fare way →
     fare.offered ≡ way.tally.delivered + way.tally.late + fare.dropped + way.tally.under_way
 
--- what frames took that came to the listener of a row is no less than the least that `latency` has for the last link of their way, and no
+-- the times that frames took to the listener of a row are no less than the least that `latency` has for the last link of their path, and no
 -- more than the row's bound
 pub record AreWithinBounds (d : Domain) (streams : List Asked) (fare : Fare) (way : ListenerWay) (taken : LatencySummary) : Type 0 where
   pub asked : Asked

@@ -1,4 +1,4 @@
--- What the verdicts of `latency` say of deliveries.
+-- What the verdicts of `latency` say about deliveries.
 use Rattle.std.specs.Prelude.{ℕ, ◌≡◌, ◌≢◌, ◌≤◌, List, [], true, Some, Ok, Contains}
 use Rattle.cqf_units.specs.declared.timing.Nanos.{Nanos}
 use Rattle.cqf_model.specs.declared.frames.Background.{Background}
@@ -32,32 +32,32 @@ use Rattle.cqf_program_runs.specs.Deliveries.ArrivalLaws.{has_come}
 use Rattle.cqf_program_runs.specs.Deliveries.{deliveries_of, fate_of, latency_of}
 use Rattle.cqf_program_runs.specs.Deliveries.PlannedScenario.{planned_scenario, run_of_scenario}
 
--- the delivery is of a frame of the stream that the latency is told of, on its way to the listener that it is told of
+-- the delivery is of a frame of the latency's stream, on its path to the latency's listener
 pub record IsDeliveryTo (latency : Latency) (delivery : Delivery) : Type 0 where
   pub journey : Journey
   pub goes : delivery.passage ≡ passage.Goes journey
   pub stream : delivery.stream ≡ latency.stream
   pub listener : journey.listener ≡ latency.listener
 
--- where its frame is whole within the run, it takes no less than the least that is told and no more than the most. Where the verdict is
--- `in-time` the frame isn't late; where it is `late`, the frame is, once it has come
+-- if its frame is whole within the run, it takes no less than the latency's least, and no more than its most. If the verdict is `in-time`,
+-- the frame isn't late; if it is `late`, the frame is late once it has arrived
 pub record IsAsJudged (latency : Latency) (delivery : Delivery) : Type 0 where
   pub within : (journey : Journey) (whole : Nanos) → delivery.passage ≡ passage.Goes journey → journey.whole ≡ Some whole →
       (latency.least ≤ latency_of delivery.at.0 whole) × (latency_of delivery.at.0 whole ≤ latency.most)
   pub in_time : verdict_on_deadline latency ≡ Some told.InTime → fate_of delivery ≢ fate.Late
   pub late : verdict_on_deadline latency ≡ Some told.Late → has_come (fate_of delivery) ≡ true → fate_of delivery ≡ fate.Late
 
--- so is each delivery of some, to a listener that is told of
+-- each of some deliveries to a listener of one of some latencies is so
 abbrev pub AreAsJudged : List Latency → List Delivery → Type 0
 AreAsJudged latencies deliveries = (latency : Latency) (delivery : Delivery) → Contains latencies latency → Contains deliveries delivery →
     IsDeliveryTo latency delivery → IsAsJudged latency delivery
 
--- what `latency` tells of streams with their deadlines, where this is the history of their plan
+-- the latencies that `latency` writes for streams with their deadlines, if this is the history of their plan
 abbrev pub latencies_told : Domain → List Recorded → List PlannedText → List Latency
 latencies_told d plan streams = latencies_of d (held_in d plan 0) (deadlines_in streams)
 
--- where all streams of a plan are admitted, the deliveries in the book of each history that admits streams of the plan alone are as
--- `latency` tells, whatever else is called for, whatever is offered, and beside any background
+-- if all streams of a plan are admitted, the deliveries in the book of each history that admits streams of the plan alone are as `latency`
+-- says, with any other calls, any offers and any background frames
 abbrev pub VerdictsHoldOfDeliveries : Type 0
 VerdictsHoldOfDeliveries =
     (d : Domain) (streams : List PlannedText) (plan entries : List Recorded) (offers : List Offer) (background : List Background) (cycles : ℕ)
@@ -66,7 +66,7 @@ VerdictsHoldOfDeliveries =
     IsBookOfHistory d entries offers background cycles book →
     AreAsJudged (latencies_told d plan streams) (deliveries_of (run_of_history d entries offers background cycles) streams book)
 
--- so they are in the book of a script over the plan's streams
+-- the same in the book of a script over the plan's streams
 abbrev pub VerdictsHoldOfScripts : Type 0
 VerdictsHoldOfScripts =
     (limits : Limits) (cycles : ℕ) (input : List ℕ) (s : Scenario) (streams : List PlannedText) (plan : List Recorded) (book : Contents) →
@@ -74,7 +74,7 @@ VerdictsHoldOfScripts =
     admitted_from s.domain [] 1 (asked_in streams) ≡ Ok plan → IsBookOfScenario cycles s book →
     AreAsJudged (latencies_told s.domain plan streams) (deliveries_of (run_of_scenario cycles s) streams book)
 
--- and in that of each account of its run on threads
+-- and in the book of each account of its run on threads
 abbrev pub VerdictsHoldOfAccounts : Type 0
 VerdictsHoldOfAccounts =
     (limits : Limits) (cycles : ℕ) (input : List ℕ) (s : Scenario) (streams : List PlannedText) (plan entries : List Recorded)

@@ -1,10 +1,9 @@
-//! Laws that tie the commands to one another: what `latency` and `plan` tell of a plan holds of the runs over it.
+//! Laws that connect the commands: what `latency` and `plan` say about a plan holds for the runs over it.
 //!
-//! Each law is a function that ends at once: its contract is a statement of `specs/`, and its proof shows that the statement
-//! holds.
+//! Each law is a function that returns at once. Its contract is a statement of `specs/`, and its proof shows that the statement holds.
 //!
 //! ```
-//! // here on, a proof knows that no delivery of a script over a plan is late where `latency` told `in-time`
+//! // from here on, a proof knows that no delivery of a script over a plan is late if `latency` says `in-time`
 //! cqf_program_laws::told_verdicts_hold();
 //! ```
 #![tactic(auto)]
@@ -16,8 +15,8 @@ ghost use Rattle.cqf_program_laws.specs.ScriptLaws.{PlannedScenariosAskOnly, Sce
 ghost use Rattle.cqf_program_laws.specs.SummaryLaws.{LatenciesAreBounded, RowsAddUp};
 ghost use Rattle.cqf_program_laws.specs.VerdictLaws.{VerdictsHoldOfAccounts, VerdictsHoldOfDeliveries, VerdictsHoldOfScripts};
 
-/// The calls of a script ask for no stream but those of its streams text. So its history admits no other, on one thread and in each
-/// account of its run on threads.
+/// The calls of a script request no stream but those of its streams text. So its history admits no other, on one thread and in each account
+/// of its run on threads. If there is room for the calls, the history is legal.
 pub fn scripts_admit_only()
     ensures scripts { ScriptsAskOnly }
     ensures scenarios { ScenariosAskOnly }
@@ -30,9 +29,9 @@ pub fn scripts_admit_only()
     cqf_laws_history::state_follows_history();
 }
 
-/// Where `latency` tells `in-time` of a stream and a listener, no delivery of a frame of that stream to that listener is late; where
-/// it tells `late`, each that has come is. So it is in the book of each history that admits streams of the plan alone, as are those
-/// of a script over them, on one thread and on threads, whatever is withdrawn or offered, and beside any background.
+/// If `latency` says `in-time` for a stream and a listener, no delivery of a frame of that stream to that listener is late; if it says
+/// `late`, each delivery that has arrived is late. This holds in the book of each history that admits streams of the plan alone, as those
+/// of a script over them do, on one thread and on threads, with any withdrawals, offers and background frames.
 pub fn told_verdicts_hold()
     ensures deliveries { VerdictsHoldOfDeliveries }
     ensures scripts { VerdictsHoldOfScripts }
@@ -46,15 +45,15 @@ pub fn told_verdicts_hold()
     cqf_program_runs::arrivals_are_the_shift();
 }
 
-/// A plan keeps its word whose streams are all admitted before cycle 0, each with as much as its talker needs of a cycle, and none of
-/// which may miss its deadline. In each run that admits streams of the plan alone, whatever is withdrawn and offered by others, and
-/// beside any background frames, take a frame that a talker which keeps its own word offers of one of them at its edge, in a cycle in
-/// which the stream is offered, while it is live. It is covered, so it leaves on each link of its tree, and it is whole at each of the
-/// stream's listeners within its deadline, from its offer on, if the run lasts long enough. So it is in each script over the plan, on one
-/// thread and on threads.
+/// A plan keeps its word if its streams are all admitted before cycle 0, each reserves as much as its talker needs in a cycle, and none may
+/// miss its deadline. Take a run that admits streams of the plan alone, with any withdrawals, any offers of others and any background
+/// frames. Take a frame of one of these streams that a talker which keeps its own word offers at the edge bridge, in a cycle in which the
+/// stream is offered, while it is live. The frame is covered, so it leaves on each link of its tree. It is whole at each of the stream's
+/// listeners within its deadline after its offer, if the run is long enough. The same holds in each script over the plan, on one thread and
+/// on threads.
 ///
-/// Where the plan's deadline is what a talker's link leaves of that of a sketch, as it is of each stream that was settled, the frame is
-/// there within the sketch's deadline, from the instant at which the talker begins to send it.
+/// If the plan's deadline is what a talker's link leaves of the network file's, as it is for each stream that was settled, the frame is
+/// there within the network file's deadline after the instant at which the talker begins to send it.
 pub fn told_plans_keep_their_word()
     ensures runs { PlansKeepTheirWord }
     ensures scripts { PlansKeepTheirWordToScripts }
@@ -71,9 +70,9 @@ pub fn told_plans_keep_their_word()
     cqf_laws_timing::conforming_stream_is_in_time();
 }
 
-/// So it does in every loose network, whatever clocks and delays do within what the domain states. Where all offers of a stream's name keep
-/// its talker's word, each of them that is made in a cycle of the stream while it is live is whole at each of its listeners, by the clock
-/// there, within the plan's deadline from its offer on by the edge bridge's, if the run lasts long enough.
+/// The same holds in every loose network, in which clocks and delays vary within the bounds that the domain states. If all offers of a
+/// stream's name keep its talker's word, each of them in a cycle of the stream while it is live is whole at each of its listeners, by the
+/// clock there, within the plan's deadline after its offer by the edge bridge's clock, if the run is long enough.
 pub fn told_plans_keep_their_word_loosely()
     ensures { PlansKeepTheirWordLoosely }
 {
@@ -83,9 +82,8 @@ pub fn told_plans_keep_their_word_loosely()
     cqf_laws_timing::conforming_stream_is_heard_in_time();
 }
 
-/// The offers that a row of `summary` counts are as many as those that are delivered, late, dropped and under way at the row's listener
-/// together. So it is of every script over the streams of the file, whatever it admits and withdraws, whatever is offered, and beside any
-/// background frames.
+/// The offers that a row of `summary` counts are as many as the delivered, late, dropped and under-way ones at the row's listener together.
+/// This holds for every script over the streams of the file, with any admissions, withdrawals, offers and background frames.
 pub fn summaries_add_up()
     ensures { RowsAddUp }
 {
@@ -95,8 +93,8 @@ pub fn summaries_add_up()
     cqf_program_runs::each_is_told_once();
 }
 
-/// What the frames took that came to the listener of a row of `summary` lies between the least that `latency` has for the last link of
-/// their way and the row's bound, in every such script.
+/// The times that frames took to the listener of a row of `summary` are between the least that `latency` has for the last link of their
+/// path and the row's bound, in every such script.
 pub fn summaries_are_within_bounds()
     ensures { LatenciesAreBounded }
 {

@@ -16,7 +16,7 @@ use Rattle.cqf_traffic.specs.FlowsText.{flow_text}
 use Rattle.cqf_traffic.specs.declared.senders.TalkerStream.{TalkerStream}
 use Rattle.cqf_program_offers.specs.OffersOutput.{asked_in, sender_of, senders_of}
 
--- what streams ask for, and how their talkers see them
+-- the requests of streams, and the streams as their talkers see them
 abbrev asked_all : List Flow → List Asked
 asked_all flows = map asked_in (map flow_text flows)
 
@@ -32,13 +32,13 @@ refused_first found next stop h = record {
   memory = h.memory;
 }
 
--- a name is among those of some rows where one of them has it
+-- a name is among those of some rows if and only if one of the rows has it
 pub named_there : (names : List (List ℕ)) (rows : List Row) (name : List ℕ) → names ≡ map (λ (r : Row). r.name) rows →
     is_among name names ≡ list_any (λ (r : Row). is_text r.name name) rows
 named_there names rows name are =
     ap (is_among name) are ∙ list_any-map (λ (other : List ℕ). is_text other name) (λ (r : Row). r.name) rows
 
--- beside rows their names
+-- the names of rows, after one more
 pub one_named : (names names_after : List (List ℕ)) (rows rows_after : List Row) (row : Row) → names ≡ map (λ (r : Row). r.name) rows →
     names_after ≡ names ++ row.name ∷ [] → rows_after ≡ rows ++ row ∷ [] → names_after ≡ map (λ (r : Row). r.name) rows_after
 one_named names names_after rows rows_after row are named put =
@@ -50,7 +50,7 @@ module _ (d : Domain) (flows : List Flow) (k : ℕ) (flow : Flow) (inside : k < 
   rest_is : drop k flows ≡ flow ∷ drop (k + 1) flows
   rest_is = drop_more flows k flow inside ∙ ap (λ x. x ∷ drop (k + 1) flows) (sym is)
 
-  -- a stream more is listed
+  -- one more stream is listed
   pub one_judged : (rows shown after : List Row) (row : Row) → shown ≡ rows →
       listed_from d [] (asked_all flows) ≡ listed_from d rows (asked_all (drop k flows)) →
       ((more : List Asked) → listed_from d shown (asked_in (flow_text flow) ∷ more) ≡ listed_from d (shown ++ row ∷ []) more) →
@@ -68,7 +68,7 @@ module _ (d : Domain) (flows : List Flow) (k : ℕ) (flow : Flow) (inside : k < 
       ∙ ap (map (sender_of d)) (sym (map-append flow_text (take k flows) (flow ∷ [])))
       ∙ ap (seen d) (ap (λ x. take k flows ++ x ∷ []) is ∙ sym (take_more flows k flow inside))
 
-  -- where the stream is refused, all are
+  -- if the stream is refused, all are
   pub one_refused : (rows shown : List Row) (stop : Stop) → shown ≡ rows → listed_from d [] (asked_all flows) ≡ listed_from d rows (asked_all (drop k flows)) →
       ((more : List Asked) → IsRefused (listed_from d shown (asked_in (flow_text flow) ∷ more)) stop) → IsRefused (senders_of d (map flow_text flows)) stop
   one_refused rows shown stop same so_far refuses =

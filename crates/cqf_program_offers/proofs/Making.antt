@@ -1,4 +1,4 @@
--- What made parts are made of.
+-- The parts from which missing parts are made.
 use Rattle.std.proofs.Common.{◌≡◌, ◌∙◌, ℕ, ◌+◌, ◌<◌, ◌≤◌, ◌++◌, ◌∷◌, [], List, Bool, Bor, false, Ok, ap, arith, get_or, length, map, max, refl, sym, take}
 use Rattle.std.proofs.lemmas.List.{map-append, take_more}
 use Rattle.std.proofs.lemmas.List.Sums.{fold-append}
@@ -13,7 +13,7 @@ use Rattle.cqf_program_scenario.proofs.AskedTexts.{asked_texts}
 use Rattle.cqf_program_scenario.specs.Lines.{streams_line}
 use Rattle.cqf_program_offers.specs.Made.{asked_of_part, bridges_of, bridges_on}
 
--- a stream more, of so many bridges
+-- one more stream, with this many bridges
 pub more_bridges : (flows : List Flow) (k : ℕ) (flow : Flow) → k < length flows → flow ≡ get_or flows k flow → (most bridges : ℕ) →
     most ≡ bridges_of (map flow_text (take k flows)) → bridges ≡ bridges_on (flow_text flow).0.0.paths →
     max most bridges ≡ bridges_of (map flow_text (take (k + 1) flows))
@@ -47,7 +47,7 @@ four_of f d (a ∷ b ∷ c ∷ []) l = absurd (omega (arith, l))
 four_of f d (a ∷ b ∷ c ∷ e ∷ []) l = refl
 four_of f d (a ∷ b ∷ c ∷ e ∷ g ∷ more) l = absurd (omega (arith, l))
 
--- the texts of so many parts
+-- the texts of three parts and of four
 pub three_parts : (parts : List (Bor (List ℕ))) → 3 ≤ length parts → length parts < 4 →
     map (λ (part : Bor (List ℕ)). part.now) parts ≡ (get_or parts 0 record { ref_ptr = (0, 0); now = [] }).now
     ∷ (get_or parts 1 record { ref_ptr = (0, 0); now = [] }).now ∷ (get_or parts 2 record { ref_ptr = (0, 0); now = [] }).now ∷ []

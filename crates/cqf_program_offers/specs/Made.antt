@@ -1,5 +1,5 @@
--- What is made in place of parts that a run isn't given: calls that admit all streams before cycle 0, and what their talkers
--- offer. A made part is a text, as if it had been read.
+-- The parts that a run isn't given, made: calls that admit all streams before cycle 0, and the offers of their talkers. A made part is a
+-- text, as if it had been read.
 use Rattle.cqf_model.specs.declared.limits.Limits.{Limits}
 use Rattle.std.specs.Prelude.{ℕ, ◌-◌, ◌*◌, ◌++◌, Bool, true, false, List, [], ◌∷◌, Option, Some, None, Result, Ok, codes, if◌then◌else◌, length, map, max, fold}
 use Rattle.std.specs.List.{flat_map}
@@ -31,18 +31,18 @@ call_of asked = codes "0 admit " ++ (asked.name ++ codes "\n")
 abbrev pub script_text : List Asked → List ℕ
 script_text streams = flat_map call_of streams
 
--- the same where all are admitted as by `compile`, or the line of the first that is refused
+-- the same if all are admitted as by `compile`; or the line of the first that is refused
 abbrev pub made_calls : Domain → List Asked → Result (List ℕ) (List ℕ)
 made_calls d streams = and_then (admitted_from d [] 1 streams) (λ entries. Ok (script_text streams))
 
--- the most bridges on a way of a stream: each of its branches has its bridges, and then the listener
+-- the most bridges on a path of a stream: each of its branches has its bridges, and then the listener
 abbrev pub bridges_on : List (List (List ℕ)) → ℕ
 bridges_on paths = fold (λ most path. max most (length path - 1)) 0 paths
 
 abbrev pub bridges_of : List FlowText → ℕ
 bridges_of flows = fold (λ most flow. max most (bridges_on flow.0.0.paths)) 0 flows
 
--- what is offered so early that all of it arrives within so many cycles
+-- what streams offer so early that all of it arrives within `cycles` cycles
 abbrev pub made_offers : Domain → ℕ → List FlowText → Result (List ℕ) (List ℕ)
 made_offers d cycles flows = offered_of d ((cycles - bridges_of flows) * d.cycle_time) None flows
 
@@ -55,7 +55,7 @@ abbrev pub asked_of_part : Bool → List ℕ → Result (List Asked) (List ℕ)
 asked_of_part true text = and_then (or_line streams_line (planned_of_text text)) (λ streams. Ok (asked_by_planned streams))
 asked_of_part false text = and_then (or_line streams_line (paced_of_text text)) (λ streams. Ok (map asked_by streams))
 
--- a plant alone: calls and offers are made
+-- a plan alone: calls and offers are made
 abbrev pub with_both : Limits → ℕ → List ℕ → List ℕ → Result (List ℕ) (List ℕ)
 with_both limits cycles domain streams =
     and_then (or_line domain_line (domain_within limits domain)) (λ d.
@@ -63,7 +63,7 @@ with_both limits cycles domain streams =
     and_then (made_calls d (map asked_in flows)) (λ script.
     and_then (made_offers d cycles flows) (λ offers. Ok (input_of domain (streams ∷ script ∷ offers ∷ []))))))
 
--- a plant and a script: offers are made
+-- a plan and a script: offers are made
 abbrev pub with_offers : Limits → ℕ → List ℕ → List ℕ → List ℕ → Result (List ℕ) (List ℕ)
 with_offers limits cycles domain streams script =
     and_then (or_line domain_line (domain_within limits domain)) (λ d.
@@ -71,7 +71,7 @@ with_offers limits cycles domain streams script =
     and_then (or_line script_line (script_of (map asked_in flows) cycles script)) (λ calls.
     and_then (made_offers d cycles flows) (λ offers. Ok (input_of domain (streams ∷ script ∷ offers ∷ []))))))
 
--- a plant and offers, and what stands behind them: calls are made
+-- the script that is made for a plan and offers, with or without a following part
 abbrev pub calls_for : Limits → Bool → List ℕ → List ℕ → Result (List ℕ) (List ℕ)
 calls_for limits planned domain streams =
     and_then (or_line domain_line (domain_within limits domain)) (λ d.
@@ -80,8 +80,8 @@ calls_for limits planned domain streams =
 abbrev pub with_calls : Limits → Bool → List ℕ → List ℕ → List (List ℕ) → Result (List ℕ) (List ℕ)
 with_calls limits planned domain streams rest = and_then (calls_for limits planned domain streams) (λ script. Ok (input_of domain (streams ∷ script ∷ rest)))
 
--- the input of parts over so many cycles, with what isn't given; or the line of the first fault of what it is made of. Other parts stay
--- as they are
+-- the input of parts over `cycles` cycles, with the missing parts added; or the line of the first fault of the parts from which these are
+-- made. All other inputs stay unchanged
 abbrev pub made_of_parts : Limits → Bool → ℕ → List ℕ → List (List ℕ) → Result (List ℕ) (List ℕ)
 made_of_parts limits planned cycles input (domain ∷ streams ∷ []) = with_both limits cycles domain streams
 made_of_parts limits planned cycles input (domain ∷ streams ∷ third ∷ []) =
@@ -97,7 +97,7 @@ is_planned (job.Check cycles) = true
 is_planned (job.Summary cycles) = true
 is_planned it = false
 
--- the input of a job: one that reads a script gets what isn't given
+-- the input of a job: if the job reads a script, the missing parts are added
 abbrev pub made_over : Limits → Bool → Option ℕ → List ℕ → Result (List ℕ) (List ℕ)
 made_over limits planned None input = Ok input
 made_over limits planned (Some cycles) input = made_of_parts limits planned cycles input (parts_of input)

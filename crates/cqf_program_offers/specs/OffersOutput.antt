@@ -1,4 +1,4 @@
--- What the command `offers` gives for its input: what the streams of a plant offer, or the line of the input's first fault.
+-- The output of the command `offers` for its input: the offers of a plan's streams, or the line of the input's first fault.
 use Rattle.std.specs.Prelude.{ℕ, ◌*◌, List, [], ◌∷◌, Option, None, Result, Ok, Err, codes, if◌then◌else◌, map, nat_le, option_and_then, slice_get}
 use Rattle.std.specs.Option.{unwrap_or}
 use Rattle.cqf_lists.specs.Results.{and_then}
@@ -20,18 +20,18 @@ use Rattle.cqf_program_plans.specs.Load.Output.{listed_from}
 use Rattle.cqf_program_plans.specs.Reserving.{flows_line}
 use Rattle.cqf_program_offers.specs.OffersText.{offers_text}
 
--- where what they offer is too much
+-- the line if too much is offered
 abbrev pub too_many_line : List ℕ
 too_many_line = fault_line (codes "offers") (codes "TooMany")
 
--- the domain and the streams of an input that is read within some limits, or the line of the first fault: of the parts, then of the domain,
+-- the domain and the streams of an input that is read within some limits; or the line of the first fault: of the parts, then of the domain,
 -- then of the streams
 abbrev pub flows_input : Limits → List ℕ → Result (Domain × List FlowText) (List ℕ)
 flows_input limits input = and_then (two_parts (parts_of input)) (λ parts.
     and_then (or_line domain_line (domain_within limits parts.0)) (λ domain.
     and_then (or_line flows_line (flows_of_text parts.1)) (λ flows. Ok (domain, flows))))
 
--- what a stream asks for
+-- the request of a stream
 abbrev pub asked_in : FlowText → Asked
 asked_in flow = asked_by flow.0.0
 
@@ -47,12 +47,12 @@ edge_of d paths = unwrap_or (as_bridge (option_and_then (node_named d) (first_na
 abbrev pub sender_of : Domain → FlowText → TalkerStream
 sender_of d flow = record { name = flow.0.0.name; bridge = edge_of d flow.0.0.paths; traffic = flow.1 }
 
--- what streams offer before an instant, as a text, or the line where it is too much
+-- what streams offer before an instant, as a text; or the line if that is too much
 abbrev pub offered_by : Domain → ℕ → Option ℕ → List TalkerStream → Result (List ℕ) (List ℕ)
 offered_by d until seed senders =
     if nat_le (frames_before until senders) (rows_within d.limits) then Ok (offers_text d (offers_before until seed senders)) else Err too_many_line
 
--- streams as their talkers see them, where each is judged as by `load`, or the line of the first that is refused
+-- streams as their talkers see them, each judged as by `load`; or the line of the first that is refused
 abbrev pub senders_of : Domain → List FlowText → Result (List TalkerStream) (List ℕ)
 senders_of d flows = and_then (listed_from d [] (map asked_in flows)) (λ rows. Ok (map (sender_of d) flows))
 
@@ -60,6 +60,6 @@ senders_of d flows = and_then (listed_from d [] (map asked_in flows)) (λ rows. 
 abbrev pub offered_of : Domain → ℕ → Option ℕ → List FlowText → Result (List ℕ) (List ℕ)
 offered_of d until seed flows = and_then (senders_of d flows) (offered_by d until seed)
 
--- the text for an input over so many cycles, read within some limits, or the line of its first fault
+-- the text for an input over `cycles` cycles, read within some limits; or the line of its first fault
 abbrev pub offered_input : Limits → ℕ → Option ℕ → List ℕ → Result (List ℕ) (List ℕ)
 offered_input limits cycles seed input = and_then (flows_input limits input) (λ found. offered_of found.0 (cycles * found.0.cycle_time) seed found.1)

@@ -1,4 +1,4 @@
--- Offers as a text: the header, and then a line an offer.
+-- Offers as a text: the header, and then a line for each offer.
 use Rattle.std.specs.Prelude.{ℕ, ◌++◌, List, codes, decimal}
 use Rattle.std.specs.List.{flat_map}
 use Rattle.cqf_model.specs.declared.frames.Offer.{Offer}

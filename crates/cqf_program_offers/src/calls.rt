@@ -10,7 +10,7 @@ use cqf_topology::{Domain, PacedRequest};
 use cqf_units::Memory;
 use std::alloc::Global;
 
-/// The line of a script that admits a stream.
+/// Returns the line of a script that admits a stream.
 fn call_of(alloc: Global, request: &PacedRequest) -> Result<String, Memory>
     ensures { IfOk result (λ line. string_bytes line ≡ call_of (asked_paced request.now)) }
 {
@@ -19,7 +19,7 @@ fn call_of(alloc: Global, request: &PacedRequest) -> Result<String, Memory>
     Ok(line)
 }
 
-/// The script that admits streams.
+/// Returns the script that admits streams.
 fn script_text(alloc: Global, requests: &[PacedRequest]) -> Result<Vec<u8>, Memory>
     ensures { IfOk result (λ text. text.items ≡ script_text (map asked_paced requests.now)) }
 {
@@ -31,10 +31,10 @@ fn script_text(alloc: Global, requests: &[PacedRequest]) -> Result<Vec<u8>, Memo
     Ok(text)
 }
 
-/// The script that admits streams before cycle 0, where all are admitted as by `compile`.
+/// Returns the script that admits streams before cycle 0, if all are admitted as by `compile`.
 ///
 /// # Errors
-/// With status 1 and the line of the first stream that isn't admitted; and with status 3 for want of memory.
+/// With status 1 and the line of the first stream that isn't admitted; with status 3 if an allocation fails.
 pub(crate) fn made_calls(
     alloc: Global,
     domain: &Domain,

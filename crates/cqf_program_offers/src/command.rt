@@ -16,14 +16,14 @@ use cqf_traffic::{Flow, TalkerStream, Until, are_few, offers_before};
 use cqf_units::{Memory, Nanos};
 use std::alloc::Global;
 
-/// The end where more is offered than a run takes.
+/// Returns the end if more is offered than a run takes.
 fn too_many_stop(alloc: Global) -> Stop
     ensures { EndsWith 1 too_many_line result }
 {
     Stop::with_line(alloc, REFUSED, "cqf: offers: TooMany\n")
 }
 
-/// What senders offer, as a text.
+/// Returns what senders offer, as a text.
 fn text_of_senders(
     alloc: Global,
     domain: &Domain,
@@ -37,11 +37,11 @@ fn text_of_senders(
     Ok(text)
 }
 
-/// What senders offer, as a text.
+/// Returns what senders offer, as a text.
 ///
 /// # Errors
-/// With status 1 and the line `cqf: offers: TooMany` where they have more frames together, late ones too, than the domain may be offered;
-/// and with status 3 for want of memory.
+/// With status 1 and the line `cqf: offers: TooMany` if they have more frames together, late ones too, than the domain may be offered; with
+/// status 3 if an allocation fails.
 pub fn offered_by(
     alloc: Global,
     domain: &Domain,
@@ -61,10 +61,10 @@ pub fn offered_by(
     }
 }
 
-/// What streams offer that are each judged as by `load`, as a text.
+/// Returns what streams offer, each judged as by `load`, as a text.
 ///
 /// # Errors
-/// With status 1 and the line of the first stream that is refused, or as of [`offered_by`]; and with status 3 for want of memory.
+/// With status 1 and the line of the first stream that is refused, or as [`offered_by`]; with status 3 if an allocation fails.
 pub fn offered_of(
     alloc: Global,
     domain: &Domain,
@@ -78,12 +78,12 @@ pub fn offered_of(
     offered_by(alloc, domain, until, senders.as_slice())
 }
 
-/// The output of `offers` over so many cycles, up to 100,000, with a seed or without, for an input that is read within some limits: what the
-/// streams of a plant offer.
+/// Returns the output of `offers` over `cycles` cycles, up to 100,000, with a seed or without, for an input that is read within some
+/// limits: what the streams of a plan offer.
 ///
 /// # Errors
 /// With status 1 and the line of the first fault of the input: of its parts, of the domain, of the streams, or of the first stream that is
-/// refused as by `load`; or the line `cqf: offers: TooMany`; and with status 3 for want of memory.
+/// refused as by `load`; or the line `cqf: offers: TooMany`. With status 3 if an allocation fails.
 pub fn offers_output(
     alloc: Global,
     limits: Limits,

@@ -1,4 +1,4 @@
-//! Inputs with what isn't given.
+//! Inputs with the missing parts added.
 ghost use Rattle.std.specs.Prelude.{ℕ, ◌≡◌, [], ◌∷◌, IfErr, IfOk, List, Ok, map};
 ghost use Rattle.std.specs.Option.{option_map_or};
 ghost use Rattle.cqf_admission.specs.Asking.{asked_paced};
@@ -22,7 +22,7 @@ use cqf_text::parts;
 use cqf_topology::PacedRequest;
 use std::alloc::Global;
 
-/// Whether a job reads deadlines.
+/// Returns whether a job reads deadlines.
 fn is_planned(job: &Job) -> bool
     ensures { result ≡ is_planned job.now }
 {
@@ -32,7 +32,7 @@ fn is_planned(job: &Job) -> bool
     )
 }
 
-/// Parts as an input. `Err` with status 3 for want of memory.
+/// Returns parts as an input. Returns `Err` with status 3 if an allocation fails.
 fn input_of(alloc: Global, first: &[u8], rest: &[&[u8]]) -> Result<Vec<u8>, Stop>
     ensures ok { IfOk result (λ input. input.items ≡ input_of first.now (map (λ text. text.now) rest.now)) }
     ensures err { IfErr result (EndsWith 3 []) }
@@ -43,7 +43,7 @@ fn input_of(alloc: Global, first: &[u8], rest: &[&[u8]]) -> Result<Vec<u8>, Stop
     }
 }
 
-/// A plant alone, with calls and offers.
+/// Returns a plan alone, with calls and offers.
 fn with_both(
     alloc: Global,
     limits: Limits,
@@ -66,7 +66,7 @@ fn with_both(
     )
 }
 
-/// The orders of a script over streams, which are read for its first fault alone.
+/// Returns the orders of a script over streams, which are read only for the script's first fault.
 fn check_script(
     alloc: Global,
     cycles: u32,
@@ -86,7 +86,7 @@ fn check_script(
     }
 }
 
-/// A plant and a script, with offers.
+/// Returns a plan and a script, with offers.
 fn with_offers(
     alloc: Global,
     limits: Limits,
@@ -106,7 +106,7 @@ fn with_offers(
     input_of(alloc, domain, &[streams, script, offers.as_slice()])
 }
 
-/// The script that is made for a plant.
+/// Returns the script that is made for a plan.
 fn calls_for(
     alloc: Global,
     limits: Limits,
@@ -122,7 +122,7 @@ fn calls_for(
     made_calls(alloc, &plan, requests.as_slice())
 }
 
-/// A plant and offers, with calls.
+/// Returns a plan and offers, with calls.
 fn with_calls(
     alloc: Global,
     limits: Limits,
@@ -138,7 +138,7 @@ fn with_calls(
     input_of(alloc, domain, &[streams, script.as_slice(), offers])
 }
 
-/// A plant, offers, and what stands behind them, with calls.
+/// Returns a plan, offers and the following part, with calls.
 fn with_calls_between<'p>(
     alloc: Global,
     limits: Limits,
@@ -155,7 +155,7 @@ fn with_calls_between<'p>(
     input_of(alloc, domain, &[streams, script.as_slice(), offers, last])
 }
 
-/// A plant and a third part, with offers or calls.
+/// Returns a plan and a third part, with offers or calls.
 fn made_of_three(
     alloc: Global,
     limits: Limits,
@@ -179,7 +179,7 @@ fn made_of_three(
     Ok(Some(made))
 }
 
-/// A plant and two parts more, with calls where the first of them is of offers.
+/// Returns a plan and two more parts, with calls if the first of them is of offers.
 fn made_of_four<'p>(
     alloc: Global,
     limits: Limits,
@@ -202,7 +202,7 @@ fn made_of_four<'p>(
     Ok(Some(made))
 }
 
-/// An input of parts over so many cycles, with what isn't given, where something isn't.
+/// Returns an input of parts over `cycles` cycles, with the missing parts added; `None` if none is missing.
 fn made_of_parts(
     alloc: Global,
     limits: Limits,
@@ -230,14 +230,16 @@ fn made_of_parts(
     }
 }
 
-/// The input of a job, read within some limits, with what isn't given, or `None` where it stays as it is: of a job that reads a script, a
-/// plant alone gets calls and offers, a plant and a script offers, a plant and offers, told by their first line, calls. Calls admit all
-/// streams before cycle 0; offers are those of the streams with traffic, so early that all arrive.
+/// Returns the input of a job, read within some limits, with the missing parts added; `None` if it stays unchanged.
+///
+/// Only a job that reads a script gets parts. A plan alone gets calls and offers; a plan and a script get offers; a plan and offers, which
+/// are recognised by their first line, get calls. Calls admit all streams before cycle 0. Offers are those of the streams with traffic, so
+/// early that all arrive.
 ///
 /// # Errors
-/// With status 1 and the line of the first fault: of the domain, of the streams, their traffic too where offers are made, of the script
-/// or the first stream that isn't admitted, of the first stream that is refused as by `load`, or `cqf: offers: TooMany`; and with status 3
-/// for want of memory.
+/// With status 1 and the line of the first fault: of the domain; of the streams, and of their traffic if offers are made; of the script, or
+/// of the first stream that isn't admitted; of the first stream that is refused as by `load`; or `cqf: offers: TooMany`. With status 3 if
+/// an allocation fails.
 pub fn made_input(
     alloc: Global,
     limits: Limits,

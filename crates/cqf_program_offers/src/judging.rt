@@ -19,7 +19,7 @@ use cqf_topology::{Domain, NameList, PacedRequest};
 use cqf_units::{Cycle, Name};
 use std::alloc::Global;
 
-/// Whether one of some streams of these names has the name.
+/// Returns whether one of some streams of these names has the name.
 fn has_name(names: &NameList, rows: &[Row], name: &Name) -> bool
     requires { names.now.keys ≡ map (λ (row : ARow). row.name) rows.now }
     ensures { result ≡ list_any (λ (row : ARow). is_text row.name name.now) rows.now }
@@ -27,8 +27,8 @@ fn has_name(names: &NameList, rows: &[Row], name: &Name) -> bool
     names.contains(name)
 }
 
-/// The first reason but that a link has no room against a request beside others of these names, which asks for less than 2^64 places, or
-/// what it is by itself.
+/// Weighs a request of fewer than 2^64 places together with others of these names. Returns the first reason to refuse it, except that a
+/// link has no room; or else what it is by itself.
 fn weigh(
     domain: &Domain,
     names: &NameList,
@@ -49,7 +49,7 @@ fn weigh(
     Ok(judged)
 }
 
-/// The row of a request behind others of these names, or the end where it is refused.
+/// Returns the row of a request that follows others of these names, or the end if it is refused.
 pub(crate) fn row_of(
     alloc: Global,
     domain: &Domain,

@@ -1,16 +1,17 @@
-//! What the streams of a plant offer, as a text, by the command `offers`, and in place of parts that a run isn't given.
+//! What the streams of a plan offer, as a text: by the command `offers`, and for the parts that a run isn't given.
 //!
-//! - [`offers_output`] gives the command's output for an input, or the end of the run with the line of the input's first fault.
-//! - [`made_input`] completes an input, so that the engine reads all parts of a run: calls that admit all streams before cycle 0, and what their
-//!   talkers offer, are made as texts, as if they had been read.
-//! - `senders_of` judges each stream as `load` does and has it as its talker sees it, and `offered_by` has what senders offer as a text.
+//! - [`offers_output`] returns the command's output for an input, or the end of the run with the line of the input's first fault.
+//! - [`made_input`] completes an input, so that the engine reads all parts of a run. Calls that admit all streams before cycle 0, and the
+//!   offers of their talkers, are made as texts, as if they had been read.
+//! - `senders_of` judges each stream as `load` does and returns it as its talker sees it; `offered_by` returns what senders offer as a
+//!   text.
 //!
-//! In `specs/` stand which text an input has (`OffersOutput`, and `Made` where parts are made), and how offers are written (`OffersText`).
+//! `specs/` defines which text an input has (`OffersOutput`, and `Made` for made parts), and how offers are written (`OffersText`).
 //!
 //! ```text
 //! offers_output(alloc, 1, None, b"..\n%%\n[[streams]]\nname = \"x\"\n.. interval = 125000\nsize = 64\n")
 //!     is Ok(b"at,bridge,stream,octets\n0,a,x,64\n") over a cycle of 125,000 ns
-//! a plant alone whose one stream x has traffic
+//! a plan alone whose one stream x has traffic
 //!     gets the script "0 admit x\n" and the offers of x
 //! ```
 #![tactic(auto)]

@@ -12,7 +12,7 @@ use cqf_traffic::{Flow, Until};
 use cqf_units::Nanos;
 use std::alloc::Global;
 
-/// The most bridges on a branch of a stream.
+/// Returns the most bridges on a branch of a stream.
 fn bridges_on(paths: &[Vec<String>]) -> usize
     ensures { result ≡ bridges_on (branches_of paths.now) }
 {
@@ -24,14 +24,14 @@ fn bridges_on(paths: &[Vec<String>]) -> usize
     most
 }
 
-/// The larger of two numbers.
+/// Returns the larger of two numbers.
 fn larger(one: usize, other: usize) -> usize
     ensures { result ≡ max one other }
 {
     one.max(other)
 }
 
-/// The most bridges on a way of a stream.
+/// Returns the most bridges on a path of a stream.
 fn bridges_of(flows: &[Flow]) -> usize
     ensures { result ≡ bridges_of (map flow_text flows.now) }
 {
@@ -43,10 +43,10 @@ fn bridges_of(flows: &[Flow]) -> usize
     most
 }
 
-/// What streams offer so early that all of it arrives within so many cycles, as a text.
+/// Returns what streams offer so early that all of it arrives within `cycles` cycles, as a text.
 ///
 /// # Errors
-/// As of [`offered_of`].
+/// As [`offered_of`].
 pub(crate) fn made_offers(
     alloc: Global,
     domain: &Domain,

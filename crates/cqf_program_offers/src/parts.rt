@@ -1,4 +1,4 @@
-//! The parts that what is made is made of.
+//! The parts from which missing parts are made.
 ghost use Rattle.std.specs.Prelude.{◌≡◌, [], true, IfErr, IfOk, Ok, map};
 ghost use Rattle.cqf_admission.specs.Asking.{asked_paced};
 ghost use Rattle.cqf_program_offers.specs.Made.{asked_of_part};
@@ -14,7 +14,7 @@ use cqf_traffic::Flow;
 use cqf_units::Memory;
 use std::alloc::Global;
 
-/// The requests of streams once more.
+/// Returns a copy of the streams' requests.
 fn requests_of(alloc: Global, flows: &[Flow]) -> Result<Vec<PacedRequest>, Memory>
     ensures { IfOk result (λ requests. map asked_paced requests.items ≡ map asked_in (map flow_text flows.now)) }
 {
@@ -25,7 +25,7 @@ fn requests_of(alloc: Global, flows: &[Flow]) -> Result<Vec<PacedRequest>, Memor
     Ok(requests)
 }
 
-/// The requests of streams once more. `Err` with status 3 for want of memory.
+/// Returns a copy of the streams' requests. Returns `Err` with status 3 if an allocation fails.
 pub(crate) fn copied_requests(alloc: Global, flows: &[Flow]) -> Result<Vec<PacedRequest>, Stop>
     ensures ok { IfOk result (λ requests. map asked_paced requests.items ≡ map asked_in (map flow_text flows.now)) }
     ensures err { IfErr result (EndsWith 3 []) }
@@ -36,7 +36,7 @@ pub(crate) fn copied_requests(alloc: Global, flows: &[Flow]) -> Result<Vec<Paced
     }
 }
 
-/// The requests of a part whose deadlines are read.
+/// Returns the requests of a part whose deadlines are read.
 fn planned_requests(alloc: Global, text: &[u8]) -> Result<Vec<PacedRequest>, Stop>
     ensures ok { IfOk result (λ requests. asked_of_part true text.now ≡ Ok (map asked_paced requests.items)) }
     ensures err { IfErr result (IsRefused (asked_of_part true text.now)) }
@@ -48,8 +48,8 @@ fn planned_requests(alloc: Global, text: &[u8]) -> Result<Vec<PacedRequest>, Sto
     }
 }
 
-/// The requests of a part, whose deadlines are read or not. `Err` with status 1 and the line of its first fault, and with status 3 for want of
-/// memory.
+/// Returns the requests of a part, whose deadlines are read or not. Returns `Err` with status 1 and the line of its first fault; with
+/// status 3 if an allocation fails.
 pub(crate) fn requests_part(
     alloc: Global,
     planned: bool,

@@ -13,8 +13,8 @@ use cqf_topology::Domain;
 use cqf_traffic::{Flow, read_flows};
 use std::alloc::Global;
 
-/// The streams of a part, with their deadlines and their traffic. `Err` with status 1 and the line of its first fault, and with status 3 for
-/// want of memory.
+/// Returns the streams of a part, with their deadlines and their traffic. Returns `Err` with status 1 and the line of its first fault; with
+/// status 3 if an allocation fails.
 pub fn flows_part(alloc: Global, text: &[u8]) -> Result<Vec<Flow>, Stop>
     ensures ok { IfOk result (λ flows. flows_of_text text.now ≡ Ok (map flow_text flows.items)) }
     ensures err { IfErr result (IsRefused (or_line flows_line (flows_of_text text.now))) }
@@ -25,8 +25,8 @@ pub fn flows_part(alloc: Global, text: &[u8]) -> Result<Vec<Flow>, Stop>
     }
 }
 
-/// The domain and the streams of the input, read within some limits. `Err` with status 1 and the line of the first fault: of its parts,
-/// of the domain, or of the streams; and with status 3 for want of memory.
+/// Returns the domain and the streams of the input, read within some limits. Returns `Err` with status 1 and the line of the first fault:
+/// of its parts, of the domain, or of the streams; with status 3 if an allocation fails.
 pub(crate) fn flows_input(
     alloc: Global,
     limits: Limits,

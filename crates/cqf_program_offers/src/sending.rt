@@ -14,7 +14,7 @@ use cqf_traffic::{Flow, TalkerStream};
 use cqf_units::Name;
 use std::alloc::Global;
 
-/// The first name of some branches.
+/// Returns the first name of some branches.
 fn first_name(paths: &[Vec<String>]) -> Option<&str>
     ensures { option_map (λ name. name.now) result ≡ first_name (branches_of paths.now) }
 {
@@ -27,7 +27,7 @@ fn first_name(paths: &[Vec<String>]) -> Option<&str>
     }
 }
 
-/// The bridge with which some branches begin.
+/// Returns the bridge with which some branches begin.
 fn edge_of(domain: &Domain, paths: &[Vec<String>]) -> u16
     ensures { result ≡ edge_of domain.now (branches_of paths.now) }
 {
@@ -40,7 +40,7 @@ fn edge_of(domain: &Domain, paths: &[Vec<String>]) -> u16
     }
 }
 
-/// A stream of this name as its talker sees it.
+/// Returns a stream of this name as its talker sees it.
 fn sender_of(domain: &Domain, flow: &Flow, name: Name) -> TalkerStream
     requires { name ≡ string_bytes flow.now.planned.request.name }
     ensures { result ≡ sender_of domain.now (flow_text flow.now) }
@@ -52,7 +52,7 @@ fn sender_of(domain: &Domain, flow: &Flow, name: Name) -> TalkerStream
     }
 }
 
-/// Puts a stream behind others, by its name, as its row and as its talker sees it. `Err` with status 3 for want of memory.
+/// Puts a stream after others, by its name, as its row and as its talker sees it. Returns `Err` with status 3 if an allocation fails.
 fn put_stream(
     alloc: Global,
     sender: TalkerStream,
@@ -79,10 +79,10 @@ fn put_stream(
     }
 }
 
-/// Streams as their talkers see them, each judged as if those before it had been accepted, whatever room links have.
+/// Returns streams as their talkers see them, each judged as if those before it had been accepted, regardless of the room that links have.
 ///
 /// # Errors
-/// With status 1 and the line of the first stream that is refused; and with status 3 for want of memory.
+/// With status 1 and the line of the first stream that is refused; with status 3 if an allocation fails.
 pub fn senders_of(alloc: Global, domain: &Domain, flows: &[Flow]) -> Result<Vec<TalkerStream>, Stop>
     ensures ok { IfOk result (λ senders. senders_of domain.now (map flow_text flows.now) ≡ Ok senders.items) }
     ensures err { IfErr result (IsRefused (senders_of domain.now (map flow_text flows.now))) }

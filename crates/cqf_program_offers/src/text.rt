@@ -8,7 +8,7 @@ use cqf_topology::Domain;
 use cqf_units::Memory;
 use std::alloc::Global;
 
-/// The name of a bridge. A bridge that the domain lacks has none.
+/// Returns the name of a bridge; an empty one if the domain lacks the bridge.
 fn name_of_bridge(domain: &Domain, bridge: u16) -> &str
     ensures { result.now ≡ name_of_bridge domain.now bridge }
 {
@@ -19,7 +19,7 @@ fn name_of_bridge(domain: &Domain, bridge: u16) -> &str
     }
 }
 
-/// The line of an offer.
+/// Returns the line of an offer.
 fn offer_line(alloc: Global, domain: &Domain, offer: &Offer) -> Result<String, Memory>
     ensures { IfOk result (λ line. string_bytes line ≡ offer_line domain.now offer.now) }
 {
@@ -31,8 +31,8 @@ fn offer_line(alloc: Global, domain: &Domain, offer: &Offer) -> Result<String, M
     Ok(line)
 }
 
-/// Offers as a text: a header, and a line an offer with its instant, its bridge, its stream and its octets. `Memory` where a growth
-/// is refused.
+/// Returns offers as a text: a header, and a line for each offer with its instant, its bridge, its stream and its octets. Returns `Memory`
+/// if an allocation fails.
 pub fn offers_text(alloc: Global, domain: &Domain, offers: &[Offer]) -> Result<Vec<u8>, Memory>
     ensures { IfOk result (λ text. text.items ≡ offers_text domain.now offers.now) }
 {

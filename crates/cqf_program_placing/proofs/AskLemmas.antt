@@ -1,4 +1,4 @@
--- What admission's answer tells of a stream.
+-- What admission's answer says about a stream.
 use Rattle.std.proofs.Common.{◌≡◌, ◌≢◌, ◌∙◌, ◌<◌, ℕ, Bool, true, false, Contains, List, Option, Some, None, Result, Ok, Err, length, map, nat_lt, ap, refl, subst, sym}
 use Rattle.cqf_lists.specs.Lists.{or_else}
 use Rattle.cqf_lists.proofs.Members.{contains_from_map, find_member}
@@ -19,7 +19,7 @@ use Rattle.cqf_admission.specs.Admission.{Administration, Answers, is_entered}
 use Rattle.cqf_program_plans.specs.Compile.Output.{with_asked}
 use Rattle.cqf_program_placing.specs.Placing.{Placed, Unplaced, answered, fault_of_refusal}
 
--- what the answer to a request tells of it
+-- what the answer to a request says about it
 granted_so : (number effect : ℕ) (receipt : Receipt) (refusal : Option Refused) → Accepted receipt ≡ admit_reply number effect refusal → refusal ≡ None
 granted_so number effect receipt None h = refl
 granted_so number effect receipt (Some refused) h = absurd cc
@@ -29,7 +29,7 @@ refused_so : (number effect : ℕ) (refused : Refused) (refusal : Option Refused
 refused_so number effect refused None h = absurd cc
 refused_so number effect refused (Some other) h = cc
 
--- a refusal is entered, except where the history is full or memory lacks
+-- a refusal is entered, unless the history is full or memory lacks
 pub refusal_entered : (refused : Refused) → refused ≢ HistoryFull → refused ≢ Memory → is_entered (Err refused) ≡ true
 refusal_entered BadName full memory = refl
 refusal_entered BadOctets full memory = refl
@@ -49,7 +49,7 @@ refusal_entered Memory full memory = absurd (memory refl)
 
 -- what is entered is the request with the answer that is due
 module _ (old new : Administration) (asked : Asked) (d : Domain) (of : old.domain ≡ d) where
-  -- the refusal that is due, where one is
+  -- the refusal that is due, if one is
   abbrev refusal : Option Refused
   refusal = refusal_of d (held_in d old.entries (seals old.entries)) asked
 
@@ -58,7 +58,7 @@ module _ (old new : Administration) (asked : Asked) (d : Domain) (of : old.domai
       subst (λ (x : Domain). new.entries ≡ with_asked x old.entries asked) of
       (answers.entered is ∙ ap (λ reply. with_entry old.entries 0 (Admits asked) reply) (answers.due is))
 
-  -- where it is granted, none is
+  -- if the request is granted, none is due
   pub granted_answer : (receipt : Receipt) → Answers old new 0 (Admits asked) (Ok receipt) →
       (Placed asked ≡ answered d asked refusal) × (new.entries ≡ with_asked d old.entries asked)
   granted_answer receipt answers =
@@ -67,7 +67,7 @@ module _ (old new : Administration) (asked : Asked) (d : Domain) (of : old.domai
       let none : refusal ≡ None = subst (λ (x : Domain). refusal_of x (held_in x old.entries (seals old.entries)) asked ≡ None) of due in
       (ap (answered d asked) (sym none), entered_so (Ok receipt) answers refl)
 
-  -- where it is refused, this one is
+  -- if it is refused, this one is due
   pub refused_due : (refused : Refused) → Answers old new 0 (Admits asked) (Err refused) → is_entered (Err refused) ≡ true → refusal ≡ Some refused
   refused_due refused answers is =
       let due : refusal_of old.domain (held_in old.domain old.entries (seals old.entries)) asked ≡ Some refused =
@@ -79,7 +79,7 @@ module _ (old new : Administration) (asked : Asked) (d : Domain) (of : old.domai
   refused_answer refused answers is =
       (ap (answered d asked) (sym (refused_due refused answers is)), entered_so (Err refused) answers is)
 
--- an answer for want of room isn't one of another kind before it
+-- if the answer is for lack of room, no earlier refusal of another kind was due
 skip_if : (l left : ℕ) (b : Bool) (refused : Refused) (later : Option Refused) → refused ≢ BudgetShort l left →
     or_else (refused_if b refused) later ≡ Some (BudgetShort l left) → later ≡ Some (BudgetShort l left)
 skip_if l left true refused later other e = absurd (other cc)
@@ -96,7 +96,7 @@ short_at : (d : Domain) (rows : List Row) (tree : List Hop) (pace : Pace) (l lef
 short_at d rows tree pace l left None e = absurd cc
 short_at d rows tree pace l left (Some k) e = cc
 
--- which is a link of the domain
+-- that link is one of the domain
 pub short_is_there : (d : Domain) (rows : List Row) (asked : Asked) (l left : ℕ) → refusal_of d rows asked ≡ Some (BudgetShort l left) → l < length d.links
 short_is_there d rows asked l left e =
     let tree : List Hop = tree_of d asked.paths in

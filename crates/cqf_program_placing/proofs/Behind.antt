@@ -1,4 +1,4 @@
--- The history behind streams that are placed: their names are held, and no others.
+-- The history after streams are placed: their names are held, and no others.
 use Rattle.std.proofs.Common.{◌≡◌, ◌∙◌, ◌+◌, ◌<◌, ◌≤◌, ◌++◌, ℕ, List, [], ◌∷◌, Option, Some, None, Result, Ok, Err, Contains}
 use Rattle.std.proofs.Common.{length, length-append, ap, arith, inl, inr, refl, subst, sym}
 use Rattle.std.proofs.lemmas.List.Elements.{Contains-append_cases, Contains-append_left, Contains-append_right}
@@ -17,7 +17,8 @@ use Rattle.cqf_program_placing.specs.Placing.{IsAnswered, IsPlacedBy, IsPlacing,
 use Rattle.cqf_program_placing.specs.Turns.{every_in}
 use Rattle.cqf_program_placing.specs.Settled.{SettledStream}
 
--- behind streams of these names: a legal history without Seals, with a call and a held stream at most for each, which has one of their names
+-- after streams of these names: a legal history without Seals. It has at most one call and one held stream for each, and each held stream
+-- has one of these names
 pub record IsBehind (d : Domain) (names : List (List ℕ)) (entries : List Recorded) : Type 0 where
   pub legal : IsLegalHistory d entries
   pub no_seal : seals entries ≡ 0
@@ -35,7 +36,7 @@ none_behind d = record {
   named = λ row c. absurd (contains_none row c);
 }
 
--- a name more, where the held streams are the same
+-- one name more, if the held streams are the same
 same_rows : (d : Domain) (names : List (List ℕ)) (name : List ℕ) (entries after : List Recorded) → IsBehind d names entries → IsLegalHistory d after →
     seals after ≡ 0 → length after ≤ length entries + 1 → held_in d after (seals after) ≡ held_in d entries (seals entries) → IsBehind d (names ++ name ∷ []) after
 same_rows d names name entries after behind legal none few held =
@@ -48,7 +49,7 @@ same_rows d names name entries after behind legal none few held =
       named = λ row c. Contains-append_left names (name ∷ []) row.name (behind.named row (subst (λ (rows : List Row). Contains rows row) held c));
     }
 
--- and where one of that name is held with them
+-- one name more, if a stream of that name is held with them
 one_row : (d : Domain) (names : List (List ℕ)) (name : List ℕ) (entries after : List Recorded) (one : Row) → IsBehind d names entries → IsLegalHistory d after →
     seals after ≡ 0 → length after ≤ length entries + 1 → one.name ≡ name → held_in d after (seals after) ≡ held_in d entries (seals entries) ++ one ∷ [] →
     IsBehind d (names ++ name ∷ []) after
@@ -69,7 +70,7 @@ one_row d names name entries after one behind legal none few is held =
     }
 
 module _ (goes_on : HistoryGoesOn) (counted : SealsAreCounted) (grants : GrantedIsHeld) (refused : RefusedChangesNothing) (d : Domain) where
-  -- a stream of this name is asked for
+  -- a stream of this name is requested
   asked_behind : (names : List (List ℕ)) (entries after : List Recorded) (asked : Asked) → IsBehind d names entries → length names < 16384 →
       after ≡ with_asked d entries asked → IsBehind d (names ++ asked.name ∷ []) after
   asked_behind names entries after asked behind few is =
@@ -100,7 +101,7 @@ module _ (goes_on : HistoryGoesOn) (counted : SealsAreCounted) (grants : Granted
           (ap (admit_reply (next_number d entries) (seals entries)) e) in
           same_rows d names asked.name entries (with_asked d entries asked) behind legal none one_more state.held
 
-  -- a stream more is placed behind the others
+  -- one more stream is placed after the others
   pub one_behind : (names : List (List ℕ)) (entries after : List Recorded) (stream : SettledStream) (become : PlacedOr) → IsBehind d names entries →
       length names < 16384 → IsPlacing d entries stream become after → IsBehind d (names ++ stream.name ∷ []) after
   one_behind names entries after stream become behind few placed = by_reserved (reserved_on d.cycle_time d.sync stream) placed

@@ -1,4 +1,4 @@
--- The branches of first ways are those of a tree, and each of its links has room.
+-- The branches of the first paths are those of a tree, and each of its links has room.
 use Rattle.std.proofs.Common.{◌≡◌, ◌≢◌, ◌∙◌, ◌+◌, ◌-◌, ◌<◌, ◌≤◌, ◌++◌, ℕ, zero, suc, Bool, true, false, ◌==◌, List, [], ◌∷◌, Option, Some, None}
 use Rattle.std.proofs.Common.{AllPairs, Contains, cond, get_or, is_some, length, map, not, option_map, position, take, refl, ap, subst, sym, arith}
 use Rattle.std.specs.Prelude.{is_none, nat_le, nat_lt, slice_get}
@@ -44,7 +44,7 @@ use Rattle.cqf_program_placing.proofs.HopWays.{room_on_way}
 use Rattle.cqf_program_placing.proofs.RouteLemmas.{left_there, lefts_many}
 use Rattle.cqf_program_placing.proofs.WayNames.{branch_from, known_there, link_there, named_end, simple_there, whole_there}
 
--- branches that are those of a tree, of however many hops
+-- branches that are those of a tree, of any number of hops
 pub record AreBranches (d : Domain) (paths : List Branch) : Type 0 where
   pub known : position (λ name. is_none (node_named d name)) (flat_map (λ branch. branch) paths) ≡ None
   pub whole : broken_place d paths ≡ None
@@ -57,13 +57,13 @@ AreFew d paths = length (tree_of d paths) ≤ hops_within d.limits
 
 -- ---- what no branch fails
 
--- where no number below a bound passes a test, none is the least that does
+-- if no number below a bound passes a test, none is the least one that does
 none_least : (test : ℕ → Bool) (n : ℕ) → ((k : ℕ) → k < n → test k ≡ false) → least test n ≡ None
 none_least test n none =
     ap (λ (xs : List ℕ). slice_get xs 0)
     (none_below (λ k. cond (test k) (k ∷ []) []) n (λ k below. ap (λ (b : Bool). cond b (k ∷ []) []) (none k below)))
 
--- where no place of a branch fails, none of the branches does
+-- if no place of a branch fails, none of the branches does
 no_place_fails : (fails : Branch → ℕ → Bool) (paths : List Branch) →
     ((branch : Branch) (k : ℕ) → Contains paths branch → k < length branch + 1 → fails branch k ≡ false) → first_place fails paths ≡ None
 no_place_fails fails [] none = refl
@@ -73,12 +73,12 @@ no_place_fails fails (branch ∷ paths) none =
     let rest : first_place fails paths ≡ None = no_place_fails fails paths (λ other k c below. none other k (contains_later branch paths other c) below) in
     (λ i. or_else (here i) (option_map (λ place. length branch + place) (rest i)))
 
--- and where there is a branch, they aren't broken
+-- and if there is a branch, they aren't broken
 none_broken : (d : Domain) (paths : List Branch) → 0 < length paths → first_place (is_broken_at d) paths ≡ None → broken_place d paths ≡ None
 none_broken d [] some none = absurd (omega (arith, some))
 none_broken d (branch ∷ paths) some none = none
 
--- where each name is a node's, none is unknown
+-- if each name is a node's, none is unknown
 none_unknown : (d : Domain) (paths : List Branch) →
     ((branch : Branch) (name : List ℕ) → Contains paths branch → Contains branch name → is_none (node_named d name) ≡ false) →
     position (λ name. is_none (node_named d name)) (flat_map (λ branch. branch) paths) ≡ None
@@ -95,7 +95,7 @@ none_unknown d paths known =
     by None e = refl
     by (Some k) e = absurd cc
 
--- where each two make a tree, none is stray
+-- if each two make a tree, none is stray
 none_stray : (paths : List Branch) → ((i j : ℕ) (xs ys : Branch) → i < j → slice_get paths i ≡ Some xs → slice_get paths j ≡ Some ys → make_a_tree xs ys ≡ true) →
     least (is_stray paths) (length paths) ≡ None
 none_stray paths each = none_least (is_stray paths) (length paths) (λ place inside. by place inside (slice_get paths place) refl)
@@ -138,7 +138,7 @@ tree_link d paths l c =
       stands = made_by (k + 1) (link_before d branch k) (link_at d branch k) hop made ∙ ap (λ (m : ℕ). Some m) same;
     }
 
--- and stands there as deep as the tree has it
+-- and is there at its hop number in the tree
 pub record HopStands (d : Domain) (paths : List Branch) (hop : Hop) : Type 0 where
   pub branch : Branch
   pub among : Contains paths branch
@@ -146,7 +146,7 @@ pub record HopStands (d : Domain) (paths : List Branch) (hop : Hop) : Type 0 whe
   pub stands : link_at d branch place ≡ Some hop.link
   pub deep : hop.depth ≡ place + 1
 
--- a hop is made as deep
+-- a hop is made with the same hop number
 deep_by : (depth : ℕ) (from o : Option ℕ) (hop : Hop) → Contains (hop_to depth from o) hop → hop.depth ≡ depth
 deep_by depth from None hop c = absurd (contains_none hop c)
 deep_by depth from (Some l) hop c = ap (λ (h : Hop). h.depth) (sym (contains_one (record { link = l; depth = depth; from = from }) hop c))
@@ -164,7 +164,7 @@ tree_hop d paths hop in_tree =
       deep = deep_by (k + 1) (link_before d branch k) (link_at d branch k) hop made;
     }
 
--- where each link of it has left what a stream costs, none is short
+-- if each link of it has left what a stream costs, none is short
 pub none_short : (d : Domain) (rows : List Row) (cost : ℕ) (pace : Pace) (paths : List Branch) → HasRoomIn d rows cost (tree_of d paths) pace →
     short_link d rows cost pace (tree_of d paths) ≡ None
 none_short d rows cost pace paths enough = by (short_link d rows cost pace (tree_of d paths)) refl
@@ -178,14 +178,14 @@ none_short d rows cost pace paths enough = by (short_link d rows cost pace (tree
         let found = find_member (λ k. nat_lt (left k) cost) (links_in (tree_of d paths)) l e in
         absurd (omega (arith, ltb-true (left l) cost found.1, enough l found.0))
 
--- what a link of it has left beside some rows is what it has left for a stream of each cycle
+-- what a link of it has left while some rows are held is what it has left for a stream of each cycle
 left_of_tree : (d : Domain) (rows : List Row) (paths : List Branch) (l : ℕ) → Contains (links_in (tree_of d paths)) l →
     left_on d rows (tree_of d paths) each_cycle l ≡ left_beside d rows l
 left_of_tree d rows paths l among =
     ap (λ (most : ℕ). budget d l - most)
     (beside_is_most rows (tree_of d paths) l (member_any (λ k. k == l) (links_in (tree_of d paths)) l among (eq-eqb l l refl)))
 
--- a link with room has it left
+-- a link with room has left what a stream costs
 has_left : (d : Domain) (rows : List Row) (every cost l : ℕ) → has_room (lefts_on d rows every) cost l ≡ true → cost ≤ left_emptiest d rows every l
 has_left d rows every cost l h = by (slice_get (lefts_on d rows every) l) refl h
   where
@@ -198,7 +198,7 @@ has_left d rows every cost l h = by (slice_get (lefts_on d rows every) l) refl h
         sym (get_or_from_slice_get (lefts_on d rows every) l octets 0 at) ∙ left_there d rows every l inside in
         omega (arith, leb-true cost octets e, same)
 
--- each link of a way with room has it
+-- each link of a path with room has that left
 room_there : (room : ℕ → Bool) (way : List ℕ) (k l : ℕ) → list_all room way ≡ true → slice_get way k ≡ Some l → room l ≡ true
 room_there room [] k l e at = absurd cc
 room_there room (x ∷ way) zero l e at = let parts = and_parts (room x) (list_all room way) e in ap room (sym (same_Some x l at)) ∙ parts.0
@@ -206,7 +206,7 @@ room_there room (x ∷ way) (suc k) l e at = let parts = and_parts (room x) (lis
 
 -- ---- two branches
 
--- branches with a common front part where these end
+-- branches whose common front part is followed by different nodes
 part_there : (f : ℕ → List ℕ) (common : List ℕ) (x y : ℕ) (rest more : List ℕ) → is_text (f x) (f y) ≡ false →
     are_apart (map f (x ∷ rest)) (map f (y ∷ more)) ≡ true → part (map f (common ++ (x ∷ rest))) (map f (common ++ (y ∷ more))) ≡ true
 part_there f [] x y rest more differ apart =
@@ -241,7 +241,7 @@ module _ (d : Domain) (good : IsDomain d) where
       let b = any_member (λ y. is_text a.0 y) ys a.2 in
       both_ways (is_text a.0 b.0) (names_apart node to there way other a.0 b.0 e f apart a.1 b.1) b.2))
 
-  -- ways that part for good are branches of one tree
+  -- paths that part for good are branches of one tree
   pub make_one : (node to there : Node) (way other : List ℕ) → led_along (led_to d.links) node way ≡ Some to →
       led_along (led_to d.links) node other ≡ Some there → PartForGood d.links node way other → make_a_tree (branch_from d node way) (branch_from d node other) ≡ true
   make_one node to there way other e f p =
@@ -259,7 +259,7 @@ module _ (d : Domain) (good : IsDomain d) where
       ((λ i. part (map names (p.way_is i)) (map names (p.other_is i)))
       ∙ part_there names p.common p.first p.second p.rest p.more differ (all_apart p.node to there xs ys on also p.apart))
 
-  -- ---- the branches of first ways
+  -- ---- the branches of the first paths
 
   module _ (left : List ℕ) (cost bridge : ℕ) (inside : bridge < length d.bridges) (stations : List ℕ) (ways : List (List ℕ))
       (first : HaveRoom d left cost bridge stations ways) where
@@ -270,7 +270,7 @@ module _ (d : Domain) (good : IsDomain d) where
         let low : k < length stations = omega (arith, slice_get_within ways k way at, first.one_each) in
         first.each k (get_or stations k 0) way (slice_get-get_or stations k 0 low) at
 
-    -- a branch is one of a way
+    -- a branch is one of a path
     branch_at : (k : ℕ) (branch : Branch) → slice_get (map (names_along d bridge) ways) k ≡ Some branch →
         (way : List ℕ) × (slice_get ways k ≡ Some way) × (names_along d bridge way ≡ branch)
     branch_at k branch at = by (slice_get ways k) refl (sym (slice_get-map (names_along d bridge) ways k) ∙ at)
@@ -286,7 +286,7 @@ module _ (d : Domain) (good : IsDomain d) where
         let (k, at) = place_of_member (map (names_along d bridge) ways) branch c in
         let (way, is, same) = branch_at k branch at in (k, way, is, same)
 
-    -- so they are branches of a tree, where there is a station and no two are the same
+    -- so they are branches of a tree, if there is a station and no two are the same
     pub first_branches : 0 < length stations → AllPairs (λ a b. a ≢ b) stations → MayBeWays d.limits → FirstWaysHaveNoLoop → FirstWaysPartForGood →
         AreBranches d (map (names_along d bridge) ways)
     first_branches some apart room no_loop parts =
@@ -324,14 +324,14 @@ module _ (d : Domain) (good : IsDomain d) where
               (parts d.links (has_room left cost) (Bridge bridge) s t way other (apart i j 0 before low) one two));
         }
 
-    -- a link stands on a way where it does on its branch
+    -- a link is on a path at its index on its branch
     link_on_way : (k : ℕ) (way : List ℕ) (branch : Branch) (place l : ℕ) → slice_get ways k ≡ Some way → names_along d bridge way ≡ branch →
         link_at d branch place ≡ Some l → slice_get way place ≡ Some l
     link_on_way k way branch place l at same stands =
         sym (link_there d good (Bridge bridge) (Station (get_or stations k 0)) way place inside (way_there k way at).is_way.leads)
         ∙ ap (λ (b : Branch). link_at d b place) same ∙ stands
 
-    -- and, where it is offered in each cycle, each link of that tree has left what the stream costs
+    -- and, if the stream is offered in each cycle, each link of that tree has left what it costs
     pub first_enough : (rows : List Row) (every : ℕ) → left ≡ lefts_on d rows every → every ≡ 1 →
         HasRoomIn d rows cost (tree_of d (map (names_along d bridge) ways)) each_cycle
     first_enough rows every are each l c =
@@ -345,7 +345,7 @@ module _ (d : Domain) (good : IsDomain d) where
         let beside : left_emptiest d rows every l ≡ left_beside d rows l = ap (λ n. left_emptiest d rows n l) each ∙ emptiest_of_each d rows l in
         omega (arith, enough, beside, left_of_tree d rows (map (names_along d bridge) ways) l c)
 
-    -- and, where its cycles are given, in these
+    -- and, if its cycles are given, each link has that left in these
     pub first_given : (rows : List Row) (pace : Pace) → AreLeftBehind d rows pace cost bridge left →
         HasRoomIn d rows cost (tree_of d (map (names_along d bridge) ways)) pace
     first_given rows pace are l c =

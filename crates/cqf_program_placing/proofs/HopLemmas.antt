@@ -1,4 +1,4 @@
--- Behind how many links frames leave bridges, found link by link.
+-- After how many links frames leave bridges, found link by link.
 use Rattle.std.proofs.Common.{◌≡◌, ◌≢◌, ◌∙◌, ◌+◌, ◌<◌, ◌≤◌, ◌⊎◌, ℕ, suc, Bool, true, false, List, Option, Some, None, length, ap, arith, inl, inr, refl, subst, sym}
 use Rattle.std.specs.Prelude.{is_some, replicate, set, slice_get}
 use Rattle.std.proofs.lemmas.Bool.{cases_eq, cases_lt}
@@ -13,7 +13,7 @@ use Rattle.cqf_sketch.specs.Ways.{most_links}
 use Rattle.cqf_program_placing.specs.Hops.{AreHops, AreReachedBy, IsReachedBy, LeadsBehind, hop_of}
 use Rattle.cqf_program_placing.proofs.RouteLemmas.{to_node}
 
--- whether frames leave a bridge
+-- frames don't leave a bridge
 pub none_there : (o : Option ℕ) → is_some o ≡ false → o ≡ None
 none_there None e = refl
 none_there (Some j) e = absurd cc
@@ -32,11 +32,11 @@ ends_inside d room hops k l bridge accepted leads =
 -- ---- one link
 
 module _ (links : List Link) (room : ℕ → ℕ → Bool) (hops : List (Option ℕ)) (k l : ℕ) (it : Link) (stands : slice_get links l ≡ Some it) where
-  -- it is the one that leads
+  -- it is the link that leads there
   same_link : (bridge : ℕ) (leads : LeadsBehind links room hops k l bridge) → leads.link ≡ it
   same_link bridge leads = same_Some leads.link it (sym leads.stands ∙ stands)
 
-  -- frames don't leave its bridge, or behind others
+  -- frames don't leave its bridge, or do so after another number of links
   pub not_left : hop_of hops it.from ≡ None → (bridge : ℕ) → ¬ LeadsBehind links room hops k l bridge
   not_left none bridge leads =
       let there : hop_of hops it.from ≡ Some k = subst (λ (x : Link). hop_of hops x.from ≡ Some k) (same_link bridge leads) leads.leaves in absurd cc
@@ -78,7 +78,7 @@ module _ (links : List Link) (room : ℕ → ℕ → Bool) (k l : ℕ) (before :
     others = λ j bridge is. inl is;
   }
 
-  -- to a bridge that frames leave behind fewer
+  -- to a bridge that frames leave after fewer links
   pub old_reached : (bridge j : ℕ) → LeadsBehind links room before k l bridge → hop_of before bridge ≡ Some j → IsReachedBy links room k l before before
   old_reached bridge j leads is = record {
     kept = λ i other at. at;
@@ -86,7 +86,7 @@ module _ (links : List Link) (room : ℕ → ℕ → Bool) (k l : ℕ) (before :
     others = λ i other at. inl at;
   }
 
-  -- to another
+  -- to a bridge that isn't reached yet
   pub new_reached : (bridge : ℕ) (after : List (Option ℕ)) → LeadsBehind links room before k l bridge → hop_of before bridge ≡ None → bridge < length before →
       after ≡ set before bridge (Some (k + 1)) → IsReachedBy links room k l before after
   new_reached bridge after leads none inside is = record {
@@ -148,9 +148,9 @@ module _ (links : List Link) (room : ℕ → ℕ → Bool) (k : ℕ) (before : L
     ];
   }
 
--- ---- behind so many links at most
+-- ---- after at most a number of links
 
--- by the first so many rounds
+-- after the first `rounds` rounds
 pub record AreHopsSoFar (links : List Link) (room : ℕ → ℕ → Bool) (bridge rounds : ℕ) (hops : List (Option ℕ)) : Type 0 where
   pub begins : hop_of hops bridge ≡ Some 0
   pub alone : (other : ℕ) → hop_of hops other ≡ Some 0 → other ≡ bridge
@@ -199,7 +199,7 @@ module _ (links : List Link) (room : ℕ → ℕ → Bool) (bridge : ℕ) where
           let none = nothing other in cc)
     ]
 
-  -- a round more
+  -- one round more
   pub one_round : (k count : ℕ) (before after : List (Option ℕ)) → count ≡ length links → AreHopsSoFar links room bridge k before →
       AreReachedBy links room k count before after → AreHopsSoFar links room bridge (k + 1) after
   one_round k count before after all so_far by = record {

@@ -1,4 +1,5 @@
--- On the first ways by what links have left where frames go by them, each link stands where its frames do.
+-- On the first paths by what links have left as frames reach them, the index of each link is the number of links after which its frames
+-- leave its bridge.
 use Rattle.std.proofs.Common.{◌≡◌, ◌∙◌, ◌+◌, ◌<◌, ◌≤◌, ◌++◌, ◌&&◌, ℕ, zero, suc, Bool, true, false, List, [], ◌∷◌, Option, Some, None, get_or, length, ap, arith, refl, subst, sym, length-append}
 use Rattle.std.specs.Prelude.{nat_le, option_and_then, slice_get, if◌then◌else◌}
 use Rattle.std.specs.List.{list_all}
@@ -22,7 +23,7 @@ use Rattle.cqf_program_placing.specs.Hops.{AreHops, LeadsBehind, has_room_behind
 use Rattle.cqf_program_placing.proofs.RouteLemmas.{bridge_of_link}
 use Rattle.cqf_program_placing.proofs.WayNames.{first_step, leads_by}
 
--- one link leads where it does
+-- a path of one link leads to the same node as the link
 one_along : (links : List Link) (node : Node) (l : ℕ) → led_along (led_to links) node (l ∷ []) ≡ led_to links node l
 one_along links node l = by (led_to links node l)
   where
@@ -30,7 +31,7 @@ one_along links node l = by (led_to links node l)
     by None = refl
     by (Some end) = refl
 
--- a way with a last link
+-- a path with a last link
 record Pushed (way : List ℕ) : Type 0 where
   front : List ℕ
   last : ℕ
@@ -40,7 +41,7 @@ pushed : (l : ℕ) (way : List ℕ) → Pushed (l ∷ way)
 pushed l [] = record { front = []; last = l; is = refl }
 pushed l (m ∷ way) = let rest = pushed m way in record { front = l ∷ rest.front; last = rest.last; is = ap (λ ls. l ∷ ls) rest.is }
 
--- a way up to a link
+-- a path up to a link
 record UpTo (way : List ℕ) (k l : ℕ) : Type 0 where
   front : List ℕ
   back : List ℕ
@@ -53,7 +54,7 @@ up_to (m ∷ way) zero l at = record { front = []; back = way; is = ap (λ n. n 
 up_to (m ∷ way) (suc k) l at =
     let rest = up_to way k l at in record { front = m ∷ rest.front; back = rest.back; is = ap (λ ls. m ∷ ls) rest.is; many = omega (arith, rest.many) }
 
--- where all of a way and a link more have room, the link has
+-- if a path that continues with a link has room, the link has room
 last_room : (room : ℕ → Bool) (front : List ℕ) (l : ℕ) (back : List ℕ) → list_all room (front ++ (l ∷ back)) ≡ true → room l ≡ true
 last_room room front l back all =
     let parts = and_parts (list_all room front) (list_all room (l ∷ back)) (sym (list_all-append room front (l ∷ back)) ∙ all) in
@@ -70,7 +71,7 @@ module _ (d : Domain) (rows : List Row) (pace : Pace) (cost bridge : ℕ) (hops 
   abbrev room : ℕ → Bool
   room = has_room left cost
 
-  -- what a link has left stands at its place
+  -- what a link has left is at its number
   many_left : length left ≡ length d.links
   many_left = length-singles (left_where d rows pace hops) (length d.links)
 
@@ -79,7 +80,7 @@ module _ (d : Domain) (rows : List Row) (pace : Pace) (cost bridge : ℕ) (hops 
       get_or-singles (left_where d rows pace hops) (length d.links) l 0 inside
       ∙ ap (λ (o : Option ℕ). option_map_or (λ n. left_behind d rows pace n l) o 0) at
 
-  -- a link has room just where it has it where frames go by it
+  -- a link has room if it has room after as many links as frames leave its bridge
   has_there : (k l : ℕ) → l < length d.links → hop_of hops (bridge_of d l) ≡ Some k → cost ≤ left_behind d rows pace k l → room l ≡ true
   has_there k l inside at enough =
       ap (λ (o : Option ℕ). option_map_or (λ octets. nat_le cost octets) o false) (slice_get-get_or left l 0 (omega (arith, inside, many_left)))
@@ -95,7 +96,7 @@ module _ (d : Domain) (rows : List Row) (pace : Pace) (cost bridge : ℕ) (hops 
           let same : octets ≡ left_behind d rows pace k l = sym (get_or_from_slice_get left l octets 0 is) ∙ left_there k l inside at in
           omega (arith, leb-true cost octets e, same)
 
-  -- a bridge that frames leave behind so many links is reached by as many
+  -- a bridge that frames leave after a number of links is reached by a path of as many
   pub way_by_hops : (j other : ℕ) → hop_of hops other ≡ Some j → (way : List ℕ) × IsWay d.links room (Bridge bridge) (Bridge other) way × (length way ≡ j)
   way_by_hops zero other at =
       ([], record { leads = ap (λ b. Some (Bridge b)) (sym (are.alone other at)); roomy = refl; few = omega arith }, refl)
@@ -120,7 +121,7 @@ module _ (d : Domain) (rows : List Row) (pace : Pace) (cost bridge : ℕ) (hops 
         omega (arith, many, length-append way (l ∷ [])),
       )
 
-  -- and a first way of as many links leads to it
+  -- and a first path of as many links leads to it
   pub hop_by_way : (n other : ℕ) (way : List ℕ) → length way ≡ n → n < 16 → IsFirstWay d.links room (Bridge bridge) (Bridge other) way → hop_of hops other ≡ Some n
   hop_by_way zero other [] many low first =
       let same : bridge ≡ other = one_bridge (same_Some (Bridge bridge) (Bridge other) first.is_way.leads) in subst (λ (b : ℕ). hop_of hops b ≡ Some 0) same are.begins
@@ -156,7 +157,7 @@ module _ (d : Domain) (rows : List Row) (pace : Pace) (cost bridge : ℕ) (hops 
       let same : j ≡ suc n = omega (arith, no_more, as_long, many, first.shortest way is) in
       at ∙ ap (λ i. Some i) same)
 
-  -- so each link of a first way has room where it stands on it
+  -- so each link of a first path has room at its index on the path
   pub room_on_way : (to : Node) (way : List ℕ) (k l : ℕ) → IsFirstWay d.links room (Bridge bridge) to way → slice_get way k ≡ Some l →
       cost ≤ left_behind d rows pace k l
   room_on_way to way k l first at =

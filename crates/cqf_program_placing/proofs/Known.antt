@@ -1,4 +1,4 @@
--- What links have left stays known while streams are placed: only that of a stream's own links is taken anew.
+-- What links have left stays known while streams are placed: only what a stream's own links have left is recomputed.
 use Rattle.std.proofs.Common.{◌≡◌, ◌≢◌, ◌∙◌, ◌+◌, ◌-◌, ◌<◌, ◌≤◌, ◌⊎◌, ◌++◌, ◌==◌, ◌&&◌, ℕ, All, Bool, true, false, List, [], ◌∷◌, Option, Some, None, Contains, length, fold, get_or, map, max, set, take, ap, arith, inl, inr, refl, subst, subst₂, sym}
 use Rattle.std.specs.Prelude.{IsSome, if◌then◌else◌, is_none, nat_le, nat_lt, not, position, sum_by}
 use Rattle.std.specs.List.{flat_map, list_any}
@@ -32,13 +32,13 @@ use Rattle.cqf_program_placing.specs.Known.{AreKnown, AreRenewed, IsFilled, IsKn
 use Rattle.cqf_program_placing.specs.Turns.{IsChosenBy, IsGoodEvery, hop_at, left_emptiest, lefts_on, pace_by}
 use Rattle.cqf_program_placing.proofs.RouteLemmas.{left_there, lefts_many}
 
--- ---- taken anew
+-- ---- recomputed
 
--- no link's so far
+-- for no link so far
 pub none_renewed : (now : ℕ → ℕ) (before : List ℕ) → AreRenewed now [] before before
 none_renewed now before = record { as_many = refl; each = λ l inside. inr (refl, λ c. contains_none l c) }
 
--- one link's more
+-- for one link more
 pub renewed_more : (now : ℕ → ℕ) (tree : List Hop) (i link left : ℕ) (before so_far : List ℕ) → i < length tree → link ≡ (get_or tree i (hop_at 0)).link →
     AreRenewed now (links_in (take i tree)) before so_far → link < length before → left ≡ now link →
     AreRenewed now (links_in (take (i + 1) tree)) before (set so_far link left)
@@ -71,7 +71,7 @@ pub known_is_filled : (d : Domain) (rows : List Row) (emptiest : Emptiest) → I
 known_is_filled d rows emptiest known =
     record { good = known.good; each = ap length known.left ∙ lefts_many d rows emptiest.every }
 
--- what costs alike leaves alike
+-- links that cost alike have alike left
 left_alike : (d : Domain) (before after : List Row) (every l : ℕ) → ((cycle : ℕ) → link_cost after l cycle ≡ link_cost before l cycle) →
     left_emptiest d after every l ≡ left_emptiest d before every l
 left_alike d before after every l alike =
@@ -79,7 +79,7 @@ left_alike d before after every l alike =
     ap (λ (f : ℕ → ℕ). fold max 0 (each_below (λ phase. (budget d l
     - fold max 0 (each_below (λ cycle. if is_turn (pace_by every phase) 0 cycle then f cycle ∷ [] else []) most_every)) ∷ []) every)) costs
 
--- taken anew it is known again
+-- after it is recomputed it is known again
 pub known_again : (d : Domain) (before after : List Row) (links : List ℕ) (old new : Emptiest) → new.every ≡ old.every →
     AreRenewed (left_emptiest d after old.every) links old.left.items new.left.items → IsKnown d before old → TakesNothingOff before after links →
     IsKnown d after new
@@ -108,7 +108,7 @@ known_again d before after links old new every are known off = record {
 pub all_filled : (d : Domain) (rows : List Row) (rooms : Rooms) → AreKnown d rows rooms → All (IsFilled d) rooms.known.items
 all_filled d rows rooms known = λ k e within. known_is_filled d rows (get_or rooms.known.items k e) (known k e within)
 
--- where no link's costs are others, all stays known
+-- if the costs of no link change, all stays known
 pub known_alike : (d : Domain) (before after : List Row) (rooms : Rooms) → AreKnown d before rooms → TakesNothingOff before after [] → AreKnown d after rooms
 known_alike d before after rooms known off = λ k e within.
     let one = known k e within in
@@ -119,12 +119,12 @@ known_alike d before after rooms known off = λ k e within.
           (λ l below. ap (λ (n : ℕ). n ∷ []) (sym (left_alike d before after every l (off l (λ c. contains_none l c)))));
     }
 
--- one is taken anew
+-- one is recomputed
 pub record IsRenewed (d : Domain) (rows : List Row) (links : List ℕ) (old new : Emptiest) : Type 0 where
   pub every : new.every ≡ old.every
   pub left : AreRenewed (left_emptiest d rows old.every) links old.left.items new.left.items
 
--- those before a place are taken anew, and the others as they were
+-- those before an index are recomputed, and the others are as before
 pub record AreSoFar (d : Domain) (rows : List Row) (links : List ℕ) (k : ℕ) (old now : List Emptiest) : Type 0 where
   pub as_many : length now ≡ length old
   pub done : (i : ℕ) (none : Emptiest) → i < k → i < length old → IsRenewed d rows links (get_or old i none) (get_or now i none)
@@ -169,9 +169,9 @@ module _ (d : Domain) (rows : List Row) (links : List ℕ) where
       let renewed = so_far.done i e (omega (arith, among, all)) among in
       known_again d before rows links (get_or old i e) (get_or now i e) renewed.every renewed.left (known i e among) off
 
--- ---- a stream is asked for
+-- ---- a stream is requested
 
--- a stream costs nothing off its own links
+-- a stream costs nothing on links that aren't its own
 costs_none_off : (one : Row) (l cycle : ℕ) → (Contains (links_in one.tree.items) l → ⊥) → cost_on one l cycle ≡ 0
 costs_none_off one l cycle off =
     cond-false (uses one.tree.items one.pace l cycle) (cost_of one.octets) 0
@@ -187,12 +187,12 @@ row_takes_off rows one l off cycle =
     plain : link_cost rows l cycle + 0 ≡ link_cost rows l cycle
     plain = omega arith
 
--- the links of a tree, where there is one
+-- the links of a tree, if there is one
 abbrev pub links_of : Option (ArrayVec Hop) → List ℕ
 links_of None = []
 links_of (Some tree) = links_in tree.items
 
--- of refusals in a row none is due where none of all is
+-- if none of several refusals in a row is due, no later one is
 behind_if : (b : Bool) (refused : Refused) (later : Option Refused) → or_else (refused_if b refused) later ≡ None → later ≡ None
 behind_if true refused later e = absurd cc
 behind_if false refused later e = e
@@ -226,13 +226,13 @@ is_some_none : (o : Option Refused) → o ≡ None → IsSome o → ⊥
 is_some_none None e given = absurd cc
 is_some_none (Some refused) e given = absurd cc
 
--- and of branches that make none no phase is chosen
+-- and for branches that make no tree no phase is chosen
 pub none_chosen : (d : Domain) (rows : List Row) (cost : ℕ) (paths : List Branch) (every : ℕ) (refusal : Option Refused) → IsSome refusal →
     IsChosenBy d rows cost paths every refusal 0
 none_chosen d rows cost paths every None given = absurd cc
 none_chosen d rows cost paths every (Some refused) given = refl
 
--- so of those that make none nothing is held, and what is held of others takes nothing off other links
+-- so a stream whose branches make no tree isn't held, and any other stream takes nothing from other links
 pub asked_takes_off : (d : Domain) (entries after : List Recorded) (asked : Asked) (tree : Option (ArrayVec Hop)) → GrantedIsHeld → RefusedChangesNothing →
     IsLegalHistory d entries → MakeTree d asked.paths tree → after ≡ with_asked d entries asked →
     TakesNothingOff (held_in d entries (seals entries)) (held_in d after (seals after)) (links_of tree)

@@ -1,4 +1,4 @@
--- Whether links lead from a node to a node, and the ways that do.
+-- Whether links lead from a node to a node, and the paths that do.
 use Rattle.std.proofs.Common.{◌≡◌, ◌∙◌, ◌≤◌, ◌<◌, ◌||◌, ℕ, zero, suc, Bool, true, false, List, [], ◌∷◌, Option, Some, None, length, refl}
 use Rattle.std.proofs.Common.{ap, arith, inl, inr, replicate, subst, sym, take}
 use Rattle.std.specs.Prelude.{MatchOption, is_some, option_and_then, slice_get}
@@ -20,7 +20,7 @@ use Rattle.cqf_sketch.specs.WayLaws.{NothingHasRoomEverywhere}
 use Rattle.cqf_sketch.specs.Ways.{has_room, IsFirstWay, NoWay, led_by, led_to, most_links}
 use Rattle.cqf_program_placing.specs.Settled.{is_led}
 
--- a way of at most so many links
+-- a path of at most `most` links
 pub record WayWithin (links : List Link) (most : ℕ) (node to : Node) : Type 0 where
   pub way : List ℕ
   pub few : length way ≤ most
@@ -34,7 +34,7 @@ link_there links node end l e = by_link (slice_get links l) refl e
     by_link None is none = absurd cc
     by_link (Some link) is some = slice_get_within links l link is
 
--- a way leads there, so links do
+-- a path leads there, so links do
 pub way_is_led : (links : List Link) (most : ℕ) (node to : Node) (way : List ℕ) → length way ≤ most → led_along (led_to links) node way ≡ Some to →
     is_led links most node to ≡ true
 unfolding is_led
@@ -64,12 +64,12 @@ way_is_led links (suc most) node to (l ∷ way) few leads =
         let inside = contains_below (λ k. k ∷ []) (length links) l l (link_there links node next l is) (contains_here l []) in
         or_true (same_node node to) _ (member_any test (each_below (λ k. k ∷ []) (length links)) l inside passes)
 
--- each link of a way passes no test
+-- each link of a path passes the test that is always true
 all_pass : (way : List ℕ) → list_all (λ l. true) way ≡ true
 all_pass [] = refl
 all_pass (l ∷ way) = all_pass way
 
--- links lead there, so a way does
+-- links lead there, so a path does
 pub led_has_way : (links : List Link) (most : ℕ) (node to : Node) → is_led links most node to ≡ true → WayWithin links most node to
 unfolding is_led
 led_has_way links zero node to e = record { way = []; few = omega arith; leads = ap Some (same_node_true node to e) }
@@ -93,7 +93,7 @@ led_has_way links (suc most) node to e = elim (cases_Bool (same_node node to)) [
           leads = ap (λ o. option_and_then (λ end. led_along (led_to links) end more.way) o) is ∙ more.leads;
         }
 
--- a search for the first way finds one just where links lead there
+-- a search for the first path finds one if and only if links lead there
 pub first_is_led : (links : List Link) (room : ℕ → Bool) (from to : Node) (way : List ℕ) → IsFirstWay links room from to way →
     is_led links most_links from to ≡ true
 first_is_led links room from to way first = way_is_led links most_links from to way first.is_way.few first.is_way.leads

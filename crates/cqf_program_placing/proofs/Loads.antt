@@ -13,7 +13,7 @@ use Rattle.cqf_program_placing.specs.Turns.{IsLeastLoaded, are_less, is_less_ful
 
 -- ---- fractions a/b, c/d and e/f, none of them 0/0
 
--- one that is no more than a second is no more than a third that the second is no more than
+-- if a first is no more than a second, and the second no more than a third, the first is no more than the third
 trans : (a b c d e f : ℕ) → 0 < c + d → a * d ≤ c * b → c * f ≤ e * d → a * f ≤ e * b
 trans a b c zero e zero some one two = omega arith
 trans a b c zero e (suc f) some one two =
@@ -24,7 +24,7 @@ trans a b c (suc d) e f some one two =
     let all : a * f * suc d ≤ e * b * suc d = omega (arith, first, second) in
     le_of_mul-le-mul_right all (omega arith)
 
--- one that is less than a second is less than a third that the second is no more than
+-- if a first is less than a second, and the second no more than a third, the first is less than the third
 less_trans : (a b c d e f : ℕ) → 0 < e + f → a * d < c * b → c * f ≤ e * d → a * f < e * b
 less_trans a zero c d e f some one two = absurd (omega (arith, one))
 less_trans a (suc b) zero d e f some one two = absurd (omega (arith, one))
@@ -36,7 +36,7 @@ less_trans a (suc b) (suc c) d e (suc f) some one two =
     let all : a * suc f * d < e * suc b * d = omega (arith, first, second) in
     lt_of_mul-lt-mul_right d all
 
--- one that is no more than a second is less than a third that the second is less than
+-- if a first is no more than a second, and the second less than a third, the first is less than the third
 trans_less : (a b c d e f : ℕ) → 0 < a + b → a * d ≤ c * b → c * f < e * d → a * f < e * b
 trans_less a b c zero e f some one two = absurd (omega (arith, two))
 trans_less a zero c (suc d) e f some one two =
@@ -49,7 +49,7 @@ trans_less a (suc b) c (suc d) e f some one two =
 
 -- ---- two shares
 
--- one is no greater than the other, or less
+-- one is no greater than the other, or it is less
 abbrev pub IsNoFuller : BudgetShare → BudgetShare → Type 0
 IsNoFuller share other = share.held * other.budget ≤ other.held * share.budget
 
@@ -70,12 +70,12 @@ by_no_less x y l = le-ltb (y.held * x.budget) (x.held * y.budget) l
 
 -- ---- loads that are compared
 
--- of each something is held
+-- something is held of each
 abbrev pub AreHeld : List BudgetShare → Type 0
 AreHeld [] = ⊤
 AreHeld (share ∷ loads) = (1 ≤ share.held) × AreHeld loads
 
--- what it is to be less: the first share is, or it isn't more, and the others are less
+-- loads are less than others if the first share is less, or if it isn't more and the other shares are less
 less_parts : (first back rest : Bool) → (first || (not back && rest)) ≡ true → (first ≡ true) ⊎ ((back ≡ false) × (rest ≡ true))
 less_parts true back rest t = inl refl
 less_parts false true rest t = absurd cc
@@ -105,7 +105,7 @@ no_less_later true back rest f t = absurd cc
 no_less_later false true rest f t = refl
 no_less_later false false rest f t = t
 
--- loads that are less than others are less than those that aren't less than these
+-- if loads are less than second ones, and third ones aren't less than these, the first are less than the third
 pub less_all : (xs ys zs : List BudgetShare) → AreHeld xs → AreHeld ys → AreHeld zs → are_less xs ys ≡ true → are_less zs ys ≡ false →
     are_less xs zs ≡ true
 less_all xs [] zs a b c less isnt = absurd cc
@@ -132,7 +132,7 @@ less_all (x ∷ xs) (y ∷ ys) (z ∷ zs) a b c less isnt =
           ]
     ]
 
--- of two loads one at most is less than the other
+-- of two loads at most one is less than the other
 pub never_both : (xs ys : List BudgetShare) → are_less xs ys ≡ true → are_less ys xs ≡ false
 never_both xs [] less = absurd cc
 never_both [] (y ∷ ys) less = refl
@@ -155,7 +155,7 @@ pub record IsFullest (shares : Hop → BudgetShare) (tree : List Hop) (fullest :
   pub among : Contains tree there
   pub of_hop : fullest ≡ shares there
 
--- it stands first among the loads
+-- it is the first of the loads
 abbrev pub StandsFirst : (Hop → BudgetShare) → List Hop → List BudgetShare → Type 0
 StandsFirst shares tree [] = (hop : Hop) → Contains tree hop → ⊥
 StandsFirst shares tree (most ∷ loads) = IsFullest shares tree most
@@ -166,7 +166,7 @@ module _ (shares : Hop → BudgetShare) (held : (hop : Hop) → 1 ≤ (shares ho
   held_first tree most is =
       let some : 1 ≤ most.held = subst (λ (s : BudgetShare). 1 ≤ s.held) (sym is.of_hop) (held is.there) in omega (arith, some)
 
-  -- one hop more that is fuller
+  -- one more hop, which is fuller
   fullest_more : (tree : List Hop) (hop : Hop) (most : BudgetShare) → IsFullest shares tree most → IsLessFull most (shares hop) →
       IsFullest shares (tree ++ hop ∷ []) (shares hop)
   fullest_more tree hop most so_far less = record {
@@ -182,7 +182,7 @@ module _ (shares : Hop → BudgetShare) (held : (hop : Hop) → 1 ≤ (shares ho
     of_hop = refl;
   }
 
-  -- and one that isn't
+  -- one more hop, which isn't fuller
   fullest_same : (tree : List Hop) (hop : Hop) (most : BudgetShare) → IsFullest shares tree most → IsNoFuller (shares hop) most →
       IsFullest shares (tree ++ hop ∷ []) most
   fullest_same tree hop most so_far no_more = record {
@@ -245,7 +245,7 @@ module _ (shares : Hop → BudgetShare) (held : (hop : Hop) → 1 ≤ (shares ho
   pub loads_held : (tree : List Hop) → AreHeld (loads_down shares tree)
   loads_held tree = held_behind tree [] tt
 
--- where loads aren't less than those of a tree, none of that tree's hops is fuller than some one of theirs
+-- if loads aren't less than those of a tree, none of the tree's hops is fuller than some hop of theirs
 pub some_as_full : (shares others : Hop → BudgetShare) (tree : List Hop) → ((hop : Hop) → 1 ≤ (shares hop).held) → ((hop : Hop) → 1 ≤ (others hop).held) →
     are_less (loads_down others tree) (loads_down shares tree) ≡ false → (hop : Hop) → Contains tree hop →
     (there : Hop) × Contains tree there × IsNoFuller (shares hop) (others there)
@@ -267,7 +267,7 @@ some_as_full shares others tree held also isnt hop c =
 -- ---- put in their places
 
 module _ (share : BudgetShare) (loads : List BudgetShare) where
-  -- those before a place are no less
+  -- those before an index are no less
   abbrev pub AreNoLess : ℕ → Type 0
   AreNoLess place = put_down share loads ≡ take place loads ++ put_down share (drop place loads)
 
@@ -316,10 +316,10 @@ loads_more shares tree k none loads after share inside so_far is more =
     ∙ sym (fold-append step [] (take k tree) (get_or tree k none ∷ []))
     ∙ ap (fold step []) (sym (take_more tree k none inside))
 
--- ---- loads that are compared place by place
+-- ---- loads that are compared index by index
 
 module _ (loads others : List BudgetShare) where
-  -- what is behind a place decides
+  -- what follows an index decides
   pub record AreAlikeSoFar (place : ℕ) : Type 0 where
     pub few : place ≤ length loads
     pub rest : are_less loads others ≡ are_less (drop place loads) (drop place others)
@@ -349,7 +349,7 @@ module _ (loads others : List BudgetShare) where
       more_there isnt more =
           sym (opened ∙ more_at_once (is_less_full x y) (is_less_full y x) (are_less (drop (place + 1) loads) (drop (place + 1) others)) isnt more)
 
-      -- and else those behind
+      -- and if these don't differ, those after them decide
       pub alike_there : is_less_full x y ≡ false → is_less_full y x ≡ false → AreAlikeSoFar (place + 1)
       alike_there isnt also = record {
         few = omega (arith, within);
@@ -365,7 +365,7 @@ module _ (loads others : List BudgetShare) where
 cases_last : (k n : ℕ) → k < n + 1 → (k ≡ n) ⊎ (k < n)
 cases_last k n low = elim (cases_lt k n) [ inl before ↦ inr before | inr beyond ↦ inl (omega (arith, low, beyond)) ]
 
--- the first of so many phases whose loads are the least
+-- the first of `count` phases whose loads are the least
 pub record IsLeastSoFar (loads : ℕ → List BudgetShare) (count first : ℕ) (least : List BudgetShare) : Type 0 where
   pub within : first < count
   pub is : least ≡ loads first
@@ -381,7 +381,7 @@ module _ (loads : ℕ → List BudgetShare) (held : (phase : ℕ) → AreHeld (l
     less = λ other low. absurd (omega (arith, low));
   }
 
-  -- a phase more with less loads
+  -- one more phase, with less loads
   pub least_less : (count first next : ℕ) (least new after : List BudgetShare) → IsLeastSoFar loads count first least → new ≡ loads count →
       are_less new least ≡ true → next ≡ count → after ≡ new → IsLeastSoFar loads (count + 1) next after
   least_less count first next least new after so_far is less next_is after_is =
@@ -401,7 +401,7 @@ module _ (loads : ℕ → List BudgetShare) (held : (phase : ℕ) → AreHeld (l
       below : (other : ℕ) → other < count → are_less (loads count) (loads other) ≡ true
       below other low = less_all (loads count) (loads first) (loads other) (held count) (held first) (held other) here (so_far.no_less other low)
 
-  -- and one without
+  -- one more phase, whose loads aren't less
   pub least_same : (count first next : ℕ) (least new after : List BudgetShare) → IsLeastSoFar loads count first least → new ≡ loads count →
       are_less new least ≡ false → next ≡ first → after ≡ least → IsLeastSoFar loads (count + 1) next after
   least_same count first next least new after so_far is isnt next_is after_is =

@@ -27,7 +27,7 @@ use Rattle.cqf_program_placing.specs.Settled.{IsPlaceable, SettledStream, are_re
 use Rattle.cqf_program_placing.specs.declared.turns.Turns.{Turns}
 use Rattle.cqf_program_placing.specs.Turns.{IsPhaseAlong, can_step, every_in}
 
--- one stream more is placed behind the others
+-- one more stream is placed after the others
 pub placed_more : (d : Domain) (start entries after : List Recorded) (streams : List SettledStream) (stream : SettledStream) (outcomes : List PlacedOr)
     (become : PlacedOr) → ArePlacedFrom d start streams outcomes entries → IsPlacing d entries stream become after →
     ArePlacedFrom d start (streams ++ stream ∷ []) (outcomes ++ become ∷ []) after
@@ -73,7 +73,7 @@ reserved_few octets (Some needs) reserved may e = by_needs (nat_lt most_reserved
     by_needs true is e = absurd cc
     by_needs false is e = by_octets octets may (grind (arith, nat_tests)) e
 
--- what a cycle needs of a stream is far from the greatest number of 64 bits
+-- what a stream needs in a cycle is far below the greatest number of 64 bits
 pub needed_few : (cycle_time : ℕ) (t : TrafficText) → cycle_time ≤ 10000000 → IsTrafficText t → needed cycle_time (promise_of t) < 2 ^ 64
 needed_few cycle_time t short inside =
     let intervals : ℕ = intervals_in cycle_time (promise_of t) in
@@ -83,7 +83,7 @@ needed_few cycle_time t short inside =
     let octets : intervals * t.frames * t.size ≤ 2010000000000 * t.size = mul-le-mul_right t.size (omega (arith, frames, inside.frames.most)) in
     omega (arith, octets, inside.size.most)
 
--- some frame of 64 octets comes in a cycle, or more
+-- at least one frame of 64 octets is sent in a cycle
 pub needed_least : (cycle_time : ℕ) (t : TrafficText) → 1 ≤ cycle_time → IsTrafficText t → 64 ≤ needed cycle_time (promise_of t)
 needed_least cycle_time t some inside =
     let intervals : ℕ = intervals_in cycle_time (promise_of t) in
@@ -110,14 +110,14 @@ reserved_enough octets needs reserved h = by (nat_lt most_reserved needs) h
     by true taken = absurd cc
     by false taken = if_enough_enough octets needs reserved taken
 
--- so something is
+-- so it is at least 1
 pub reserved_some : (octets : Option ℕ) (t : TrafficText) (cycle_time : ℕ) (found : Result ℕ PlanFault) → 1 ≤ cycle_time → IsTrafficText t →
     found ≡ reserved_by octets (Some (needed cycle_time (promise_of t))) → IfOk found (λ reserved. 1 ≤ reserved)
 reserved_some octets t cycle_time (Err e) some inside is = tt
 reserved_some octets t cycle_time (Ok reserved) some inside is =
     omega (arith, needed_least cycle_time t some inside, reserved_enough octets (needed cycle_time (promise_of t)) reserved (sym is))
 
--- placing a stream closes no cycle, and makes one call at most
+-- placing a stream closes no cycle, and makes at most one call
 record AreFew (entries after : List Recorded) : Type 0 where
   no_seal : seals after ≡ 0
   one_more : length after ≤ length entries + 1
@@ -181,7 +181,7 @@ pub unreserved : (d : Domain) (entries : List Recorded) (stream : SettledStream)
 unreserved d entries stream found is =
     let P : Result ℕ PlanFault → Type 0 = λ reserved. IsPlacedBy d entries stream reserved (Unplaced found) entries in subst P is (refl, refl)
 
--- what becomes of one with this reservation becomes of it
+-- the outcome with this reservation is the outcome of the stream
 pub reserved_so : (d : Domain) (entries : List Recorded) (stream : SettledStream) (octets : ℕ) (turns : Turns) (become : PlacedOr) (after : List Recorded) →
     Ok octets ≡ reserved_on d.cycle_time d.sync stream → turns ≡ turns_on d.cycle_time stream → IsRoutedAndAnswered d entries stream octets turns become after →
     IsPlacing d entries stream become after
@@ -199,7 +199,7 @@ unrouted_so d entries stream octets cost turns found is routed = record {
   is_answered = (refl, refl);
 }
 
--- what becomes of one that is asked for along its branches
+-- the outcome of a stream that is requested along its branches
 pub asked_so : (d : Domain) (entries : List Recorded) (called : List ℕ) (octets every phase cost : ℕ) (turns : Turns) (name : List ℕ) (paths : List Branch)
     (become : PlacedOr) (after : List Recorded) → every ≡ every_in turns → cost ≡ cost_of octets →
     IsPhaseAlong d (held_in d entries (seals entries)) cost paths turns phase → name ≡ called →
@@ -239,7 +239,7 @@ pub all_made : {X Y : Type 0} (items : List X) (value : X → Y) (k : ℕ) (done
     map value items ≡ rows → done ≡ rows
 all_made items value k done rows so_far past are = so_far ∙ ap (λ xs. map value xs) (take_all k items past) ∙ are
 
--- the rows of the streams that are held, where no cycle is closed, are what held streams are in cycle 0
+-- the rows of the streams that are held, if no cycle is closed, are what held streams are in cycle 0
 pub sound_rows : (a : Administration) (rows : List Row) → HeldAreSound → IsLegalHistory a.domain a.entries → seals a.entries ≡ 0 → rows ≡ held_of a →
     (next : ℕ) × AreHeld a.domain rows next 0
 sound_rows a rows sound legal none same =

@@ -1,4 +1,4 @@
--- What settled streams have that were read of a sketch's text.
+-- What settled streams have that were read from a network file's text.
 use Rattle.std.proofs.Common.{◌≡◌, ◌≢◌, ◌∙◌, ◌+◌, ◌-◌, ◌<◌, ◌≤◌, ◌==◌, ℕ, zero, suc, Bool, true, false, ◌&&◌, ◌||◌, List, [], ◌∷◌, Option, Some, None, Ok, Err}
 use Rattle.std.proofs.Common.{AllPairs, Contains, IfSome, cond, length, ok_or, option_map, position, refl, ap, subst, sym, inl, inr, arith}
 use Rattle.std.specs.Prelude.{is_none, nat_le, nat_lt}
@@ -38,7 +38,7 @@ abbrev pub AreListeners : WantedText → Type 0
 AreListeners (AlongText paths) = Unit {0}
 AreListeners (BetweenText from to) = (0 < length to) × AllPairs (λ a b. a ≢ b) to
 
--- what a stream has that was read: octets that it asks for, or traffic; traffic within its ranges; and listeners
+-- what a stream has that was read: requested octets, or traffic; traffic within its ranges; and listeners
 pub record IsReadStream (stream : StreamText) : Type 0 where
   pub reserves : stream.octets ≡ None → stream.traffic ≡ None → ⊥
   pub traffic : IfSome stream.traffic IsTrafficText
@@ -66,7 +66,7 @@ pub record IsReady (d : Domain) (stream : SettledStream) : Type 0 where
 
 -- ---- its reservation
 
--- octets that may be reserved are no fewer than the fewest
+-- octets that may be reserved are no fewer than the least
 least_octets : (octets : ℕ) → are_reservable (Some octets) ≡ true → 64 ≤ octets
 least_octets octets may = leb-true 64 octets (and_parts (nat_le 64 octets) (nat_le octets most_reserved) may).0
 
@@ -108,7 +108,7 @@ reserved_least d stream cycle_time sync octets some ready e = least_by stream.oc
 
 -- ---- its listeners
 
--- a station a name
+-- a station for a name
 so_many : (d : Domain) (names : List (List ℕ)) (stations : List ℕ) → stations_by_name d names ≡ Ok stations → length stations ≡ length names
 so_many d [] stations e = let nil : [] ≡ stations = cc in ap length (sym nil)
 so_many d (name ∷ names) stations e =
@@ -130,7 +130,7 @@ of_name d (name ∷ names) stations s e c =
       | inr later ↦ let r = of_name d names both.more s both.others_are later in (r.0, contains_later name names r.0 r.1, r.2)
     ]
 
--- so names that differ are those of stations that do
+-- so different names are those of different stations
 stations_apart : (d : Domain) (names : List (List ℕ)) (stations : List ℕ) → stations_by_name d names ≡ Ok stations → AllPairs (λ a b. a ≢ b) names →
     AllPairs (λ a b. a ≢ b) stations
 stations_apart d [] stations e apart =
@@ -149,7 +149,7 @@ stations_apart d (name ∷ names) stations e apart =
 -- ---- its branches
 
 module _ (sketch : SketchDomain) (cycle other : ℕ) where
-  -- a link between two nodes of a sketch's plant is the same whatever the cycle time
+  -- a link between two nodes of a network file's domain is the same at any cycle time
   same_link : (from to : Option Node) → link_from (domain_at sketch cycle) from to ≡ link_from (domain_at sketch other) from to
   same_link None to = refl
   same_link (Some (Bridge b)) None = refl
@@ -157,7 +157,7 @@ module _ (sketch : SketchDomain) (cycle other : ℕ) where
   same_link (Some (Bridge b)) (Some to) = refl
   same_link (Some (Station s)) (Some to) = refl
 
-  -- so a branch is broken at the same places
+  -- so a branch is broken at the same positions
   same_broken : (branch : Branch) (place : ℕ) → is_broken_at (domain_at sketch cycle) branch place ≡ is_broken_at (domain_at sketch other) branch place
   same_broken branch place =
       let d : Domain = domain_at sketch other in
@@ -183,7 +183,7 @@ module _ (sketch : SketchDomain) (cycle other : ℕ) where
   same_tree : (paths : List Branch) → tree_of (domain_at sketch cycle) paths ≡ tree_of (domain_at sketch other) paths
   same_tree paths = (λ i. each_once (λ (a b : Hop). a.link == b.link) (flat_map (λ branch. same_hops branch i) paths))
 
-  -- and branches that are a tree of it are one
+  -- and branches that are a tree at one cycle time are one at another
   pub same_branches : (paths : List Branch) → tree_refusal (domain_at sketch cycle) paths ≡ None →
       AreBranches (domain_at sketch other) paths × AreFew (domain_at sketch other) paths
   same_branches paths e =
@@ -230,7 +230,7 @@ module _ (sketch : SketchDomain) (cycle other : ℕ) where
       } in
       subst (IsGoodWay (domain_at sketch other)) is good
 
-  -- a stream that was read, and is settled behind others, is ready
+  -- a stream that was read, and is settled after others, is ready
   pub next_ready : (before : List (List ℕ)) (text : StreamText) (one : SettledStream) → HasTalkerLinks sketch → IsReadStream text →
       settled_next sketch (domain_at sketch cycle) before text ≡ Ok one → IsReady (domain_at sketch other) one
   next_ready before text one talkers read e =

@@ -1,4 +1,4 @@
--- Streams are placed where there is room.
+-- Streams are placed if there is room.
 use Rattle.std.proofs.Common.{◌≡◌, ◌∙◌, ◌+◌, ◌-◌, ◌*◌, ◌<◌, ◌≤◌, ◌++◌, ℕ, suc, true, false, ◌&&◌, List, [], ◌∷◌, Option, Some, None, Result, Ok, Err}
 use Rattle.std.proofs.Common.{All, Contains, ext_get_or, get_or, length, map, not, option_map, ap, arith, inl, inr, mul-le-mul_right, refl, subst, subst₂, sym}
 use Rattle.std.specs.Prelude.{nat_le, nat_lt}
@@ -57,7 +57,7 @@ use Rattle.cqf_program_placing.proofs.Stepping.{is_good_pace, pace_is_good, turn
 
 -- ---- what admission answers
 
--- nothing is to be said against a request of this name and with these octets, whatever its branches
+-- no request of this name and with these octets is refused for them, with any branches
 pub record MayAsk (d : Domain) (rows : List Row) (name : List ℕ) (octets : ℕ) : Type 0 where
   pub named : is_name name ≡ true
   pub least_octets : 64 ≤ octets
@@ -70,7 +70,7 @@ module _ (d : Domain) (rows : List Row) (name : List ℕ) (octets every phase : 
   abbrev lacks_room : ℕ → Refused
   lacks_room l = refused.BudgetShort l (left_on d rows (tree_of d paths) (pace_by every phase) l)
 
-  -- where its branches are those of a tree, and it has a pace, it is refused for their hops, for want of room, or for nothing
+  -- if its branches are those of a tree, and it has a pace, it is refused for their hops, for lack of room, or not at all
   refused_on_tree : refusal_of d rows (asked_with name octets every phase paths)
       ≡ or_else (refused_if (nat_lt (hops_within d.limits) (length (tree_of d paths))) refused.TooManyHops)
       (refused_at lacks_room (short_link d rows (cost_of octets) (pace_by every phase) (tree_of d paths)))
@@ -92,7 +92,7 @@ module _ (d : Domain) (rows : List Row) (name : List ℕ) (octets every phase : 
       (or_else (refused_if (may.name_free i) refused.NameHeld)
       (or_else (refused_if (many i) refused.TooManyStreams) short))))))))))
 
-  -- where it has more hops than may be it is refused for these
+  -- if it has more hops than are allowed, it is refused for these
   wide_so : (become : PlacedOr) → hops_within d.limits < length (tree_of d paths) →
       become ≡ answered d (asked_with name octets every phase paths) (refusal_of d rows (asked_with name octets every phase paths)) →
       become ≡ Unplaced (fault.Refused refused.TooManyHops)
@@ -101,21 +101,21 @@ module _ (d : Domain) (rows : List Row) (name : List ℕ) (octets every phase : 
       is ∙ ap (answered d (asked_with name octets every phase paths))
       (refused_on_tree ∙ ap (λ b. or_else (refused_if b refused.TooManyHops) short) (lt-ltb (hops_within d.limits) (length (tree_of d paths)) wide))
 
-  -- and else for want of room, or for nothing
+  -- else it is refused for lack of room, or not at all
   refused_for_room : AreFew d paths → refusal_of d rows (asked_with name octets every phase paths)
       ≡ refused_at lacks_room (short_link d rows (cost_of octets) (pace_by every phase) (tree_of d paths))
   refused_for_room few =
       let short = refused_at lacks_room (short_link d rows (cost_of octets) (pace_by every phase) (tree_of d paths)) in
       refused_on_tree ∙ ap (λ b. or_else (refused_if b refused.TooManyHops) short) (le-ltb (hops_within d.limits) (length (tree_of d paths)) few)
 
-  -- where no link lacks room it is granted
+  -- if no link lacks room, it is granted
   granted_so : (become : PlacedOr) → AreFew d paths → short_link d rows (cost_of octets) (pace_by every phase) (tree_of d paths) ≡ None →
       become ≡ answered d (asked_with name octets every phase paths) (refusal_of d rows (asked_with name octets every phase paths)) →
       become ≡ Placed (asked_with name octets every phase paths)
   granted_so become few enough is =
       is ∙ ap (answered d (asked_with name octets every phase paths)) (refused_for_room few ∙ ap (refused_at lacks_room) enough)
 
-  -- and where one does, it is refused for the first
+  -- if one does, it is refused for the first
   short_so : (become : PlacedOr) (l : ℕ) → AreFew d paths → short_link d rows (cost_of octets) (pace_by every phase) (tree_of d paths) ≡ Some l →
       become ≡ answered d (asked_with name octets every phase paths) (refusal_of d rows (asked_with name octets every phase paths)) →
       become ≡ Unplaced (fault.Short (name_of_bridge d (bridge_of d l)) (name_of_end d l) (left_on d rows (tree_of d paths) (pace_by every phase) l))
@@ -124,7 +124,7 @@ module _ (d : Domain) (rows : List Row) (name : List ℕ) (octets every phase : 
 
 -- ---- phases
 
--- branches of a tree with no more hops than may be are refused for nothing
+-- branches of a tree with no more hops than are allowed aren't refused
 tree_is_good : (d : Domain) (paths : List Branch) → AreBranches d paths → AreFew d paths → tree_refusal d paths ≡ None
 tree_is_good d paths branches few =
     let within : nat_lt (hops_within d.limits) (length (tree_of d paths)) ≡ false = le-ltb (hops_within d.limits) (length (tree_of d paths)) few in
@@ -134,20 +134,20 @@ tree_is_good d paths branches few =
     (or_else (refused_at (λ branch. refused.NotATree branch) (branches.together i))
     (refused_if (within i) refused.TooManyHops)))))
 
--- so the phase is by that tree
+-- so the phase is that of the tree
 phase_on_tree : (d : Domain) (rows : List Row) (cost : ℕ) (paths : List Branch) (turns : Turns) (first : ℕ) → AreBranches d paths →
     AreFew d paths → IsPhaseAlong d rows cost paths turns first → IsPhaseOnTree d rows cost paths turns first
 phase_on_tree d rows cost paths (Given every phase) first branches few is = is
 phase_on_tree d rows cost paths (Chosen every) first branches few is =
     subst (λ (o : Option Refused). IsChosenBy d rows cost paths every o first) (tree_is_good d paths branches few) is
 
--- it is one that may be
+-- it is one that is allowed
 first_on_tree : (d : Domain) (rows : List Row) (cost : ℕ) (paths : List Branch) (turns : Turns) (first : ℕ) →
     IsPhaseOnTree d rows cost paths turns first → MayBeFirst turns first
 first_on_tree d rows cost paths (Given every phase) first is = is
 first_on_tree d rows cost paths (Chosen every) first is = is.within
 
--- and so is that of branches which are refused
+-- and so is the phase of branches that are refused
 first_along : (d : Domain) (rows : List Row) (cost : ℕ) (paths : List Branch) (turns : Turns) (first : ℕ) → AreGoodTurns turns →
     IsPhaseAlong d rows cost paths turns first → MayBeFirst turns first
 first_along d rows cost paths (Given every phase) first good is = is
@@ -162,7 +162,7 @@ paced_so : (turns : Turns) (first : ℕ) → AreGoodTurns turns → MayBeFirst t
 paced_so (Given every phase) first good is = ap (is_pace every) is ∙ good
 paced_so (Chosen every) first good is = is_good_pace every first good is
 
--- by numbers: a link of which no greater share is held than of one that has room, has it
+-- by numbers: if a link has no greater share held than another that has room, it has room
 fits : (budget left cost other there : ℕ) → 1 ≤ cost → left ≤ budget → there ≤ other → cost ≤ there →
     (budget - left + cost) * other ≤ (other - there + cost) * budget → cost ≤ left
 fits budget left cost other there some within below room no_fuller =
@@ -178,7 +178,7 @@ left_within d rows pace hop = less (budget d hop.link) (most_in_turns rows pace 
     less : (a b : ℕ) → a - b ≤ a
     less a b = omega arith
 
--- where in some phase each link of a tree has room, it has it in the one in which the loads are the least
+-- if in some phase each link of a tree has room, each has room in the phase in which the loads are the least
 room_in_first : (d : Domain) (rows : List Row) (cost every : ℕ) (paths : List Branch) (first other : ℕ) → 1 ≤ cost →
     IsLeastLoaded (loads_with d rows cost every (tree_of d paths)) every first → other < every →
     HasRoomIn d rows cost (tree_of d paths) (pace_by every other) → HasRoomIn d rows cost (tree_of d paths) (pace_by every first)
@@ -208,11 +208,11 @@ room_so d rows cost paths (Chosen every) first other some is may room = room_in_
 
 module _ (one_way : FirstWayIsOne) (no_loop : FirstWaysHaveNoLoop) (parts : FirstWaysPartForGood) (d : Domain) (good : IsDomain d) (room : MayBeWays d.limits)
     (entries : List Recorded) where
-  -- the rows beside which it is placed
+  -- the rows that are held when it is placed
   abbrev rows : List Row
   rows = held_in d entries (seals entries)
 
-  -- first ways are the same
+  -- first paths are the same
   same_ways : (left : List ℕ) (cost bridge : ℕ) (stations : List ℕ) (ways others : List (List ℕ)) → bridge < length d.bridges →
       HaveRoom d left cost bridge stations ways → HaveRoom d left cost bridge stations others → ways ≡ others
   same_ways left cost bridge stations ways others inside first also =
@@ -224,7 +224,7 @@ module _ (one_way : FirstWayIsOne) (no_loop : FirstWaysHaveNoLoop) (parts : Firs
       (way_there d good left cost bridge inside stations ways first k way (slice_get-get_or ways k [] low))
       (way_there d good left cost bridge inside stations others also k other (slice_get-get_or others k [] there)))
 
-  -- where there are ways to all, there is no first without
+  -- if there are paths to all, there is no first station without one
   not_both : (left : List ℕ) (cost bridge : ℕ) (stations : List ℕ) (ways : List (List ℕ)) (place : ℕ) → HaveRoom d left cost bridge stations ways →
       HasNoRoom d left cost bridge stations place → ⊥
   not_both left cost bridge stations ways place first without =
@@ -249,7 +249,7 @@ module _ (one_way : FirstWayIsOne) (no_loop : FirstWaysHaveNoLoop) (parts : Firs
         unplaced = λ l short. short_so d rows name octets (every_in turns) is.phase paths may paced branches become l few short is.answer;
       }
 
-  -- one whose tree has more hops than may be
+  -- a stream whose tree has more hops than are allowed
   too_wide : (name : List ℕ) (octets : ℕ) (turns : Turns) (paths : List Branch) (become : PlacedOr) (after : List Recorded) →
       MayAsk d rows name octets → AreGoodTurns turns → AreBranches d paths → hops_within d.limits < length (tree_of d paths) →
       IsAskedFor d entries name octets turns paths become after → become ≡ Unplaced (fault.Refused refused.TooManyHops)
@@ -257,7 +257,7 @@ module _ (one_way : FirstWayIsOne) (no_loop : FirstWaysHaveNoLoop) (parts : Firs
       let paced = paced_so turns is.phase good_turns (first_along d rows (cost_of octets) paths turns is.phase good_turns is.is_phase) in
       wide_so d rows name octets (every_in turns) is.phase paths may paced branches become wide is.answer
 
-  -- where it is offered in each cycle, and each link of the tree has room, it is placed
+  -- if it is offered in each cycle, and each link of the tree has room, it is placed
   each_so : (name : List ℕ) (octets : ℕ) (turns : Turns) (paths : List Branch) (become : PlacedOr) → AreGoodTurns turns → every_in turns ≡ 1 →
       IsPlacedAlong d rows name octets turns paths become → HasRoomIn d rows (cost_of octets) (tree_of d paths) each_cycle →
       become ≡ Placed (asked_with name octets 1 0 paths)
@@ -269,7 +269,7 @@ module _ (one_way : FirstWayIsOne) (no_loop : FirstWaysHaveNoLoop) (parts : Firs
       subst₂ (λ (e p : ℕ). HasRoomIn d rows (cost_of octets) (tree_of d paths) (pace_by e p)) (sym each) (sym none) room in
       is.placed is.phase may_be there ∙ (λ i. Placed (asked_with name octets (each i) (none i) paths))
 
-  -- and so is one whose phase is given
+  -- and so is a stream whose phase is given
   given_so : (name : List ℕ) (octets every phase : ℕ) (turns : Turns) (paths : List Branch) (become : PlacedOr) → turns ≡ Given every phase →
       IsPlacedAlong d rows name octets turns paths become → HasRoomIn d rows (cost_of octets) (tree_of d paths) (pace_by every phase) →
       become ≡ Placed (asked_with name octets every phase paths)
@@ -282,7 +282,7 @@ module _ (one_way : FirstWayIsOne) (no_loop : FirstWaysHaveNoLoop) (parts : Firs
     abbrev tree : List Hop
     tree = tree_of d (map (names_along d bridge) ways)
 
-    -- in the cycles that are given each link of the tree has room
+    -- in the given cycles each link of the tree has room
     given_room : (every phase : ℕ) (turns : Turns) → turns ≡ Given every phase → AreLeft d rows turns cost bridge left →
         HasRoomIn d rows cost tree (pace_by every phase)
     given_room every phase turns same are =
@@ -363,7 +363,7 @@ module _ (one_way : FirstWayIsOne) (no_loop : FirstWaysHaveNoLoop) (parts : Firs
   on_way_so name octets turns (Between bridge stations) routed become after may good_turns to found is =
       between_so name octets turns bridge stations routed become after may good_turns to found is
 
-  -- a stream that is ready, under a name that isn't held, beside few rows
+  -- a stream that is ready, under a name that isn't held, while few rows are held
   pub placed_so : (stream : SettledStream) (become : PlacedOr) (after : List Recorded) → IsReady d stream →
       list_any (λ (row : Row). is_text row.name stream.name) (held_in d entries (seals entries)) ≡ false →
       length (held_in d entries (seals entries)) < streams_within d.limits →
@@ -444,7 +444,7 @@ module _ (goes_on : HistoryGoesOn) (counted : SealsAreCounted) (grants : Granted
       (one_stream names text both.one both.more entries end outcomes behind first both.first_is
       (λ after more next later. all_streams (names ++ text.name ∷ []) texts both.more after end more next others both.others_are later)) placed
 
--- so the streams of a sketch are
+-- so the streams of a network file are
 pub placed_by_room : HistoryGoesOn → SealsAreCounted → GrantedIsHeld → RefusedChangesNothing → FirstWayIsOne → FirstWaysHaveNoLoop → FirstWaysPartForGood →
     PlacedWhereThereIsRoom
 placed_by_room goes_on counted grants refuses one_way no_loop parts sketch text texts streams cycle placed is_sketch room is_open read settled domain are =

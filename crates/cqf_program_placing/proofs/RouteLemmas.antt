@@ -1,4 +1,4 @@
--- Ways of a domain as branches, and links that lack room.
+-- Paths of a domain as branches, and links that lack room.
 use Rattle.std.proofs.Common.{◌≡◌, ◌∙◌, ◌+◌, ◌<◌, ◌++◌, ℕ, Bool, true, List, [], ◌∷◌, Option, Some, None, Ok, Contains, inl, inr, length, get_or, map, take, arith, ap, refl, subst, sym, append_assoc}
 use Rattle.std.specs.Prelude.{not, option_and_then, option_map, slice_get}
 use Rattle.std.specs.List.{list_all}
@@ -34,7 +34,7 @@ use Rattle.cqf_program_placing.specs.Settled.{Between, IsOnWay, is_led}
 use Rattle.cqf_program_placing.specs.Turns.{left_emptiest, lefts_on, pace_by}
 use Rattle.cqf_program_placing.proofs.LedLemmas.{led_has_way}
 
--- what is made of the elements so far, with that of one more
+-- what is made of the elements so far, and then of one more
 pub made_more : {X Y Z : Type 0} (value : Z → Y) (f : X → Y) (xs : List X) (k : ℕ) (x d : X) (front : List Y) (done after : List Z) (new : Z) → k < length xs →
     x ≡ get_or xs k d → after ≡ done ++ new ∷ [] → value new ≡ f x → map value done ≡ front ++ map f (take k xs) →
     map value after ≡ front ++ map f (take (k + 1) xs)
@@ -54,7 +54,7 @@ to_node d l link accepted is = (accepted.links_good l link is).to_node
 pub bridge_of_link : (d : Domain) (l : ℕ) (link : Link) → slice_get d.links l ≡ Some link → bridge_of d l ≡ link.from
 bridge_of_link d l link is = ap (λ o. option_map_or (λ (x : Link). x.from) o 0) is
 
--- the name of the node that it ends in
+-- the name of the node in which it ends
 pub name_at_end : (d : Domain) (l : ℕ) (link : Link) (node : Node) → slice_get d.links l ≡ Some link → link.to ≡ node → name_of_end d l ≡ name_of_node d node
 name_at_end d l link node is to =
     ap (λ o. option_map_or (name_of_node d) o []) (ap (option_map (λ (x : Link). x.to)) is) ∙ ap (name_of_node d) to
@@ -67,7 +67,7 @@ link_there links node end l e = by_link (slice_get links l) refl e
     by_link None is none = absurd cc
     by_link (Some link) is some = slice_get_within links l link is
 
--- so the links of a way are
+-- so the links of a path are
 way_inside : (links : List Link) (from to : Node) (way : List ℕ) → led_along (led_to links) from way ≡ Some to → (l : ℕ) → Contains way l → l < length links
 way_inside links from to [] leads l c = absurd (contains_none l c)
 way_inside links from to (step ∷ way) leads l c = by_step (λ end more later. way_inside links end to way more l later) (led_to links from step) refl leads
@@ -86,7 +86,7 @@ pub short_inside : (links : List Link) (left : List ℕ) (cost : ℕ) (from to :
 short_inside links left cost from to way l leads short =
     way_inside links from to way leads l (find_member (λ k. not (has_room left cost k)) way l short).0
 
--- the links of an accepted domain are no more than are represented, and leave no more bridges
+-- an accepted domain has no more links than are represented, and they leave no more bridges than are represented
 pub are_links : (d : Domain) (links : List Link) → links ≡ d.links → IsAccepted d → AreLinks links
 are_links d links same accepted = subst AreLinks (sym same) (record {
   few = few_links d accepted;
@@ -95,19 +95,19 @@ are_links d links same accepted = subst AreLinks (sym same) (record {
       omega (arith, good.from_bridge, few_bridges d accepted);
 })
 
--- what a link has left stands at its place
+-- what a link has left is at its number
 pub lefts_many : (d : Domain) (rows : List Row) (every : ℕ) → length (lefts_on d rows every) ≡ length d.links
 lefts_many d rows every = length-singles (left_emptiest d rows every) (length d.links)
 
 pub left_there : (d : Domain) (rows : List Row) (every l : ℕ) → l < length d.links → get_or (lefts_on d rows every) l 0 ≡ left_emptiest d rows every l
 left_there d rows every l inside = get_or-singles (left_emptiest d rows every) (length d.links) l 0 inside
 
--- a way asks for nothing where each link has room
+-- a path costs nothing if each link has room
 all_pass : (way : List ℕ) → list_all (λ l. true) way ≡ true
 all_pass [] = refl
 all_pass (l ∷ way) = all_pass way
 
--- where links lead to a station, it is reached
+-- if links lead to a station, it is reached
 led_reached : (d : Domain) (most bridge station : ℕ) → most ≡ most_links → station < length d.stations →
     is_led d.links most (Bridge bridge) (Station station) ≡ true → IsReached d bridge station
 led_reached d most bridge station is inside led =
@@ -127,7 +127,7 @@ all_reached d bridge stations on_way k station stands =
     led_reached d 16 bridge station refl (subst (λ (s : ℕ). s < length d.stations) same here.0)
     (subst (λ (s : ℕ). is_led d.links 16 (Bridge bridge) (Station s) ≡ true) same here.1)
 
--- of a reached station: a way leads to it at no cost
+-- for a reached station: a path leads to it at no cost
 pub must_lead : (d : Domain) (links : List Link) (left : List ℕ) (bridge station : ℕ) → NothingHasRoomEverywhere → links ≡ d.links →
     length left ≡ length d.links → IsReached d bridge station → NoWay links (has_room left 0) (Bridge bridge) (Station station) → ⊥
 must_lead d links left bridge station for_nothing are many reached none =
@@ -135,7 +135,7 @@ must_lead d links left bridge station for_nothing are many reached none =
     subst (λ (ls : List Link). NoWay ls (has_room left 0) (Bridge bridge) (Station station)) are none in
     (for_nothing d.links left (Bridge bridge) (Station station) [] many).1 none_there reached.way reached.is_way
 
--- the first at no cost is the first of all
+-- the first path at no cost is the first of all
 pub first_of_all : (d : Domain) (links : List Link) (left : List ℕ) (bridge station : ℕ) (way : List ℕ) → NothingHasRoomEverywhere → links ≡ d.links →
     length left ≡ length d.links → IsFirstWay links (has_room left 0) (Bridge bridge) (Station station) way →
     IsFirstWay d.links (λ l. true) (Bridge bridge) (Station station) way
@@ -143,7 +143,7 @@ first_of_all d links left bridge station way for_nothing are many first =
     (for_nothing d.links left (Bridge bridge) (Station station) way many).0
     (subst (λ (ls : List Link). IsFirstWay ls (has_room left 0) (Bridge bridge) (Station station) way) are first)
 
--- where no way has room, it lacks room
+-- if no path has room, the first of all lacks room
 pub must_lack : (d : Domain) (left : List ℕ) (cost bridge station : ℕ) (way : List ℕ) → FullWaysHaveAShortLink →
     NoWay d.links (has_room left cost) (Bridge bridge) (Station station) → IsFirstWay d.links (λ l. true) (Bridge bridge) (Station station) way →
     short_link left cost way ≡ None → ⊥
@@ -158,7 +158,7 @@ pub full_found : (d : Domain) (left : List ℕ) (cost bridge station : ℕ) (way
 full_found d left cost bridge station way link found first short is =
     record { way = way; is_first = first; link = link; lacks = short; is = is }
 
--- it is the first that is
+-- it is the first station that is full
 pub first_full : (d : Domain) (links : List Link) (left : List ℕ) (cost bridge : ℕ) (stations : List ℕ) (place station : ℕ) (found : PlanFault) →
     links ≡ d.links → IsFirstWithout links (has_room left cost) (Bridge bridge) stations place → slice_get stations place ≡ Some station →
     IsFullTo d left cost bridge station found → IsFull d left cost bridge stations found
@@ -170,13 +170,13 @@ first_full d links left cost bridge stations place station found are without sta
   is_full = full;
 }
 
--- there is a station at the place of the first without a way
+-- there is a station at the index of the first one without a path
 pub stands_there : (links : List Link) (room : ℕ → Bool) (from : Node) (stations : List ℕ) (place : ℕ) → IsFirstWithout links room from stations place →
     slice_get stations place ≡ Some (get_or stations place 0)
 stands_there links room from stations place without =
     slice_get-get_or stations place 0 (slice_get_within stations place without.station without.stands)
 
--- and it has none
+-- and it has no path
 pub none_there : (d : Domain) (links : List Link) (left : List ℕ) (cost bridge : ℕ) (stations : List ℕ) (place station : ℕ) → links ≡ d.links →
     IsFirstWithout links (has_room left cost) (Bridge bridge) stations place → slice_get stations place ≡ Some station →
     NoWay d.links (has_room left cost) (Bridge bridge) (Station station)
@@ -186,7 +186,7 @@ none_there d links left cost bridge stations place station are without stands =
     subst (λ (ls : List Link). NoWay ls (has_room left cost) (Bridge bridge) (Station station)) are
     (subst (λ (s : ℕ). NoWay links (has_room left cost) (Bridge bridge) (Station s)) same without.none)
 
--- the branches of the first ways are found
+-- the branches of the first paths are found
 pub ways_found : (d : Domain) (links : List Link) (left : List ℕ) (cost bridge : ℕ) (stations : List ℕ) (ways : List (ArrayVec ℕ))
     (paths : List Branch) → links ≡ d.links → AreFirstWays links (has_room left cost) (Bridge bridge) stations (map (λ (way : ArrayVec ℕ). way.items) ways) →
     paths ≡ map (λ (way : ArrayVec ℕ). names_along d bridge way.items) ways → AreFound d left cost bridge stations paths
@@ -201,7 +201,7 @@ ways_found d links left cost bridge stations ways paths are first paths_are =
 -- ---- by what links have left
 
 module _ (d : Domain) (rows : List Row) (cost bridge : ℕ) (stations : List ℕ) where
-  -- in the cycles that are given
+  -- in the given cycles
   pub given_routed : (every phase : ℕ) (paths : List Branch) (left : List ℕ) → AreLeftBehind d rows (pace_by every phase) cost bridge left →
       AreFound d left cost bridge stations paths → IsRouted d rows (Given every phase) cost (Between bridge stations) (Ok paths)
   given_routed every phase paths left are found = record { left = left; are_left = are; found = found }
@@ -211,7 +211,7 @@ module _ (d : Domain) (rows : List Row) (cost bridge : ℕ) (stations : List ℕ
   given_unrouted every phase (unrouted.Fault found) left are full = record { left = left; are_left = are; found = full }
   given_unrouted every phase unrouted.Memory left are full = tt
 
-  -- in the emptiest of so many cycles
+  -- in the emptiest phase
   pub chosen_routed : (every : ℕ) (paths : List Branch) → AreFound d (lefts_on d rows every) cost bridge stations paths →
       IsRouted d rows (Chosen every) cost (Between bridge stations) (Ok paths)
   chosen_routed every paths found = record { left = lefts_on d rows every; are_left = refl; found = found }

@@ -59,7 +59,7 @@ not_not : (b : Bool) → not b ≡ false → b ≡ true
 not_not true e = refl
 not_not false e = absurd cc
 
--- none is found behind one that fails, and it fails
+-- if `find` finds nothing, the first element fails the test, and nothing is found after it
 pub found_none : {X : Type 0} (test : X → Bool) (x : X) (xs : List X) → find test (x ∷ xs) ≡ None → (test x ≡ false) × (find test xs ≡ None)
 found_none {X} test x xs e = by (test x) refl e
   where
@@ -67,7 +67,7 @@ found_none {X} test x xs e = by (test x) refl e
     by true is h = absurd cc
     by false is h = (is, h)
 
--- the node of a name is one of the plant's
+-- the node of a name is one of the domain's
 bridge_there : (d : Domain) (name : List ℕ) (b : ℕ) → node_named d name ≡ Some (Bridge b) → b < length d.bridges
 bridge_there d name b e = by (place_of name d.bridges) (place_of name d.stations) refl e
   where
@@ -103,7 +103,7 @@ entrance_there sketch d from entrance talkers same e = by_node (node_named d fro
     by_node (Some (Bridge b)) is h = let ends : b ≡ entrance.bridge = cc in subst (λ (n : ℕ). n < length d.bridges) ends (bridge_there d from b is)
     by_node (Some (Station s)) is h = by_talker (find (λ (talker : TalkerLink). talker.station == s) sketch.talkers) s refl h
 
--- a listener that is taken is a station
+-- an accepted listener is a station
 pub station_named_by : (d : Domain) (name : List ℕ) (s : ℕ) → station_by_name d name ≡ Ok s → node_named d name ≡ Some (Station s)
 station_named_by d name s e = by (node_named d name) refl (ok_or-Ok (station_at (node_named d name)) (fault.NoListener name) s e)
   where
@@ -112,11 +112,11 @@ station_named_by d name s e = by (node_named d name) refl (ok_or-Ok (station_at 
     by (Some (Bridge b)) is h = absurd cc
     by (Some (Station t)) is h = let same : t ≡ s = cc in is ∙ ap (λ n. Some (Station n)) same
 
--- a station to which a way leads
+-- a station to which a path leads
 abbrev StationReached : Domain → ℕ → ℕ → Type 0
 StationReached d bridge station = (station < length d.stations) × IsTrue (is_led d.links most_links (Bridge bridge) (Station station))
 
--- so all listeners are, where none is apart
+-- so are all listeners, if a path leads to each
 stations_reached : (d : Domain) (bridge : ℕ) (names : List (List ℕ)) (stations : List ℕ) → stations_by_name d names ≡ Ok stations →
     first_apart d bridge names ≡ None →
     All (StationReached d bridge) stations
@@ -131,7 +131,7 @@ stations_reached d bridge (name ∷ names) stations e none =
     (All-cons (StationReached d bridge) both.one both.more (station_there d name both.one node, led)
     (stations_reached d bridge names both.more both.others_are parts.1))
 
--- a way that is settled leads through the plant
+-- a settled path leads through the domain
 on_way : (sketch : SketchDomain) (d : Domain) (wanted : WantedText) (way : SettledWay) → HasTalkerLinks sketch → d.bridges ≡ sketch.bridges →
     settled_way sketch d wanted ≡ Ok way → IsOnWay d way
 on_way sketch d (AlongText paths) way talkers same e =
@@ -148,7 +148,7 @@ on_way sketch d (BetweenText from to) way talkers same e =
       stations_reached d entrance.bridge to stations named parts.0,
     )
 
--- of a deadline that is taken something is left
+-- of an accepted deadline something is left
 some_left : (taken : ℕ) (given left : Option ℕ) → deadline_behind taken given ≡ Ok left → ForSome left (λ deadline. 1 ≤ deadline)
 some_left taken None left e deadline is = absurd (let none : None ≡ left = cc in cc)
 some_left taken (Some whole) left e deadline is = by (nat_lt taken whole) refl e
@@ -160,7 +160,7 @@ some_left taken (Some whole) left e deadline is = by (nat_lt taken whole) refl e
         omega (arith, same, below)
     by false less h = absurd cc
 
--- what a stream has that is settled
+-- what a settled stream has
 pub record IsSettledBy (sketch : SketchDomain) (d : Domain) (before : List (List ℕ)) (stream : StreamText) (one : SettledStream) : Type 0 where
   pub named : is_name stream.name ≡ true
   pub reservable : are_reservable one.octets ≡ true
@@ -202,14 +202,14 @@ settled_by sketch d before stream one e =
       traffic_is = ap (λ (s : SettledStream). s.traffic) same;
     }
 
--- a stream of this name stands behind those of other names: it isn't one of theirs, and there are fewer than there may be
+-- a stream of this name may follow those of other names: its name isn't one of theirs, and there are fewer than are allowed
 pub record StandsNext (d : Domain) (before : List (List ℕ)) (name own : List ℕ) : Type 0 where
   pub own_name : own ≡ name
   pub not_held : is_among name before ≡ false
   pub few : length before < most_streams
   pub few_set : length before < streams_within d.limits
 
--- so it stands
+-- so it may follow them
 pub next_stands : (sketch : SketchDomain) (d : Domain) (before : List (List ℕ)) (stream : StreamText) (one : SettledStream) →
     settled_next sketch d before stream ≡ Ok one → StandsNext d before stream.name one.name
 next_stands sketch d before stream one e =
@@ -271,7 +271,7 @@ behind_are_few sketch d before (stream ∷ streams) settled few e =
     let rest = behind_are_few sketch d (before ++ stream.name ∷ []) streams both.more room both.others_are in
     subst (λ (ss : List SettledStream). length before + length ss ≤ most_streams) (sym both.all) (omega (arith, rest, longer))
 
--- a stream more behind those that are settled
+-- one more stream after those that are settled
 with_more : {A E : Type 0} (done : List A) (x : A) (rest : Result (List A) E) → with_front (done ++ x ∷ []) rest ≡ with_front done (and_first (Ok x) rest)
 with_more done x (Ok rest) = ap Ok (append_assoc done (x ∷ []) rest)
 with_more done x (Err e) = refl

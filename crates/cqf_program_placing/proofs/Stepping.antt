@@ -21,12 +21,12 @@ use Rattle.cqf_program_placing.specs.declared.turns.Turns.TheVariants.{Given, Ch
 use Rattle.cqf_program_placing.specs.Settled.{is_paced}
 use Rattle.cqf_program_placing.specs.Turns.{AreGoodTurns, CostsSome, IsChosenBy, IsGoodEvery, IsPhaseAlong, MayBeFirst, every_in, every_of, keeps_step, pace_by, turns_by}
 
--- a divisor of 80 is no more than that
+-- a divisor of 80 is at most 80
 pub good_every : (every : ℕ) → 1 ≤ every → most_every % every ≡ 0 → IsGoodEvery every
 good_every every some divides =
     record { some = some; few = le_of_dvd (omega arith) (dvd_of_mod-eq-zero every divides); divides = divides }
 
--- what a pace is that may be asked for
+-- the pace of a request
 pub pace_is_good : (every phase : ℕ) → is_pace every phase ≡ true → IsGoodEvery every × (phase < every)
 pace_is_good every phase t =
     let parts = and_parts (most_every % every == 0) (nat_lt phase every) t in
@@ -37,7 +37,7 @@ pub is_good_pace : (every phase : ℕ) → IsGoodEvery every → phase < every �
 is_good_pace every phase good below =
     and_from (most_every % every == 0) (nat_lt phase every) (eq-eqb (most_every % every) 0 good.divides) (lt-ltb phase every below)
 
--- its turns repeat after 80 cycles
+-- the pace of good turns is a good pace
 pub turns_are_good : (every phase : ℕ) → IsGoodEvery every → phase < every → IsGoodPace (pace_by every phase)
 turns_are_good every phase good below =
     let same : every - 1 + 1 ≡ every = omega (arith, good.some) in
@@ -45,11 +45,11 @@ turns_are_good every phase good below =
 
 -- ---- the greatest common divisor with 80
 
--- what divides both, at a number one less
+-- a number, one more than the given one, if it divides both; else nothing
 abbrev pub divisor_at : ℕ → ℕ → List ℕ
 divisor_at cycles k = if (most_every % (k + 1) == 0) && (cycles % (k + 1) == 0) then (k + 1) ∷ [] else []
 
--- the greatest of the first so many
+-- the greatest divisor of the first `count` numbers
 pub record IsGreatestSoFar (cycles count every : ℕ) : Type 0 where
   pub is : every ≡ fold max 0 (each_below (divisor_at cycles) count)
   pub few : every ≤ count
@@ -60,7 +60,7 @@ pub none_greatest : (cycles : ℕ) → IsGreatestSoFar cycles 0 0
 none_greatest cycles = record { is = refl; few = omega arith; some = λ more. absurd (omega (arith, more)); divides = λ more. absurd (omega (arith, more)) }
 
 module _ (cycles k every : ℕ) (so_far : IsGreatestSoFar cycles k every) where
-  -- the next is asked
+  -- the next number is tried
   next_asked : fold max 0 (each_below (divisor_at cycles) (k + 1)) ≡ fold max every (divisor_at cycles k)
   next_asked =
       let on : k + 1 ≡ suc k = omega arith in
@@ -102,7 +102,7 @@ greatest_is_good cycles count every all so_far =
     let some : 1 ≤ every = so_far.some (omega (arith, all)) in
     (so_far.is ∙ ap (λ n. fold max 0 (each_below (divisor_at cycles) n)) all, good_every every some (so_far.divides some))
 
--- so are those that are so by the definition
+-- there is such a greatest divisor, for any count
 greatest_of : (cycles count : ℕ) → (every : ℕ) × IsGreatestSoFar cycles count every
 greatest_of cycles zero = (0, none_greatest cycles)
 greatest_of cycles (suc k) =
@@ -129,24 +129,24 @@ turns_good cycle_time (pacing.Given every phase) traffic paced = paced
 turns_good cycle_time pacing.InStep None paced = refl
 turns_good cycle_time pacing.InStep (Some t) paced = every_is_good (t.interval / cycle_time)
 
--- what costs something where there is traffic costs something where the first cycle is to be chosen
+-- if a stream costs something whenever it has traffic, it costs something if its first cycle is to be chosen
 pub costs_some : (cycle_time octets : ℕ) (given : Pacing) (traffic : Option TrafficText) → IfSome traffic (λ _. 1 ≤ octets) →
     CostsSome (turns_by cycle_time given traffic) octets
 costs_some cycle_time octets (pacing.Given every phase) traffic some = tt
 costs_some cycle_time octets pacing.InStep None some = tt
 costs_some cycle_time octets pacing.InStep (Some t) some = some
 
--- and as much does what costs no less
+-- so it does at no smaller cost
 pub costs_more : (turns : Turns) (octets cost : ℕ) → octets ≤ cost → CostsSome turns octets → CostsSome turns cost
 costs_more (Given every phase) octets cost more some = tt
 costs_more (Chosen every) octets cost more some = omega (arith, some, more)
 
--- of how many cycles it is one
+-- n if it is offered in one of n cycles
 pub every_is_good_in : (turns : Turns) → AreGoodTurns turns → IsGoodEvery (every_in turns)
 every_is_good_in (Given every phase) good = (pace_is_good every phase good).0
 every_is_good_in (Chosen every) good = good
 
--- a phase that is given or chosen may be the first
+-- a given or chosen phase may be the first
 pub may_be_first : (d : Domain) (rows : List Row) (cost : ℕ) (paths : List Branch) (cycle_time : ℕ) (given : Pacing) (traffic : Option TrafficText)
     (first : ℕ) → IsPhaseAlong d rows cost paths (turns_by cycle_time given traffic) first → MayBeFirst (turns_by cycle_time given traffic) first
 may_be_first d rows cost paths cycle_time (pacing.Given every phase) traffic first is = is
@@ -160,7 +160,7 @@ may_be_first d rows cost paths cycle_time pacing.InStep (Some t) first is = by_t
     by_tree None chosen = chosen.within
     by_tree (Some refusal) none = omega (arith, none, (every_is_good (t.interval / cycle_time)).some)
 
--- and comes before all paces repeat
+-- and is a cycle before all paces repeat
 pub first_is_early : (cycle_time : ℕ) (given : Pacing) (traffic : Option TrafficText) (first : ℕ) → is_paced given ≡ true →
     MayBeFirst (turns_by cycle_time given traffic) first → first < most_every
 first_is_early cycle_time given traffic first paced may = by (turns_by cycle_time given traffic) (turns_good cycle_time given traffic paced) may

@@ -1,4 +1,4 @@
--- What is read of the streams of a sketch's text.
+-- What is read of the streams of a network file's text.
 use Rattle.std.proofs.Common.{◌≡◌, ◌≢◌, ◌∙◌, ◌<◌, ℕ, Bool, true, false, ◌&&◌, ◌++◌, List, [], ◌∷◌, Option, Some, None, Result, Ok, Err, All, AllPairs}
 use Rattle.std.proofs.Common.{cond, find, is_none, length, ok_or, option_map, ap, arith, refl, subst, sym}
 use Rattle.std.specs.Prelude.{nat_le, option_and_then}
@@ -31,7 +31,7 @@ use Rattle.cqf_sketch.specs.StreamsText.{streams_from, streams_in, streams_of_ar
 use Rattle.cqf_program_placing.proofs.ReadyStreams.{AreListeners, IsReadStream}
 use Rattle.cqf_program_placing.proofs.SettledLemmas.{and_first-Ok, found_none}
 
--- what was read behind a fault of another kind
+-- what was read, before its faults are converted
 or_streams-Ok : {A : Type 0} (r : Result A TomlFault) (x : A) → or_streams r ≡ Ok x → r ≡ Ok x
 or_streams-Ok (Ok y) x e = cc
 or_streams-Ok (Err fault) x e = absurd cc
@@ -56,7 +56,7 @@ none_is (Some x) e = absurd cc
 
 -- ---- listeners
 
--- listeners that aren't too few, and no two the same
+-- listeners: at least one, and no two the same
 listeners_in : (names to : List (List ℕ)) → if_listeners names ≡ Ok to → (0 < length to) × AllPairs (λ a b. a ≢ b) to
 listeners_in names to e = by (nat_le 1 (length names) && nat_le (length names) 64 && is_none (first_taken [] names)) refl e
   where
@@ -72,7 +72,7 @@ listeners_in names to e = by (nat_le 1 (length names) && nat_le (length names) 6
         )
     by false passes h = absurd cc
 
--- those that a value means
+-- the listeners that a value means
 listeners_read : (found : Option Data) (to : List (List ℕ)) → listeners_of found ≡ Ok to → (0 < length to) × AllPairs (λ a b. a ≢ b) to
 listeners_read None to e = absurd cc
 listeners_read (Some d) to e = by (as_array d) e
@@ -85,7 +85,7 @@ listeners_read (Some d) to e = by (as_array d) e
     by (Some items) h = let (names, are, few) = and_then-Ok (names_from To items) if_listeners to h in listeners_in names to few
 
 module _ (table : Members) where
-  -- the way of a stream's table
+  -- the path of a stream's table
   wanted_read : (way : WantedText) → wanted_from table ≡ Ok way → AreListeners way
   wanted_read way e = by (has_path table) e
     where
@@ -103,17 +103,17 @@ module _ (table : Members) where
 
   -- ---- octets and traffic
 
-  -- where the key of octets isn't lacked they are there
+  -- if the key of octets isn't lacked, octets are there
   octets_there : (found : Option Data) → is_none found ≡ false → octets_by found table ≡ Ok None → ⊥
   octets_there None there e = absurd cc
   octets_there (Some d) there e = let (octets, are, some) = and_then-Ok (read_at Octets (number_from 0 4294967295) table) _ None e in absurd cc
 
-  -- a key that is owed first, or second
+  -- a key that is owed, as the first or the second
   owed_second : (first second : Key) (keys : List Key) → find (λ key. lacks key table) (first ∷ second ∷ keys) ≡ None → lacks second table ≡ false
   owed_second first second keys none =
       (found_none (λ key. lacks key table) second keys (found_none (λ key. lacks key table) first (second ∷ keys) none).1).0
 
-  -- nothing else stands in place of octets
+  -- no other value is in the place of octets
   octets_owed : lacks Octets table ≡ false → is_none (value_at Octets table) ≡ false
   octets_owed e = by (is_none (value_at Octets table)) e
     where
@@ -121,7 +121,7 @@ module _ (table : Members) where
       by true h = absurd cc
       by false h = refl
 
-  -- so there are octets, where there is no traffic
+  -- so there are octets if there is no traffic
   some_reserved : (octets : Option ℕ) (traffic : Option TrafficText) → first_lack table ≡ None → octets_from table ≡ Ok octets →
       traffic_from table ≡ Ok traffic → octets ≡ None → traffic ≡ None → ⊥
   some_reserved octets traffic lack at_octets at_traffic no_octets no_traffic = by (has_traffic table) refl at_traffic absent

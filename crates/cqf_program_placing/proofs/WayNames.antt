@@ -1,4 +1,4 @@
--- The names along a way lead back to its nodes and links.
+-- The names along a path lead back to its nodes and links.
 use Rattle.std.proofs.Common.{◌≡◌, ◌∙◌, ◌+◌, ◌-◌, ◌<◌, ◌≤◌, ℕ, zero, suc, Bool, true, false, ◌==◌, ◌&&◌, ◌||◌, List, [], ◌∷◌, Option, Some, None, Contains}
 use Rattle.std.proofs.Common.{cond, length, map, not, refl, ap, subst, sym, inl, inr, arith, take}
 use Rattle.std.specs.Prelude.{is_none, nat_le, nat_lt, option_and_then, slice_get}
@@ -45,7 +45,7 @@ leads_by d node end l e =
     by link stands true same h = record { link = link; stands = stands; from_is = same_node_true node (Bridge link.from) same; to_is = cc }
     by link stands false same h = absurd cc
 
--- a way leads by its first link to a node, and on from there
+-- a path leads by its first link to a node, and on from there
 pub record FirstStep (d : Domain) (node to : Node) (l : ℕ) (way : List ℕ) : Type 0 where
   pub end : Node
   pub step : led_to d.links node l ≡ Some end
@@ -56,7 +56,7 @@ first_step d node to l way e =
     let (end, step, more) = and_then-Some (λ n. led_along (led_to d.links) n way) (led_to d.links node l) to e in
     record { end = end; step = step; more = more }
 
--- the nodes of a way: that from which it leads, and those in which its links end
+-- the nodes of a path: the one from which it leads, and those in which its links end
 abbrev pub nodes_along : Domain → Node → List ℕ → List Node
 nodes_along d node way = node ∷ ends_along d.links node way
 
@@ -76,13 +76,13 @@ last_node d node to (l ∷ way) e =
     let s = first_step d node to l way e in
     ap (λ (ns : List Node). slice_get ns (length way)) (ends_more d node s.end l way s.step) ∙ last_node d s.end to way s.more
 
--- behind the last node there is no link
+-- no link follows the last node
 no_link : (d : Domain) (o : Option Node) → link_from d o None ≡ None
 no_link d None = refl
 no_link d (Some (Bridge b)) = refl
 no_link d (Some (Station s)) = refl
 
--- where no node stands twice on a way, none does behind its first link
+-- if no node occurs twice on a path, none does after its first link
 pub later_once : (d : Domain) (node end : Node) (l : ℕ) (way : List ℕ) → EndsOnce d.links node (l ∷ way) → led_to d.links node l ≡ Some end →
     EndsOnce d.links end way
 later_once d node end l way once step = record {
@@ -92,7 +92,7 @@ later_once d node end l way once step = record {
       (ap (λ (o : Option Node). option_and_then (λ n. led_along (led_to d.links) n front) o) step ∙ to_node) by;
 }
 
--- so no node stands at two places
+-- so no node is at two indexes
 pub nodes_once : (d : Domain) (node to : Node) (way : List ℕ) (i j : ℕ) (n : Node) → EndsOnce d.links node way → led_along (led_to d.links) node way ≡ Some to →
     i < j → slice_get (nodes_along d node way) i ≡ Some n → slice_get (nodes_along d node way) j ≡ Some n → ⊥
 nodes_once d node to way i zero n once e below one two = omega (arith, below)
@@ -130,7 +130,7 @@ module _ (d : Domain) (good : IsDomain d) where
   pub end_name : (node end : Node) (l : ℕ) → led_to d.links node l ≡ Some end → name_of_end d l ≡ name_of_node d end
   end_name node end l e = let leads = leads_by d node end l e in name_at_end d l leads.link end leads.stands leads.to_is
 
-  -- the nodes of a way's names are its nodes
+  -- the nodes of a path's names are its nodes
   pub node_there : (node to : Node) (way : List ℕ) (k : ℕ) → IsNode d node → led_along (led_to d.links) node way ≡ Some to →
       node_at d (branch_from d node way) k ≡ slice_get (nodes_along d node way) k
   node_there node to way zero inside e = name_leads_back node inside
@@ -165,7 +165,7 @@ module _ (d : Domain) (good : IsDomain d) where
       ∙ (λ i. link_from d (node_there node to way k inside e i) (node_there node to way (suc k) inside e i))
       ∙ link_by_nodes node to way k e
 
-  -- each name behind the first is that of a node in which a link ends
+  -- each name after the first is that of a node in which a link ends
   pub named_end : (node to : Node) (way : List ℕ) (name : List ℕ) → led_along (led_to d.links) node way ≡ Some to → Contains (map (name_of_end d) way) name →
       (end : Node) × Contains (ends_along d.links node way) end × (node_named d name ≡ Some end)
   named_end node to [] name e c = absurd (contains_none name c)
@@ -186,7 +186,7 @@ module _ (d : Domain) (good : IsDomain d) where
       ]
 
   module _ (bridge : ℕ) (inside : bridge < length d.bridges) (way : List ℕ) where
-    -- the branch of a way that leads from a bridge
+    -- the branch of a path that leads from a bridge
     abbrev branch : Branch
     branch = branch_from d (Bridge bridge) way
 
@@ -206,7 +206,7 @@ module _ (d : Domain) (good : IsDomain d) where
     begins_there to k e = and_right (k == 0) (not (is_bridge (node_at d branch 0)))
         (ap (λ (o : Option Node). not (is_bridge o)) (node_there (Bridge bridge) to way zero inside e))
 
-    -- a link leads to each node behind the first
+    -- a link leads to each node after the first
     linked_there : (to : Node) (k : ℕ) → led_along (led_to d.links) (Bridge bridge) way ≡ Some to → lacks_link d branch k ≡ false
     linked_there to zero e = refl
     linked_there to (suc j) e =
@@ -229,7 +229,7 @@ module _ (d : Domain) (good : IsDomain d) where
           (false_from_ne_true (k + 1 == length branch) (λ t. other (omega (arith, eqb-true (k + 1) (length branch) t, long))))
     ]
 
-    -- it has no more nodes than may be
+    -- it has no more nodes than are allowed
     few_there : (k : ℕ) → length way ≤ most_links → MayBeWays d.limits → is_beyond_most d branch k ≡ false
     few_there k few most = false_from_ne_true (is_beyond_most d branch k) (λ t.
         let parts = and_parts (k == nodes_within d.limits) (nat_lt k (length branch)) t in
@@ -241,7 +241,7 @@ module _ (d : Domain) (good : IsDomain d) where
     whole_there station k e few most =
         (λ i. begins_there (Station station) k e i || linked_there (Station station) k e i || ends_there station k e i || few_there k few most i)
 
-    -- and where no node stands twice on the way, none does in it
+    -- and if no node occurs twice on the path, none does in the branch
     pub simple_there : (to : Node) (k : ℕ) → led_along (led_to d.links) (Bridge bridge) way ≡ Some to → EndsOnce d.links (Bridge bridge) way →
         k ≤ length (branch_from d (Bridge bridge) way) → is_loop_at d (branch_from d (Bridge bridge) way) k ≡ false
     simple_there to k e once within = false_from_ne_true (is_loop_at d branch k) (λ t.

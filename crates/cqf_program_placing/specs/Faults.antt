@@ -1,10 +1,10 @@
--- How it is told why a stream of a sketch isn't settled, or isn't placed.
+-- The texts of the faults for which a stream of a network file isn't settled or isn't placed.
 use Rattle.std.specs.Prelude.{ℕ, ◌++◌, List, codes, decimal}
 use Rattle.cqf_model.specs.Refusals.{text_of_refusal}
 use Rattle.cqf_program_placing.specs.declared.faults.PlanFault.{PlanFault}
 use Rattle.cqf_program_placing.specs.declared.faults.PlanFault.TheVariants as fault
 
--- a link by the names of its ends, and what it has left
+-- a link, by the names of its ends, and the octets that it has left
 abbrev pub short_text : List ℕ → List ℕ → ℕ → List ℕ
 short_text from to left = from ++ (codes ">" ++ (to ++ (codes " " ++ decimal left)))
 

@@ -1,4 +1,4 @@
--- Behind how many links a stream's frames leave each bridge, and what links have left there.
+-- After how many links a stream's frames leave each bridge, and what links have left there.
 use Rattle.std.specs.Prelude.{ℕ, ◌≡◌, ◌+◌, ◌<◌, ◌≤◌, ◌⊎◌, Bool, true, List, [], ◌∷◌, Option, Some, None, length, nat_le, slice_get, slice_index_or}
 use Rattle.std.specs.Option.{option_map_or}
 use Rattle.cqf_lists.specs.Lists.{each_below}
@@ -14,22 +14,22 @@ use Rattle.cqf_program_placing.specs.declared.turns.Turns.{Turns}
 use Rattle.cqf_program_placing.specs.declared.turns.Turns.TheVariants.{Given, Chosen}
 use Rattle.cqf_program_placing.specs.Turns.{lefts_on, pace_by}
 
--- a link as the hop behind so many others
+-- a link as the hop that follows k links, so with hop number k + 1
 abbrev pub hop_behind : ℕ → ℕ → Hop
 hop_behind k l = record { link = l; depth = k + 1; from = None }
 
--- what it has left in the cycles in which frames of a pace go by it there, and whether that is what a stream costs
+-- what the link has left, after k links, in the cycles in which frames of a pace pass it, and whether that covers what a stream costs
 abbrev pub left_behind : Domain → List Row → Pace → ℕ → ℕ → ℕ
 left_behind d rows pace k l = left_in_turns d rows pace (hop_behind k l)
 
 abbrev pub has_room_behind : Domain → List Row → Pace → ℕ → ℕ → ℕ → Bool
 has_room_behind d rows pace cost k l = nat_le cost (left_behind d rows pace k l)
 
--- behind how many links frames leave a bridge, if they do
+-- after how many links frames leave a bridge, if they reach it
 abbrev pub hop_of : List (Option ℕ) → ℕ → Option ℕ
 hop_of hops bridge = slice_index_or hops bridge None
 
--- a link leads to a bridge from one that frames leave behind so many others, and has room there
+-- a link leads to a bridge from one that frames leave after k links, and has room after k links
 pub record LeadsBehind (links : List Link) (room : ℕ → ℕ → Bool) (hops : List (Option ℕ)) (k l bridge : ℕ) : Type 0 where
   pub link : Link
   pub stands : slice_get links l ≡ Some link
@@ -37,8 +37,9 @@ pub record LeadsBehind (links : List Link) (room : ℕ → ℕ → Bool) (hops :
   pub roomy : room k l ≡ true
   pub ends : link.to ≡ Bridge bridge
 
--- frames from a bridge leave each bridge behind as few links as they can, where each link has room, or hasn't, behind so many others: the first
--- behind none, and another behind one more than a bridge from which a link with room leads to it, and behind no more than one more than any such
+-- frames from a bridge leave each bridge after as few links as possible. `room k l` says whether link l has room after k links. Frames
+-- leave the first bridge, and no other, after no links. They leave any other bridge after one link more than a bridge from which a link
+-- with room leads to it, and after at most one link more than any such bridge. Only bridges that they leave after fewer than 16 links count
 pub record AreHops (links : List Link) (room : ℕ → ℕ → Bool) (bridge : ℕ) (hops : List (Option ℕ)) : Type 0 where
   pub begins : hop_of hops bridge ≡ Some 0
   pub alone : (other : ℕ) → hop_of hops other ≡ Some 0 → other ≡ bridge
@@ -46,41 +47,42 @@ pub record AreHops (links : List Link) (room : ℕ → ℕ → Bool) (bridge : �
   pub goes_on : (k l other : ℕ) → k + 1 < most_links → LeadsBehind links room hops k l other → (j : ℕ) × (hop_of hops other ≡ Some j) × (j ≤ k + 1)
   pub few : (j other : ℕ) → hop_of hops other ≡ Some j → j < most_links
 
--- what a link has left where frames go by it; of one that none goes by nothing
+-- what a link has left, after as many links as frames leave its bridge; 0 for a link that no frame reaches
 abbrev pub left_where : Domain → List Row → Pace → List (Option ℕ) → ℕ → ℕ
 left_where d rows pace hops l = option_map_or (λ k. left_behind d rows pace k l) (hop_of hops (bridge_of d l)) 0
 
--- by number
+-- for all links, by number
 abbrev pub lefts_where : Domain → List Row → Pace → List (Option ℕ) → List ℕ
 lefts_where d rows pace hops = each_below (λ l. left_where d rows pace hops l ∷ []) (length d.links)
 
--- so for a stream of this cost and pace that comes from a bridge
+-- what links have left for a stream of this cost and pace that comes from a bridge
 pub record AreLeftBehind (d : Domain) (rows : List Row) (pace : Pace) (cost bridge : ℕ) (left : List ℕ) : Type 0 where
   pub hops : List (Option ℕ)
   pub are : AreHops d.links (has_room_behind d rows pace cost) bridge hops
   pub left_is : left ≡ lefts_where d rows pace hops
 
--- what links have left for a stream: in its own cycles, where these are given; or else in the emptiest of as many as it is offered in one of
+-- what links have left for a stream: in its own cycles if they are given; if its phase is to be chosen, in each link's emptiest phase of
+-- `every`
 abbrev pub AreLeft : Domain → List Row → Turns → ℕ → ℕ → List ℕ → Type 0
 AreLeft d rows (Given every phase) cost bridge left = AreLeftBehind d rows (pace_by every phase) cost bridge left
 AreLeft d rows (Chosen every) cost bridge left = left ≡ lefts_on d rows every
 
--- ---- what inner functions ask for
+-- ---- what inner functions need
 
--- a bridge is reached in addition, by a link
+-- in addition, a bridge is reached by a link
 pub record IsReachedBy (links : List Link) (room : ℕ → ℕ → Bool) (k l : ℕ) (before after : List (Option ℕ)) : Type 0 where
   pub kept : (j bridge : ℕ) → hop_of before bridge ≡ Some j → hop_of after bridge ≡ Some j
   pub added : (bridge : ℕ) → LeadsBehind links room before k l bridge → (j : ℕ) × (hop_of after bridge ≡ Some j)
   pub others : (j bridge : ℕ) → hop_of after bridge ≡ Some j →
       (hop_of before bridge ≡ Some j) ⊎ ((j ≡ k + 1) × LeadsBehind links room before k l bridge)
 
--- bridges are, by the first so many links
+-- in addition, bridges are reached by the first `count` links
 pub record AreReachedBy (links : List Link) (room : ℕ → ℕ → Bool) (k count : ℕ) (before after : List (Option ℕ)) : Type 0 where
   pub kept : (j bridge : ℕ) → hop_of before bridge ≡ Some j → hop_of after bridge ≡ Some j
   pub added : (l bridge : ℕ) → l < count → LeadsBehind links room before k l bridge → (j : ℕ) × (hop_of after bridge ≡ Some j)
   pub others : (j bridge : ℕ) → hop_of after bridge ≡ Some j →
       (hop_of before bridge ≡ Some j) ⊎ ((j ≡ k + 1) × ((l : ℕ) × LeadsBehind links room before k l bridge))
 
--- frames leave each bridge that they leave behind few links
+-- frames leave each bridge that they reach after fewer than 16 links
 abbrev pub AreShallow : List (Option ℕ) → Type 0
 AreShallow hops = (j bridge : ℕ) → hop_of hops bridge ≡ Some j → j < most_links

@@ -1,4 +1,4 @@
--- What is known of links' rooms while streams are placed.
+-- What is known of the room of links while streams are placed.
 use Rattle.std.specs.Prelude.{ℕ, ◌≡◌, ◌<◌, ◌⊎◌, All, Contains, IsSome, List, Option, Some, None, get_or, length, slice_index_or}
 use Rattle.arrayvec.specs.ArrayVec.{ArrayVec}
 use Rattle.cqf_admission.specs.Branches.{branches_of, tree_refusal}
@@ -17,7 +17,7 @@ pub record IsFilled (d : Domain) (emptiest : Emptiest) : Type 0 where
   pub good : IsGoodEvery emptiest.every
   pub each : length emptiest.left.items ≡ length d.links
 
--- the numbers are what links have left beside these rows in the emptiest of so many cycles
+-- the numbers are what links have left, if these rows are held, each in its emptiest phase of `every`
 pub record IsKnown (d : Domain) (rows : List Row) (emptiest : Emptiest) : Type 0 where
   pub good : IsGoodEvery emptiest.every
   pub left : emptiest.left.items ≡ lefts_on d rows emptiest.every
@@ -25,24 +25,24 @@ pub record IsKnown (d : Domain) (rows : List Row) (emptiest : Emptiest) : Type 0
 abbrev pub AreKnown : Domain → List Row → Rooms → Type 0
 AreKnown d rows rooms = All (IsKnown d rows) rooms.known.items
 
--- those of so many cycles stand at a place
+-- the numbers for this `every` are at an index
 pub record IsKnownAt (rooms : Rooms) (every place : ℕ) : Type 0 where
   pub within : place < length rooms.known.items
   pub is : (none : Emptiest) → (get_or rooms.known.items place none).every ≡ every
 
--- what stands at the numbers of some links is what it is to be now, and at others what it was
+-- at the numbers of some links there is the present value, or the former one; at all others the former one
 pub record AreRenewed (now : ℕ → ℕ) (links before after : List ℕ) : Type 0 where
   pub as_many : length after ≡ length before
   pub each : (l : ℕ) → l < length before →
       (slice_index_or after l 0 ≡ now l) ⊎ ((slice_index_or after l 0 ≡ slice_index_or before l 0) × (Contains links l → ⊥))
 
--- off some links, streams cost what they cost before
+-- on all other links, streams cost what they cost before
 abbrev pub TakesNothingOff : List Row → List Row → List ℕ → Type 0
 TakesNothingOff before after links = (l : ℕ) → (Contains links l → ⊥) → (cycle : ℕ) → link_cost after l cycle ≡ link_cost before l cycle
 
 -- ---- branches with their tree
 
--- branches make this tree, or are refused
+-- branches make this tree; or they are refused, if there is none
 abbrev pub MakeTree : Domain → List Branch → Option (ArrayVec Hop) → Type 0
 MakeTree d paths None = IsSome (tree_refusal d paths)
 MakeTree d paths (Some tree) = (tree_refusal d paths ≡ None) × (tree.items ≡ tree_of d paths)

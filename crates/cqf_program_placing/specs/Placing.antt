@@ -26,7 +26,7 @@ use Rattle.cqf_program_placing.specs.Settled.{SettledStream, SettledWay, Along, 
 use Rattle.cqf_program_placing.specs.Hops.{AreLeft}
 use Rattle.cqf_program_placing.specs.Turns.{IsPhaseAlong, can_step, every_in, is_in_step, turns_by}
 
--- what becomes of a stream: it is placed, with its octets, its cycles and its branches, or it isn't, for a fault
+-- the outcome for a stream: it is placed, with its octets, cycles and branches; or it isn't, for a fault
 pub data PlacedOr : Type 0 where
   Placed : Asked → PlacedOr
   Unplaced : PlanFault → PlacedOr
@@ -35,7 +35,8 @@ abbrev pub outcome_value : PlacingOutcome → PlacedOr
 outcome_value (outcome.Placed request) = Placed (asked_paced request)
 outcome_value (outcome.Unplaced found) = Unplaced found
 
--- the reservation of a stream: what its traffic needs of a cycle, or the octets that it asks for, which have to be enough
+-- the reservation of a stream: the octets that it requests, which have to be enough for its traffic; if it requests none, what its traffic
+-- needs
 abbrev pub if_enough : Option ℕ → ℕ → Result ℕ PlanFault
 if_enough None needs = Ok needs
 if_enough (Some octets) needs = if nat_lt octets needs then Err (fault.TooLittle needs) else Ok octets
@@ -45,26 +46,26 @@ reserved_by octets (Some needs) = if nat_lt most_reserved needs then Err (fault.
 reserved_by (Some octets) None = Ok octets
 reserved_by None None = Ok 0
 
--- on a cycle time, on which it has to be in step where its talker is to be, however far clocks may be apart
+-- the reservation on a cycle time; `BadInStep` if the stream can't be offered there while clocks differ by `sync` at most
 abbrev pub reserved_on : ℕ → ℕ → SettledStream → Result ℕ PlanFault
 reserved_on cycle_time sync stream =
     if can_step cycle_time sync stream.pacing stream.traffic
     then reserved_by stream.octets (option_map (λ (t : TrafficText). needed cycle_time (promise_of t)) stream.traffic)
     else Err fault.BadInStep
 
--- in which cycles it is offered
+-- in which cycles the stream is offered
 abbrev pub turns_on : ℕ → SettledStream → Turns
 turns_on cycle_time stream = turns_by cycle_time stream.pacing stream.traffic
 
--- whether these are chosen
+-- whether these are chosen, not given
 abbrev pub is_chosen_on : ℕ → SettledStream → Bool
 is_chosen_on cycle_time stream = option_map_or (is_in_step cycle_time stream.pacing) stream.traffic false
 
--- a way from a bridge by the names of its nodes
+-- a path from a bridge, by the names of its nodes
 abbrev pub names_along : Domain → ℕ → List ℕ → Branch
 names_along d bridge way = name_of_bridge d bridge ∷ map (name_of_end d) way
 
--- there is no room on the way to a listener, by what links have left for a stream: of the first way there is, the first link that lacks it
+-- the fault `Full` for a listener, by what links have left for a stream: it names the first link that lacks room on the first path of all
 pub record IsFullTo (d : Domain) (left : List ℕ) (cost bridge station : ℕ) (found : PlanFault) : Type 0 where
   pub way : List ℕ
   pub is_first : IsFirstWay d.links (λ _. true) (Bridge bridge) (Station station) way
@@ -72,7 +73,7 @@ pub record IsFullTo (d : Domain) (left : List ℕ) (cost bridge station : ℕ) (
   pub lacks : short_link left cost way ≡ Some link
   pub is : found ≡ fault.Full (name_of_node d (Station station)) cost (name_of_bridge d (bridge_of d link)) (name_of_end d link) (slice_index left link)
 
--- that listener is the first of its listeners to which no way has room
+-- the fault `Full` for the first of a stream's listeners to which no path has room
 pub record IsFull (d : Domain) (left : List ℕ) (cost bridge : ℕ) (stations : List ℕ) (found : PlanFault) : Type 0 where
   pub place : ℕ
   pub station : ℕ
@@ -80,7 +81,7 @@ pub record IsFull (d : Domain) (left : List ℕ) (cost bridge : ℕ) (stations :
   pub stands : slice_get stations place ≡ Some station
   pub is_full : IsFullTo d left cost bridge station found
 
--- the branches of the first ways with room to its listeners
+-- the branches of the first paths with room to the stream's listeners
 pub record AreFound (d : Domain) (left : List ℕ) (cost bridge : ℕ) (stations : List ℕ) (paths : List Branch) : Type 0 where
   pub ways : List (List ℕ)
   pub first : AreFirstWays d.links (has_room left cost) (Bridge bridge) stations ways
@@ -90,18 +91,18 @@ abbrev pub IsFoundOrFull : Domain → List ℕ → ℕ → ℕ → List ℕ → 
 IsFoundOrFull d left cost bridge stations (Ok paths) = AreFound d left cost bridge stations paths
 IsFoundOrFull d left cost bridge stations (Err found) = IsFull d left cost bridge stations found
 
--- by what links have left for it beside some rows
+-- the branches of a stream, or its fault, by what links have left if these rows are held
 pub record IsRoutedBetween (d : Domain) (rows : List Row) (turns : Turns) (cost bridge : ℕ) (stations : List ℕ) (routed : Result (List Branch) PlanFault) : Type 0 where
   pub left : List ℕ
   pub are_left : AreLeft d rows turns cost bridge left
   pub found : IsFoundOrFull d left cost bridge stations routed
 
--- the branches of a stream: those that are given, or those that are found
+-- the branches of a stream: the given ones, or those that are found
 abbrev pub IsRouted : Domain → List Row → Turns → ℕ → SettledWay → Result (List Branch) PlanFault → Type 0
 IsRouted d rows turns cost (Along given) routed = routed ≡ Ok given
 IsRouted d rows turns cost (Between bridge stations) routed = IsRoutedBetween d rows turns cost bridge stations routed
 
--- what is told where admission refuses a stream
+-- the fault of a stream that admission refuses; it names the ends of a link that lacks room
 abbrev pub fault_of_refusal : Domain → Refused → PlanFault
 fault_of_refusal d (refused.BudgetShort link left) = fault.Short (name_of_bridge d (bridge_of d link)) (name_of_end d link) left
 fault_of_refusal d other = fault.Refused other
@@ -110,7 +111,7 @@ abbrev pub answered : Domain → Asked → Option Refused → PlacedOr
 answered d asked None = Placed asked
 answered d asked (Some refusal) = Unplaced (fault_of_refusal d refusal)
 
--- what becomes of a stream with these branches, and the history behind it: it is asked for as any other, in the phase that is given or chosen
+-- the outcome for a stream with these branches, and the history afterwards: it is requested as any other, in the given or chosen phase
 pub record IsAskedFor (d : Domain) (entries : List Recorded) (name : List ℕ) (octets : ℕ) (turns : Turns) (paths : List Branch) (become : PlacedOr)
     (after : List Recorded) : Type 0 where
   pub phase : ℕ
@@ -119,12 +120,12 @@ pub record IsAskedFor (d : Domain) (entries : List Recorded) (name : List ℕ) (
       become ≡ answered d asked (refusal_of d (held_in d entries (seals entries)) asked)
   pub entered : after ≡ with_asked d entries (asked_with name octets (every_in turns) phase paths)
 
--- of one whose branches are found, or aren't
+-- the same for a stream whose branches are found, or aren't
 abbrev pub IsAnswered : Domain → List Recorded → List ℕ → ℕ → Turns → Result (List Branch) PlanFault → PlacedOr → List Recorded → Type 0
 IsAnswered d entries name octets turns (Err found) become after = (become ≡ Unplaced found) × (after ≡ entries)
 IsAnswered d entries name octets turns (Ok paths) become after = IsAskedFor d entries name octets turns paths become after
 
--- of one with this reservation in these cycles
+-- the same for a stream with this reservation in these cycles
 pub record IsRoutedAndAnswered (d : Domain) (entries : List Recorded) (stream : SettledStream) (octets : ℕ) (turns : Turns) (become : PlacedOr)
     (after : List Recorded) : Type 0 where
   pub routed : Result (List Branch) PlanFault
@@ -135,11 +136,11 @@ abbrev pub IsPlacedBy : Domain → List Recorded → SettledStream → Result �
 IsPlacedBy d entries stream (Err found) become after = (become ≡ Unplaced found) × (after ≡ entries)
 IsPlacedBy d entries stream (Ok octets) become after = IsRoutedAndAnswered d entries stream octets (turns_on d.cycle_time stream) become after
 
--- what becomes of a stream behind these entries, and the entries behind it
+-- the outcome for a stream after these entries, and the entries afterwards
 abbrev pub IsPlacing : Domain → List Recorded → SettledStream → PlacedOr → List Recorded → Type 0
 IsPlacing d entries stream become after = IsPlacedBy d entries stream (reserved_on d.cycle_time d.sync stream) become after
 
--- streams placed one after the other: what becomes of each, and the history in the end. One that isn't placed holds nothing
+-- streams placed one after the other: the outcome for each, and the history at the end. A stream that isn't placed holds nothing
 abbrev pub ArePlacedFrom : Domain → List Recorded → List SettledStream → List PlacedOr → List Recorded → Type 0
 ArePlacedFrom d entries [] [] end = end ≡ entries
 ArePlacedFrom d entries [] (become ∷ more) end = ⊥
@@ -147,12 +148,12 @@ ArePlacedFrom d entries (stream ∷ streams) [] end = ⊥
 ArePlacedFrom d entries (stream ∷ streams) (become ∷ more) end =
     (after : List Recorded) × IsPlacing d entries stream become after × ArePlacedFrom d after streams more end
 
--- a stream that is placed is offered from one of the first cycles on, up to where all paces repeat
+-- the first cycle of a stream that is placed comes before all paces repeat
 abbrev pub BeginsEarly : PlacedOr → Type 0
 BeginsEarly (Placed asked) = asked.phase < most_every
 BeginsEarly (Unplaced found) = ⊤
 
--- a domain, what becomes of each of some streams there, and the history of their admissions
+-- a domain, the outcome for each of some streams there, and the history of their admissions
 pub record PlacedStreams : Type 0 where
   pub domain : Domain
   pub outcomes : List PlacedOr

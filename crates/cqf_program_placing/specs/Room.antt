@@ -1,4 +1,4 @@
--- Streams are placed where there is room, in a planner's words.
+-- Streams are placed if there is room, in a planner's words.
 use Rattle.std.specs.Prelude.{ℕ, ◌≡◌, ◌≤◌, ◌<◌, ◌⊎◌, List, [], ◌∷◌, Contains, Result, Ok, Err, Some, length, map}
 use Rattle.cqf_units.specs.Timing.{cost_of}
 use Rattle.cqf_model.specs.declared.history.Refused.TheVariants as refused
@@ -31,9 +31,10 @@ use Rattle.cqf_program_placing.specs.Turns.{IsPhaseOnTree, MayBeFirst, every_in,
 abbrev pub HasRoomIn : Domain → List Row → ℕ → List Hop → Pace → Type 0
 HasRoomIn d rows cost tree pace = (l : ℕ) → Contains (links_in tree) l → cost ≤ left_on d rows tree pace l
 
--- a stream along the branches of a tree is asked for in the phase that is given, or in the first of those in which the tree's loads are the
--- least. Where each link of the tree has left what it costs in the phase that is given, or in any that may be chosen, it is placed by
--- them in that phase; and where a link has less left there it isn't, for the first such link in the tree's order
+-- a stream along the branches of a tree is requested in the given phase; or, if the phase is to be chosen, in the first one in which the
+-- tree's loads are the least. If each link of the tree has left what the stream costs, in the given phase or in any one that may be chosen,
+-- then the stream is placed by these branches in the phase for which it is requested. If a link has less left in that phase, the stream
+-- isn't placed: the fault is `Short`, for the first such link in the tree's order
 pub record IsPlacedAlong (d : Domain) (rows : List Row) (name : List ℕ) (octets : ℕ) (turns : Turns) (paths : List Branch) (become : PlacedOr) : Type 0 where
   pub phase : ℕ
   pub is_phase : IsPhaseOnTree d rows (cost_of octets) paths turns phase
@@ -42,28 +43,29 @@ pub record IsPlacedAlong (d : Domain) (rows : List Row) (name : List ℕ) (octet
   pub unplaced : (l : ℕ) → short_link d rows (cost_of octets) (pace_by (every_in turns) phase) (tree_of d paths) ≡ Some l →
       become ≡ Unplaced (fault.Short (name_of_bridge d (bridge_of d l)) (name_of_end d l) (left_on d rows (tree_of d paths) (pace_by (every_in turns) phase) l))
 
--- the first ways from a bridge to stations on which each link has left what a stream costs
+-- the first paths from a bridge to stations on which each link has left what a stream costs
 abbrev pub HaveRoom : Domain → List ℕ → ℕ → ℕ → List ℕ → List (List ℕ) → Type 0
 HaveRoom d left cost bridge stations ways = AreFirstWays d.links (has_room left cost) (Bridge bridge) stations ways
 
--- there is no such way to the station at a place, the first of them
+-- there is no such path to the station at an index, and this is the first such station
 abbrev pub HasNoRoom : Domain → List ℕ → ℕ → ℕ → List ℕ → ℕ → Type 0
 HasNoRoom d left cost bridge stations place = IsFirstWithout d.links (has_room left cost) (Bridge bridge) stations place
 
--- a branch may have as many nodes as stand on a way: so it is in the profile, and of large plants
+-- a branch may have as many nodes as the longest path: so it is with the limits `profile` and `large`
 abbrev pub MayBeWays : Limits → Type 0
 MayBeWays limits = most_links < nodes_within limits
 
--- how many hops the tree of ways from a bridge has
+-- how many hops the tree of paths from a bridge has
 abbrev pub hops_on_ways : Domain → ℕ → List (List ℕ) → ℕ
 hops_on_ways d bridge ways = length (tree_of d (map (names_along d bridge) ways))
 
--- a stream between a bridge and stations, by what links have left for it: where there are ways with room whose tree has no more hops than may
--- be, it goes by the first, and what becomes of it is as above; one whose phase is given, or that is offered in each cycle, is placed then.
--- Where their tree has more it isn't, for its hops. Where there is no way with room to some station it isn't, for the first such; and one of
--- the two is the case. So it is never refused for its name, its octets, its cycles or its branches, for its number among the streams, or,
--- where its phase isn't chosen, for a link that lacks room; and in the profile, where a tree may have as many hops as there are links, not for
--- its hops
+-- a stream between a bridge and stations, by what links have left for it. If there are paths with room and their tree has no more hops than
+-- are allowed, the stream takes the first such paths, and its outcome is as above; if moreover its phase is given, or it is offered in each
+-- cycle, it is placed. If their tree has more hops, the stream isn't placed: the fault is `TooManyHops`. If there is no path with room to
+-- some station, it isn't placed: the fault is `Full`, for the first such station. Either there are paths with room to all stations, or
+-- there is a first station without one. So such a stream is never refused for its name, its octets, its cycles, its branches or the number
+-- of streams, and unless its phase is chosen, not for a link that lacks room. With the limits of `profile`, a tree may have as many hops as
+-- there are links, so it isn't refused for its hops
 pub record IsPlacedBetween (d : Domain) (rows : List Row) (name : List ℕ) (octets : ℕ) (turns : Turns) (bridge : ℕ) (stations : List ℕ)
     (become : PlacedOr) : Type 0 where
   pub left : List ℕ
@@ -85,16 +87,16 @@ abbrev pub IsPlacedOnWay : Domain → List Row → List ℕ → ℕ → Turns �
 IsPlacedOnWay d rows name octets turns (Along paths) become = IsPlacedAlong d rows name octets turns paths become
 IsPlacedOnWay d rows name octets turns (Between bridge stations) become = IsPlacedBetween d rows name octets turns bridge stations become
 
--- by its reservation: a stream that has none isn't placed, and this is told of it
+-- by its reservation: a stream that has none isn't placed, for the fault that says why
 abbrev pub IsPlacedWith : Domain → List Row → SettledStream → Result ℕ PlanFault → PlacedOr → Type 0
 IsPlacedWith d rows stream (Err found) become = become ≡ Unplaced found
 IsPlacedWith d rows stream (Ok octets) become = IsPlacedOnWay d rows stream.name octets (turns_on d.cycle_time stream) stream.way become
 
--- a stream is placed beside some rows where there is room
+-- a stream is placed if there is room while these rows are held
 abbrev pub IsPlacedByRoom : Domain → List Row → SettledStream → PlacedOr → Type 0
 IsPlacedByRoom d rows stream become = IsPlacedWith d rows stream (reserved_on d.cycle_time d.sync stream) become
 
--- so is each of some streams behind these entries, beside the rows of those that are placed before it
+-- each of some streams after these entries is placed if there is room while the rows of those placed before it are held
 abbrev pub ArePlacedByRoomFrom : Domain → List Recorded → List SettledStream → List PlacedOr → List Recorded → Type 0
 ArePlacedByRoomFrom d entries [] [] end = end ≡ entries
 ArePlacedByRoomFrom d entries [] (become ∷ more) end = ⊥
@@ -106,7 +108,8 @@ ArePlacedByRoomFrom d entries (stream ∷ streams) (become ∷ more) end =
 abbrev pub ArePlacedByRoom : List SettledStream → PlacedStreams → Type 0
 ArePlacedByRoom streams placed = ArePlacedByRoomFrom placed.domain [] streams placed.outcomes placed.entries
 
--- the streams of a sketch's text, settled, are so, on each cycle time that is open to its domain, whose branches may be ways
+-- the settled streams of a network file's text are placed if there is room, on each cycle time that is open to its domain, if a branch may
+-- have as many nodes as the longest path
 abbrev pub PlacedWhereThereIsRoom : Type 0
 PlacedWhereThereIsRoom =
     (sketch : SketchDomain) (text : List ℕ) (texts : List StreamText) (streams : List SettledStream) (cycle_time : ℕ) (placed : PlacedStreams) →

@@ -10,7 +10,7 @@ use Rattle.cqf_program_placing.specs.declared.turns.Turns.{Turns}
 use Rattle.cqf_program_placing.specs.Placing.{IsFull, IsRouted}
 use Rattle.cqf_program_placing.specs.Settled.{SettledWay}
 
--- a stream beside these rows has none for this fault
+-- a stream has no branches for this fault while these rows are held
 abbrev pub IsUnrouted : Domain → List Row → Turns → ℕ → SettledWay → Unrouted → Type 0
 IsUnrouted d rows turns cost way (unrouted.Fault found) = IsRouted d rows turns cost way (Err found)
 IsUnrouted d rows turns cost way unrouted.Memory = Unit {0}
@@ -20,12 +20,12 @@ abbrev pub IsFullFor : Domain → List ℕ → ℕ → ℕ → List ℕ → Unro
 IsFullFor d left cost bridge stations (unrouted.Fault found) = IsFull d left cost bridge stations found
 IsFullFor d left cost bridge stations unrouted.Memory = Unit {0}
 
--- a station is the domain's, and a way leads to it from a bridge
+-- a station is the domain's, and a path leads to it from a bridge
 pub record IsReached (d : Domain) (bridge station : ℕ) : Type 0 where
   pub is_there : station < length d.stations
   pub way : List ℕ
   pub is_way : IsWay d.links (λ _. true) (Bridge bridge) (Station station) way
 
--- each of some stations is so
+-- each of some stations is reached so
 abbrev pub AreReached : Domain → ℕ → List ℕ → Type 0
 AreReached d bridge stations = (k station : ℕ) → slice_get stations k ≡ Some station → IsReached d bridge station

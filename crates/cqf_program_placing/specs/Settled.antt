@@ -1,4 +1,4 @@
--- The streams of a sketch, each looked over for what no cycle time changes.
+-- The streams of a network file, checked for what no cycle time changes.
 use Rattle.std.specs.Prelude.{ℕ, ◌+◌, ◌-◌, ◌*◌, ◌<◌, ◌≤◌, ◌==◌, ◌||◌, ◌&&◌, ◌++◌, List, [], ◌∷◌, ⊤, Bool, true, false, if◌then◌else◌, find, length, min}
 use Rattle.std.specs.Prelude.{All, IsTrue, nat_le, nat_lt, not, suc, zero, ok_or, option_and_then, option_map, unwrap_or, Option, Some, None}
 use Rattle.std.specs.Prelude.{Result, Ok, Err}
@@ -35,13 +35,13 @@ use Rattle.cqf_program_placing.specs.declared.settled.Unsettled.TheVariants as u
 use Rattle.cqf_program_placing.specs.declared.settled.StreamWay.{StreamWay}
 use Rattle.cqf_program_placing.specs.declared.settled.StreamWay.TheVariants as way
 
--- which way a stream goes: along branches by the names of their nodes, or from a bridge to stations
+-- a stream's path: along branches, by the names of their nodes; or from a bridge to stations
 pub data SettledWay : Type 0 where
   Along : List Branch → SettledWay
   Between : ℕ → List ℕ → SettledWay
 
--- a stream whose nodes are found: its octets a cycle where the sketch says them, in which cycles it is offered where that is given, and its
--- deadline from its edge bridge on
+-- a stream whose nodes are found: its octets in a cycle if the network file gives them, the cycles in which it is offered if they are
+-- given, and its deadline from its edge bridge
 pub record SettledStream : Type 0 where
   pub name : List ℕ
   pub octets : Option ℕ
@@ -64,17 +64,17 @@ settled_value stream = record {
   traffic = stream.traffic;
 }
 
--- octets that a stream may reserve, where it says them
+-- octets that a stream may reserve; none may be given
 abbrev pub are_reservable : Option ℕ → Bool
 are_reservable None = true
 are_reservable (Some octets) = nat_le least_reserved octets && nat_le octets most_reserved
 
--- cycles in which a stream may be offered, where they are given
+-- cycles in which a stream may be offered, if they are given
 abbrev pub is_paced : Pacing → Bool
 is_paced (Given every phase) = is_pace every phase
 is_paced InStep = true
 
--- where a stream enters that comes from a node: at that bridge, or behind the talker's link of that station
+-- where a stream from a node enters: at that bridge, or after the talker's link of that station
 abbrev pub entrance_behind : TalkerLink → Entrance
 entrance_behind talker = record { bridge = talker.bridge; talker = Some talker }
 
@@ -89,7 +89,7 @@ station_at None = None
 station_at (Some (Bridge b)) = None
 station_at (Some (Station s)) = Some s
 
--- the station of a name, and of each of some names; or the first name that is no station's
+-- the station of a name, and the stations of some names; or the first name that isn't a station's
 abbrev pub station_by_name : Domain → List ℕ → Result ℕ PlanFault
 station_by_name d name = ok_or (station_at (node_named d name)) (fault.NoListener name)
 
@@ -97,22 +97,23 @@ abbrev pub stations_by_name : Domain → List (List ℕ) → Result (List ℕ) P
 stations_by_name d [] = Ok []
 stations_by_name d (name ∷ names) = and_first (station_by_name d name) (stations_by_name d names)
 
--- whether links lead from a node to a node, at most so many
+-- whether links lead from a node to a node, at most as many as the given number
 unfoldable pub is_led : List Link → ℕ → Node → Node → Bool
 is_led links zero node to = same_node node to
 is_led links (suc most) node to = same_node node to
     || list_any (λ l. option_map_or (λ next. is_led links most next to) (led_to links node l) false) (each_below (λ l. l ∷ []) (length links))
 
--- whether a way leads from a bridge to a node
+-- whether a path leads from a bridge to a node
 abbrev pub has_way : Domain → ℕ → Option Node → Bool
 has_way d bridge None = false
 has_way d bridge (Some node) = is_led d.links most_links (Bridge bridge) node
 
--- the first of some names to whose node none does
+-- the first of some names to whose node no path leads
 abbrev pub first_apart : Domain → ℕ → List (List ℕ) → Option (List ℕ)
 first_apart d bridge names = find (λ name. not (has_way d bridge (node_named d name))) names
 
--- the way of a stream: it has a talker, its listeners are stations, and ways lead there; or else given branches make a tree of the plant
+-- the path of a stream: it has a talker, its listeners are stations, and paths lead to them; or its given branches make a tree of the
+-- domain
 abbrev pub way_from : Domain → Option Entrance → List (List ℕ) → Result SettledWay PlanFault
 way_from d entrance to =
     and_then (ok_or entrance fault.NoTalker) (λ (from : Entrance).
@@ -126,22 +127,22 @@ abbrev pub settled_way : SketchDomain → Domain → WantedText → Result Settl
 settled_way sketch d (AlongText paths) = way_along d paths
 settled_way sketch d (BetweenText from to) = way_from d (entrance_at sketch (node_named d from)) to
 
--- the talker's link by which a stream comes to its edge bridge
+-- the talker's link on which a stream reaches its edge bridge
 abbrev pub talker_of_stream : SketchDomain → Domain → WantedText → Option TalkerLink
 talker_of_stream sketch d (AlongText paths) = None
 talker_of_stream sketch d (BetweenText from to) = option_and_then (λ (entrance : Entrance). entrance.talker) (entrance_at sketch (node_named d from))
 
--- how many octets a frame of a stream may have, by the octets that it asks for and its traffic
+-- how many octets a frame of a stream may have: the size in its traffic; without traffic its reservation, and at most 1,522
 abbrev pub longest_of : Option ℕ → Option TrafficText → ℕ
 longest_of octets traffic = option_map_or (λ (t : TrafficText). t.size) traffic (min (unwrap_or octets 0) 1522)
 
--- what is over of a deadline where a frame of so many octets is whole at the edge bridge: what the talker's link takes, from where the
+-- how much of a deadline is over when a frame of this many octets is whole at the edge bridge: the time on the talker's link, from when the
 -- talker begins to send it
 abbrev pub taken_on : Option TalkerLink → ℕ → ℕ
 taken_on None octets = 0
 taken_on (Some link) octets = time_of (octets + 8) (ticks_of_octet link.rate) + link.delay
 
--- the deadline from the edge bridge on, of which something has to be left
+-- the deadline from the edge bridge on; it has to be more than 0
 abbrev pub deadline_behind : ℕ → Option ℕ → Result (Option ℕ) PlanFault
 deadline_behind taken None = Ok None
 deadline_behind taken (Some deadline) = if nat_lt taken deadline then Ok (Some (deadline - taken)) else Err fault.TooSoon
@@ -150,18 +151,18 @@ abbrev pub deadline_of_stream : SketchDomain → Domain → StreamText → Resul
 deadline_of_stream sketch d stream =
     deadline_behind (taken_on (talker_of_stream sketch d stream.way) (longest_of stream.octets stream.traffic)) stream.deadline
 
--- why a stream of a name can't stand behind those of other names
+-- why a stream of this name can't follow streams of other names
 abbrev pub refusal_behind : Domain → List (List ℕ) → List ℕ → Option Refused
 refusal_behind d before name =
     if is_among name before then Some refused.NameHeld
     else (if nat_le (streams_within d.limits) (length before) then Some refused.TooManyStreams else None)
 
--- a stream whose way is settled, with its deadline
+-- a stream whose path is settled, with its deadline
 abbrev pub with_deadline : List ℕ → Option ℕ → Pacing → SettledWay → Option TrafficText → Result (Option ℕ) PlanFault → Result SettledStream PlanFault
 with_deadline name octets pacing way traffic deadline =
     and_then deadline (λ left. Ok (record { name = name; octets = octets; pacing = pacing; way = way; deadline = left; traffic = traffic }))
 
--- a stream behind others of these names, or its first fault
+-- a stream that follows others of these names, or its first fault
 abbrev pub settled_stream : SketchDomain → Domain → List (List ℕ) → StreamText → Result SettledStream PlanFault
 settled_stream sketch d before stream =
     refuse (if_so (not (are_reservable stream.octets))) (λ _. fault.Refused refused.BadOctets) (
@@ -175,34 +176,36 @@ abbrev pub or_unsettled : {A : Type 0} → List ℕ → Result A PlanFault → R
 or_unsettled name (Ok x) = Ok x
 or_unsettled name (Err e) = Err (unsettled.Stream name e)
 
--- a stream behind others of these names, whose name has to have the form of one
+-- a stream that follows others of these names; its own name has to have the form of a name
 abbrev pub settled_next : SketchDomain → Domain → List (List ℕ) → StreamText → Result SettledStream Unsettled
 settled_next sketch d before stream =
     refuse (if_so (not (is_name stream.name))) (λ _. unsettled.BadName (length before + 1))
     (or_unsettled stream.name (settled_stream sketch d before stream))
 
--- streams behind others of these names, in their order, or the first fault
+-- streams that follow others of these names, in their order, or the first fault
 abbrev pub settled_behind : SketchDomain → Domain → List (List ℕ) → List StreamText → Result (List SettledStream) Unsettled
 settled_behind sketch d before [] = Ok []
 settled_behind sketch d before (stream ∷ streams) =
     and_first (settled_next sketch d before stream) (settled_behind sketch d (before ++ stream.name ∷ []) streams)
 
--- the plant's names and links, whatever the cycle time: those of the domain with the first candidate above each guard time
+-- the names and links of a network file's domain, which no cycle time changes: those of its domain at the first candidate that is longer
+-- than every guard band
 abbrev pub open_domain : SketchDomain → Domain
 open_domain sketch = domain_at sketch (open_cycle sketch)
 
--- the streams of a sketch, settled, or the first fault
+-- the settled streams of a network file, or the first fault
 abbrev pub settled_of : SketchDomain → List StreamText → Result (List SettledStream) Unsettled
 settled_of sketch streams = settled_behind sketch (open_domain sketch) [] streams
 
--- the way of a settled stream is by nodes of the plant, and there are ways between them
+-- the path of a settled stream from a bridge to stations is between nodes of the domain, and links lead from the bridge to each station.
+-- For given branches nothing is required
 abbrev pub IsOnWay : Domain → SettledWay → Type 0
 IsOnWay d (Along paths) = ⊤
 IsOnWay d (Between bridge stations) = (bridge < length d.bridges)
     × All (λ station. (station < length d.stations) × IsTrue (is_led d.links most_links (Bridge bridge) (Station station))) stations
 
--- what a settled stream has: a name, a way, octets that it may reserve and cycles that it may have where they are given, and a deadline
--- that isn't over
+-- what a settled stream has: a name, a path, octets that it may reserve and cycles that it may have if they are given, and a deadline that
+-- isn't over
 pub record IsPlaceable (d : Domain) (stream : SettledStream) : Type 0 where
   pub named : IsTrue (is_name stream.name)
   pub on_way : IsOnWay d stream.way

@@ -1,4 +1,4 @@
-//! Streams that are asked for.
+//! Requests for streams.
 ghost use Rattle.std.specs.Prelude.{ℕ, ◌≡◌, ◌<◌, IfOk, length};
 ghost use Rattle.cqf_admission.specs.Admission.{calls};
 ghost use Rattle.cqf_admission.specs.Asking.{asked_paced};
@@ -14,10 +14,10 @@ use cqf_topology::{Domain, PacedRequest};
 use cqf_units::Memory;
 use std::alloc::AllocError;
 
-/// The administrator that streams are asked for by.
+/// The administrator that requests streams.
 const SEAT: u16 = 0;
 
-/// A refusal, as the fault of a stream: with the names of the ends of a link that lacks room.
+/// Returns a refusal as the fault of a stream, with the names of the ends of a link that lacks room.
 fn fault_of_refusal(domain: &Domain, refused: Refused) -> PlanFault
     requires { (link left : ℕ) → refused ≡ Refused.BudgetShort link left → link < length domain.now.links }
     ensures { result ≡ fault_of_refusal domain.now refused }
@@ -32,7 +32,7 @@ fn fault_of_refusal(domain: &Domain, refused: Refused) -> PlanFault
     }
 }
 
-/// Asks for a stream: what becomes of it is what admission answers.
+/// Requests a stream, and returns the outcome: admission's answer. Returns `Memory` if an allocation fails.
 pub(crate) fn ask(
     domain: &Domain,
     admission: &mut Admission,

@@ -9,22 +9,22 @@ use cqf_topology::Domain;
 use cqf_units::Memory;
 use std::alloc::AllocError;
 
-/// Branches, and their tree, where they make one.
+/// Branches, and their tree if they make one.
 #[derive(Debug, Drop)]
 pub(crate) struct Branched {
     pub(crate) paths: Vec<Vec<String>>,
     pub(crate) tree: Option<ArrayVec<Hop, 200>>,
 }
 
-/// Branches with their tree.
+/// Returns branches with their tree.
 ///
 /// # Errors
-/// Where they are more than memory holds.
+/// If memory can't hold them.
 pub(crate) fn branched_by(domain: &Domain, paths: Vec<Vec<String>>) -> Result<Branched, Memory>
     ensures tree { IfOk result (IsBranched domain.now) }
     ensures paths { IfOk result (λ branched. branched.paths ≡ paths) }
 {
-    // as admission tells it
+    // decided as admission does
     if count_places(paths.as_slice()).is_none() {
         return Err(AllocError);
     }

@@ -12,7 +12,7 @@ use cqf_topology::Domain;
 use cqf_units::{Memory, Name};
 use std::alloc::Global;
 
-/// The name of a bridge. A bridge that the domain lacks has none.
+/// Returns the name of a bridge; an empty one if the domain lacks the bridge.
 fn name_of_bridge(domain: &Domain, bridge: u16) -> &str
     ensures { result.now ≡ name_of_bridge domain.now bridge }
 {
@@ -23,7 +23,7 @@ fn name_of_bridge(domain: &Domain, bridge: u16) -> &str
     }
 }
 
-/// The name of a node. A node that the domain lacks has none.
+/// Returns the name of a node; an empty one if the domain lacks the node.
 fn name_of_node(domain: &Domain, node: Node) -> &str
     ensures { result.now ≡ name_of_node domain.now node }
 {
@@ -39,7 +39,7 @@ fn name_of_node(domain: &Domain, node: Node) -> &str
     }
 }
 
-/// The name of the node that a link ends in. A link that the domain lacks ends in none.
+/// Returns the name of the node in which a link ends; an empty one if the domain lacks the link.
 fn name_of_end(domain: &Domain, link: u16) -> &str
     ensures { result.now ≡ name_of_end domain.now link }
 {
@@ -50,7 +50,7 @@ fn name_of_end(domain: &Domain, link: u16) -> &str
     }
 }
 
-/// A way from a bridge as a branch.
+/// Returns a path from a bridge as a branch.
 fn branch_along(
     alloc: Global,
     domain: &Domain,
@@ -67,7 +67,7 @@ fn branch_along(
     Ok(names)
 }
 
-/// Ways from a bridge as branches, in their order.
+/// Returns paths from a bridge as branches, in their order.
 pub(crate) fn branches_along(
     alloc: Global,
     domain: &Domain,
@@ -83,7 +83,7 @@ pub(crate) fn branches_along(
     Ok(paths)
 }
 
-/// A branch again.
+/// Returns a copy of a branch.
 fn copied_branch(alloc: Global, names: &[String]) -> Result<Vec<String>, Memory>
     ensures { IfOk result (λ copies. branch_of copies.items ≡ branch_of names.now) }
 {
@@ -94,7 +94,7 @@ fn copied_branch(alloc: Global, names: &[String]) -> Result<Vec<String>, Memory>
     Ok(copies)
 }
 
-/// Branches again.
+/// Returns a copy of branches.
 pub(crate) fn copied_branches(
     alloc: Global,
     paths: &[Vec<String>],
@@ -108,7 +108,7 @@ pub(crate) fn copied_branches(
     Ok(copies)
 }
 
-/// The name of the bridge that a link of the domain leaves.
+/// Returns the name of the bridge that a link of the domain leaves.
 pub(crate) fn start_of_link(domain: &Domain, link: u16) -> Name
     requires { link < length domain.now.links }
     ensures { result ≡ name_of_bridge domain.now (bridge_of domain.now link) }
@@ -117,7 +117,7 @@ pub(crate) fn start_of_link(domain: &Domain, link: u16) -> Name
     domain.bridge_name(domain.link(link).from).copied()
 }
 
-/// The name of the node that a link of the domain ends in.
+/// Returns the name of the node in which a link of the domain ends.
 pub(crate) fn end_of_link(domain: &Domain, link: u16) -> Name
     requires { link < length domain.now.links }
     ensures { result ≡ name_of_end domain.now link }

@@ -10,7 +10,7 @@ use cqf_units::time_of;
 /// The octets of the longest frame with a tag (IEEE 802.3).
 const LONGEST_FRAME: u32 = 1_522;
 
-/// How many octets a frame of a stream may have, by the octets a cycle that it asks for and its traffic.
+/// Returns how many octets a frame of a stream may have: the size in its traffic; without traffic its reservation, and at most 1,522.
 pub(crate) fn longest_of(octets: Option<u32>, traffic: Option<Traffic>) -> u32
     ensures { result ≡ longest_of octets traffic }
 {
@@ -20,7 +20,7 @@ pub(crate) fn longest_of(octets: Option<u32>, traffic: Option<Traffic>) -> u32
     }
 }
 
-/// What is over of a deadline where a frame of so many octets is whole at the edge bridge, in nanoseconds.
+/// Returns how much of a deadline is over, in nanoseconds, when a frame of this many octets is whole at the edge bridge.
 pub(crate) fn taken_on(talker: Option<TalkerLink>, octets: u32) -> u64
     ensures { result ≡ taken_on talker octets }
 {
@@ -30,7 +30,8 @@ pub(crate) fn taken_on(talker: Option<TalkerLink>, octets: u32) -> u64
     }
 }
 
-/// The deadline from the edge bridge on, where so much of it is over there.
+/// Returns the deadline from the edge bridge on, in nanoseconds, if `taken` nanoseconds of it are over there. Returns `TooSoon` if nothing
+/// is left.
 pub(crate) fn deadline_behind(taken: u64, deadline: Option<u32>) -> Result<Option<u32>, PlanFault>
     ensures { result ≡ deadline_behind taken deadline }
 {

@@ -1,4 +1,4 @@
-//! Where streams enter a sketch's plant.
+//! Where streams enter the domain of a network file.
 ghost use Rattle.std.specs.Prelude.{◌≡◌, ◌==◌, find};
 ghost use Rattle.cqf_model.specs.Domain.{node_named};
 ghost use Rattle.cqf_sketch.specs.StreamsText.{wanted_text};
@@ -9,14 +9,14 @@ use cqf_sketch::{SketchDomain, TalkerLink, WantedWay};
 use cqf_topology::Domain;
 use cqf_units::Name;
 
-/// A sketch's domain, and its plant at an open cycle time.
+/// A network file's domain, and the domain that it is at an open cycle time.
 #[derive(Clone, Copy)]
 pub(crate) struct OpenSketch<'a> {
     pub sketch: &'a SketchDomain,
     pub plant: &'a Domain,
 }
 
-/// Where a stream enters the plant: its edge bridge, and the talker's link by which it comes there, if its talker is a station.
+/// Where a stream enters the domain: its edge bridge, and the talker's link on which it reaches that bridge if its talker is a station.
 #[derive(Clone, Copy, Debug)]
 pub(crate) struct Entrance {
     /// The edge bridge's number.
@@ -24,7 +24,7 @@ pub(crate) struct Entrance {
     pub talker: Option<TalkerLink>,
 }
 
-/// The talker's link of a station.
+/// Returns the talker's link of a station.
 fn talker_of(sketch: &SketchDomain, station: u16) -> Option<TalkerLink>
     ensures { result ≡ find (λ talker. talker.station == station) sketch.now.talkers }
 {
@@ -36,7 +36,7 @@ fn talker_of(sketch: &SketchDomain, station: u16) -> Option<TalkerLink>
     None
 }
 
-/// Where streams enter that come from a node.
+/// Returns where streams from a node enter.
 fn entrance_at(sketch: &SketchDomain, node: Option<Node>) -> Option<Entrance>
     ensures { result ≡ entrance_at sketch.now node }
 {
@@ -56,14 +56,14 @@ fn entrance_at(sketch: &SketchDomain, node: Option<Node>) -> Option<Entrance>
     }
 }
 
-/// Where streams enter that come from the node of a name.
+/// Returns where streams from the node of a name enter.
 pub(crate) fn find_entrance(at: OpenSketch, name: &Name) -> Option<Entrance>
     ensures { result ≡ entrance_at at.entry.sketch.now (node_named at.entry.plant.now name.now) }
 {
     entrance_at(at.sketch, at.plant.find(name.as_str()))
 }
 
-/// The talker's link by which a stream comes to its edge bridge.
+/// Returns the talker's link on which a stream reaches its edge bridge; none for a stream with given branches, or from a bridge.
 pub(crate) fn find_talker(at: OpenSketch, way: &WantedWay) -> Option<TalkerLink>
     ensures { result ≡ talker_of_stream at.entry.sketch.now at.entry.plant.now (wanted_text way.now) }
 {

@@ -1,4 +1,4 @@
-//! Why a stream of a sketch isn't settled, isn't placed, or may be late.
+//! Why a stream of a network file isn't settled, isn't placed, or may be late.
 ghost use Rattle.std.specs.Prelude.{Some};
 ghost use Rattle.cqf_program_placing.specs.Faults.{plan_fault_text};
 
@@ -7,34 +7,35 @@ use cqf_units::Name;
 use std::fmt;
 use thiserror::Error;
 
-/// Why a stream of a sketch isn't settled, isn't placed on a cycle time, or may be late there. A fault prints as its name, and
-/// then its values, each after a space.
+/// Why a stream of a network file isn't settled, isn't placed on a cycle time, or may be late there. A fault prints as its name, followed
+/// by its values, each after a space.
 #[derive(Debug, PartialEq, Eq, Drop, Error)]
 pub enum PlanFault {
-    /// As admission refuses it.
+    /// Admission refuses the stream.
     Refused(Refused),
-    /// The node that it comes from is neither a bridge nor a station with a talker's link.
+    /// The node that the stream comes from is neither a bridge nor a station with a talker's link.
     NoTalker,
-    /// The first of its listeners that is no station.
+    /// The first of its listeners that isn't a station.
     NoListener(Name),
-    /// The first of its listeners to which no links lead from its edge bridge, at most 16 of them.
+    /// The first of its listeners to which no path leads from its edge bridge, of at most 16 links.
     NoWay(Name),
-    /// Its deadline is over no later than a frame is whole at its edge bridge.
+    /// Its deadline is over before a frame is whole at its edge bridge, or at that instant.
     TooSoon,
-    /// Its talker is to be in step, and not all its frames of an interval come within one cycle, by its own clock and by the edge bridge's.
+    /// Its talker has to be in step, but not all its frames of an interval arrive within one cycle, by its own clock and by the edge
+    /// bridge's.
     BadInStep,
-    /// So many octets are needed of a cycle, and a stream may not reserve as many.
+    /// Its traffic needs this many octets in a cycle, more than a stream may reserve.
     TooMuch(u64),
-    /// So many octets are needed of a cycle, and it asks for fewer.
+    /// Its traffic needs this many octets in a cycle, more than the stream requests.
     TooLittle(u64),
-    /// The first link of its tree, by the names of its ends, with fewer octets left than it costs, and how many.
+    /// The first link of its tree that has fewer octets left than the stream costs, by the names of its ends, and how many it has left.
     Short {
         from: Name,
         to: Name,
         left: u32,
     },
-    /// The first of its listeners to which no way has room for what it costs; and of the first way there is, the first link that lacks
-    /// it, by the names of its ends, and what it has left.
+    /// The first of its listeners to which no path has room for what the stream costs; and the first link that lacks room on the first path
+    /// of all, by the names of its ends, and what it has left.
     Full {
         listener: Name,
         cost: u32,
@@ -42,7 +43,8 @@ pub enum PlanFault {
         to: Name,
         left: u32,
     },
-    /// The first of its listeners at which a frame may be late, the most that a frame takes there, and the deadline.
+    /// The first of its listeners at which a frame may be late, the longest time that a frame takes to it, and the deadline, in
+    /// nanoseconds.
     Late {
         listener: Name,
         most: u64,

@@ -1,4 +1,4 @@
-//! Behind how many links a stream's frames leave each bridge, where its cycles are given, and what links have left there.
+//! After how many links the frames of a stream with given cycles leave each bridge, and what links have left there.
 ghost use Rattle.std.specs.Prelude.{◌≡◌, ◌<◌, ◌+◌, ℕ, IfOk, MatchOption, None, length, slice_index_or};
 ghost use Rattle.cqf_admission.specs.Turns.{IsGoodPace};
 ghost use Rattle.cqf_model.specs.History.{held_in, seals};
@@ -11,23 +11,23 @@ use cqf_topology::Domain;
 use cqf_units::Memory;
 use std::alloc::Global;
 
-/// Behind how many links frames leave each bridge, by number, where they do.
+/// For each bridge by number, after how many links frames leave it, if they reach it.
 type Hops = [Option<u8>; MOST_BRIDGES];
 
-/// The last hop of a way: so many links stand before it at most.
+/// The most links before the last hop of a path.
 const LAST_HOP: u8 = 15;
 
-/// A stream whose cycles are given, beside those that are placed on a domain.
+/// A stream whose cycles are given, with a domain and the streams that are placed there.
 #[derive(Clone, Copy)]
 pub(crate) struct PacedRoom<'a> {
     pub domain: &'a Domain,
     pub admission: &'a Admission,
     pub pace: Pace,
-    /// In octets a cycle, of each link.
+    /// What the stream costs of each link, in octets a cycle.
     pub cost: u32,
 }
 
-/// Behind how many links frames leave a bridge.
+/// Returns after how many links frames leave a bridge, if they reach it.
 fn hop_of(hops: &Hops, bridge: u16) -> Option<u8>
     ensures { result ≡ hop_of hops.now bridge }
 {
@@ -38,7 +38,7 @@ fn hop_of(hops: &Hops, bridge: u16) -> Option<u8>
 }
 
 impl<'a> PacedRoom<'a> {
-    /// What a link has left in the cycles in which frames go by it behind so many others.
+    /// Returns what a link has left in the cycles in which frames pass it after `before` links.
     fn left_behind(self, before: u8, link: u16) -> u32
         requires domain { self.admission.now.domain ≡ self.domain.now }
         requires inside { link < length self.domain.now.links }
@@ -55,7 +55,7 @@ impl<'a> PacedRoom<'a> {
         self.admission.left_at(&hop, self.pace).0
     }
 
-    /// The bridge to which a link leads from one that frames leave behind so many others, where it has room there.
+    /// Returns the bridge to which a link leads, if frames leave the link's bridge after `before` links and the link has room there.
     fn led(self, before: u8, link: u16, hops: &Hops) -> Option<u16>
         requires domain { self.admission.now.domain ≡ self.domain.now }
         requires inside { link < length self.domain.now.links }
@@ -82,8 +82,8 @@ impl<'a> PacedRoom<'a> {
         }
     }
 
-    /// Frames that leave a bridge behind so many links come by a link to another: that one is left behind one more, if it isn't behind
-    /// fewer.
+    /// Follows a link from a bridge that frames leave after `before` links. If it has room and leads to a bridge that isn't reached yet,
+    /// frames leave that bridge after one link more.
     fn reach(self, before: u8, link: u16, hops: &mut Hops)
         requires domain { self.admission.now.domain ≡ self.domain.now }
         requires inside { link < length self.domain.now.links }
@@ -101,7 +101,7 @@ impl<'a> PacedRoom<'a> {
         }
     }
 
-    /// So by each link.
+    /// Follows each link so.
     fn reach_all(self, before: u8, hops: &mut Hops)
         requires domain { self.admission.now.domain ≡ self.domain.now }
         requires good { IsGoodPace self.pace }
@@ -114,8 +114,8 @@ impl<'a> PacedRoom<'a> {
         }
     }
 
-    /// Behind how many links frames from a bridge leave each: as few as they can, where each link has room in the cycles in which they go by
-    /// it.
+    /// Returns after how many links frames from a bridge leave each bridge: as few as possible, if each link has room in the cycles in
+    /// which they pass it.
     fn hops_from(self, bridge: u16) -> Hops
         requires domain { self.admission.now.domain ≡ self.domain.now }
         requires good { IsGoodPace self.pace }
@@ -132,7 +132,7 @@ impl<'a> PacedRoom<'a> {
         hops
     }
 
-    /// What a link has left where frames go by it.
+    /// Returns what a link has left, after as many links as frames leave its bridge; 0 for a link that no frame reaches.
     fn left_where(self, link: u16, hops: &Hops) -> u32
         requires domain { self.admission.now.domain ≡ self.domain.now }
         requires inside { link < length self.domain.now.links }
@@ -148,10 +148,10 @@ impl<'a> PacedRoom<'a> {
         }
     }
 
-    /// What each link has left where frames from a bridge go by it, by number.
+    /// Returns what each link has left when frames from a bridge pass it, by number.
     ///
     /// # Errors
-    /// Where a growth is refused.
+    /// If an allocation fails.
     pub(crate) fn lefts(self, alloc: Global, bridge: u16) -> Result<Vec<u32>, Memory>
         requires domain { self.admission.now.domain ≡ self.domain.now }
         requires good { IsGoodPace self.pace }

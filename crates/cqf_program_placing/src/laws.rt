@@ -4,15 +4,18 @@ ghost use Rattle.cqf_program_placing.specs.Room.{PlacedWhereThereIsRoom};
 use cqf_laws_history::state_follows_history;
 use cqf_sketch::first_ways_are_a_tree;
 
-/// Streams of a sketch that are placed on a cycle time one after the other are each placed where there is room beside those that are placed
-/// before it. A stream between a bridge and stations goes by the first ways on which each link has left what it costs, where there is such
-/// a way to each of its stations and their tree has no more hops than may be; else it isn't placed, for the first station without one, or
-/// for its hops. What a link has left for a stream whose cycles are given is what it has where the stream's frames go by it, which leave
-/// each bridge behind as few links as room lets them; and for one whose phase is chosen, in the emptiest of as many cycles as it is offered in
-/// one of. One whose phase isn't chosen is placed by these ways; so admission refuses none for which they were found but for the hops of
-/// their tree, and in the profile not for these. One whose phase is chosen is placed exactly where from some first cycle on each link of the
-/// tree has left what it costs: in the first phase then in which the tree's loads, from the greatest down, are the least. Else it isn't, for
-/// the first link that hasn't; and so it is along branches that are given.
+/// Streams of a network file that are placed on a cycle time one after the other are each placed if there is room with those that are
+/// placed before it.
+///
+/// A stream between a bridge and stations takes the first paths on which each link has left what it costs, if there is such a path to each
+/// of its stations and their tree has no more hops than are allowed. Else it isn't placed, for the first station without such a path, or
+/// for its hops. For a stream with given cycles, what a link has left is what it has when the stream's frames pass it, and these leave each
+/// bridge after as few links as room permits. For a stream whose phase is chosen, it is what the link has left in its emptiest phase.
+///
+/// A stream whose phase isn't chosen is placed by these paths. So admission refuses no stream for which they were found, except for the
+/// hops of their tree, and with the limits of `profile` not for these. A stream whose phase is chosen is placed if and only if there is a
+/// phase in which each link of the tree has left what it costs. It gets the first phase in which the tree's loads, in descending order, are
+/// the least. Else it isn't placed, for the first link that lacks room. The same holds along given branches.
 pub fn placed_where_there_is_room()
     ensures { PlacedWhereThereIsRoom }
 {

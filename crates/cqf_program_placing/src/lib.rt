@@ -1,14 +1,15 @@
-//! The streams of a sketch, settled, and placed on a cycle time one after the other.
+//! The streams of a network file, settled, and placed on a cycle time one after the other.
 //!
-//! - [`settle`] looks the streams of a sketch over for what no cycle time changes, and gives them as [`Settled`], with each node by
+//! - [`settle`] checks the streams of a network file for what no cycle time changes. It returns them as [`Settled`], with each node by
 //!   number and deadlines from the edge bridge; or [`Unsettled`], the first fault.
-//! - [`place`] admits settled streams on a cycle time in their order, each with what its traffic needs of a cycle, those that have
-//!   no branches by the first ways with room, and those of talkers in step in the first of the phases in which their links, from the fullest
-//!   down, are least full: a [`Placing`], with the [`PlacingOutcome`] of each stream.
+//! - [`place`] admits settled streams on a cycle time in their order, each with what its traffic needs in a cycle. Streams that have no
+//!   branches take the first paths with room. Those of talkers in step take the first of the phases in which their links, from the fullest
+//!   down, are least full. It returns a [`Placing`], with the [`PlacingOutcome`] of each stream.
 //! - A [`PlanFault`] is why a stream isn't settled, or isn't placed.
 //!
-//! `specs/` has both as definitions (`Settled`, `Placing`), in which cycles streams are offered (`Turns`), behind how many links their frames leave bridges (`Hops`), the texts of faults (`Faults`), and
-//! the law that streams are placed where there is room (`Room`), which [`placed_where_there_is_room`] proves.
+//! `specs/` defines both (`Settled`, `Placing`), in which cycles streams are offered (`Turns`), after how many links their frames leave
+//! bridges (`Hops`), and the texts of faults (`Faults`). It has the law that streams are placed if there is room (`Room`), which
+//! [`placed_where_there_is_room`] proves.
 //!
 //! ```text
 //! with bridges a and b, stations s and t, links a>b, b>s at 1,000 Mb/s, and a talker's link t>a at 1,000 Mb/s with a delay of 500 ns

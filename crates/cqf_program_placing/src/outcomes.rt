@@ -1,13 +1,13 @@
-//! What becomes of a stream on a cycle time.
+//! The outcome for a stream on a cycle time.
 
 use crate::PlanFault;
 use cqf_topology::PacedRequest;
 
-/// What becomes of a stream on a cycle time.
+/// The outcome for a stream on a cycle time.
 #[derive(Debug, Drop)]
 pub enum PlacingOutcome {
-    /// It is placed, with this request.
+    /// The stream is placed, with this request.
     Placed(PacedRequest),
-    /// It isn't, and holds nothing.
+    /// It isn't placed, and holds nothing.
     Unplaced(PlanFault),
 }

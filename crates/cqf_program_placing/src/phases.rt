@@ -1,4 +1,4 @@
-//! In which phase a stream makes its links least full.
+//! The phase in which a stream makes its links least full.
 ghost use Rattle.std.specs.Prelude.{◌≡◌, ◌+◌, ◌<◌, ◌≤◌, All, insert, length};
 ghost use Rattle.arrayvec.specs.ArrayVec.{array_vec_len};
 ghost use Rattle.cqf_admission.specs.Branches.{branches_of};
@@ -23,10 +23,10 @@ pub(crate) struct BudgetShare {
     budget: u32,
 }
 
-/// The shares of a tree's links, from the greatest down.
+/// The shares of a tree's links, in descending order.
 type Loads = ArrayVec<BudgetShare, 200>;
 
-/// Whether a share is less than another.
+/// Returns whether a share is less than another.
 fn is_less_full(share: BudgetShare, other: BudgetShare) -> bool
     ensures { result ≡ is_less_full share other }
 {
@@ -35,7 +35,7 @@ fn is_less_full(share: BudgetShare, other: BudgetShare) -> bool
     ours < theirs
 }
 
-/// The share of a hop's link that is held in the cycles of a pace, with what a stream costs.
+/// Returns the share of a hop's link that is held in the cycles of a pace, with what a stream costs in addition.
 fn share_at(domain: &Domain, admission: &Admission, cost: u32, pace: Pace, hop: &Hop) -> BudgetShare
     requires domain { admission.now.domain ≡ domain.now }
     requires inside { hop.now.link < length domain.now.links }
@@ -50,7 +50,7 @@ fn share_at(domain: &Domain, admission: &Admission, cost: u32, pace: Pace, hop: 
     }
 }
 
-/// The place of a share among others that stand from the greatest down: behind those that are no less.
+/// Returns the index of a share among others that are in descending order: after those that are no less.
 fn place_of(share: BudgetShare, loads: &[BudgetShare]) -> usize
     ensures inside { result ≤ length loads.now }
     ensures value { insert loads.now result share ≡ put_down share loads.now }
@@ -63,7 +63,7 @@ fn place_of(share: BudgetShare, loads: &[BudgetShare]) -> usize
     loads.len()
 }
 
-/// Puts a share among others that stand from the greatest down.
+/// Puts a share among others that are in descending order.
 fn put_down(share: BudgetShare, loads: &mut Loads)
     requires { array_vec_len loads.old < 200 }
     ensures items { loads.new.items ≡ put_down share loads.old.items }
@@ -73,7 +73,8 @@ fn put_down(share: BudgetShare, loads: &mut Loads)
     loads.insert(place, share);
 }
 
-/// The loads of a tree in the cycles of a pace, with what a stream costs: how full its hops' links are, from the greatest down.
+/// Returns the loads of a tree in the cycles of a pace, with what a stream costs in addition: how full its hops' links are, in descending
+/// order.
 fn loads_at(domain: &Domain, admission: &Admission, cost: u32, pace: Pace, tree: &[Hop]) -> Loads
     requires domain { admission.now.domain ≡ domain.now }
     requires inside { All (λ (hop : AHop). hop.link < length domain.now.links) tree.now }
@@ -89,7 +90,7 @@ fn loads_at(domain: &Domain, admission: &Admission, cost: u32, pace: Pace, tree:
     loads
 }
 
-/// Whether loads are less than others: the first two that differ are, or they are fewer.
+/// Returns whether loads are less than others: the first two that differ are, or none differ and they are fewer.
 fn are_less(loads: &[BudgetShare], others: &[BudgetShare]) -> bool
     ensures { result ≡ are_less loads.now others.now }
 {
@@ -107,7 +108,7 @@ fn are_less(loads: &[BudgetShare], others: &[BudgetShare]) -> bool
     false
 }
 
-/// The first phase of so many in which the loads of a tree are the least.
+/// Returns the first phase below `every` in which the loads of a tree are the least.
 fn least_loaded(domain: &Domain, admission: &Admission, cost: u32, every: u8, tree: &[Hop]) -> u8
     requires domain { admission.now.domain ≡ domain.now }
     requires inside { All (λ (hop : AHop). hop.link < length domain.now.links) tree.now }
@@ -129,8 +130,8 @@ fn least_loaded(domain: &Domain, admission: &Admission, cost: u32, every: u8, tr
     first
 }
 
-/// The phase of a stream along some branches: the one that is given, or else the first in which the loads of their tree are the least
-///; of no tree it is 0 then.
+/// Returns the phase of a stream along some branches: the given one; or, if the phase is to be chosen, the first in which the loads of their
+/// tree are the least, and 0 if they make no tree.
 pub(crate) fn phase_along(
     domain: &Domain,
     admission: &Admission,

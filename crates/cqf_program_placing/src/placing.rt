@@ -33,8 +33,8 @@ use cqf_units::{Memory, Name, Octets, cost};
 use std::alloc::{AllocError, Global};
 use std::marker::Model;
 
-/// Streams placed on a cycle time: what becomes of each, and the administration of those that are placed. A stream that isn't placed holds
-/// nothing, though a call that was refused may stand in the history.
+/// Streams placed on a cycle time: the outcome for each, and the administration of those that are placed. A stream that isn't placed holds
+/// nothing, but the history may have its refused call.
 #[derive(Debug, Drop)]
 pub struct Placing {
     admission: Admission,
@@ -53,11 +53,11 @@ impl Model for Placing {
     ghost invariant = { λ p. seals p.admission.entries ≡ 0 };
 }
 
-/// The branches of the first ways from a bridge to stations on which each link has room for a stream of this cost in the cycles that are
-/// given, beside those that are placed.
+/// Returns the branches of the first paths from a bridge to stations on which each link has room, with the streams that are placed, for a
+/// stream of this cost in the given cycles.
 ///
 /// # Errors
-/// With the fault of the first station to which no way has room; and with `Memory` where a growth is refused.
+/// The fault of the first station to which no path has room; `Memory` if an allocation fails.
 fn given_branches(
     alloc: Global,
     domain: &Domain,
@@ -94,8 +94,8 @@ fn given_branches(
     branches_between(alloc, domain, room, bridge, stations)
 }
 
-/// The branches of the first ways from a bridge to stations on which each link has room for a stream of this cost in the emptiest of so many
-/// cycles, beside those that are placed.
+/// Returns the branches of the first paths from a bridge to stations on which each link has room, with the streams that are placed, for a
+/// stream of this cost in its emptiest phase of `every`.
 ///
 /// # Errors
 /// As [`given_branches`].
@@ -130,8 +130,8 @@ fn chosen_branches(
     branches_between(alloc, domain, room, bridge, stations)
 }
 
-/// The branches of the first ways with room from a bridge to stations for a stream of this cost in these cycles, beside those that are
-/// placed.
+/// Returns the branches of the first paths with room from a bridge to stations for a stream of this cost in these cycles, with the streams
+/// that are placed.
 ///
 /// # Errors
 /// As [`given_branches`].
@@ -167,11 +167,11 @@ fn found_branches(
     }
 }
 
-/// The branches of a stream of this cost in these cycles: those that are given, or those of the first ways with room beside those that are
-/// placed.
+/// Returns the branches of a stream of this cost in these cycles: the given ones, or those of the first paths with room with the streams
+/// that are placed.
 ///
 /// # Errors
-/// With the fault of the first listener to which no way has room; and with `Memory` where a growth is refused.
+/// The fault of the first listener to which no path has room; `Memory` if an allocation fails.
 fn branches_by(
     alloc: Global,
     domain: &Domain,
@@ -212,7 +212,7 @@ fn branches_by(
     }
 }
 
-/// Asks for a stream with this reservation in these cycles along some branches, behind those that are placed.
+/// Requests a stream with this reservation in these cycles along some branches, after those that are placed.
 fn place_along(
     alloc: Global,
     domain: &Domain,
@@ -254,7 +254,7 @@ fn place_along(
     Ok(outcome)
 }
 
-/// Places a stream with this reservation in these cycles behind those that are placed.
+/// Places a stream with this reservation in these cycles, after those that are placed.
 fn place_with(
     alloc: Global,
     domain: &Domain,
@@ -307,7 +307,7 @@ fn place_with(
     Ok(outcome)
 }
 
-/// Places a stream behind those that are placed.
+/// Places a stream after those that are placed.
 fn place_one(
     alloc: Global,
     domain: &Domain,
@@ -363,16 +363,16 @@ fn place_all(
     })
 }
 
-/// Places settled streams of a sketch on a cycle time that is open, in nanoseconds, one after the other.
+/// Places settled streams of a network file on an open cycle time, in nanoseconds, one after the other.
 ///
-/// A stream takes what its traffic needs of a cycle, or the octets that it asks for, where these are enough. One that has no branches
-/// takes the first ways to its listeners on which each link has room in the cycles in which its frames go by it, where its cycles are given.
-/// Where its talker is in step, each link has to have room in the emptiest of as many cycles as it is offered in one of, and it takes the first
-/// of the phases in which its links, from the fullest down, are least full. It is then asked for as any other. One that isn't placed holds
-/// nothing.
+/// A stream reserves what its traffic needs in a cycle, or the octets that it requests if these are enough. A stream without branches takes
+/// the first paths to its listeners on which each link has room. If its cycles are given, a link needs room in the cycles in which the
+/// stream's frames pass it. If its talker is in step, a link needs room in its own emptiest phase; the stream then takes the first of the
+/// phases in which its links, from the fullest down, are least full. The stream is then requested as any other. A stream that isn't placed
+/// holds nothing.
 ///
 /// # Errors
-/// `Memory` where a growth is refused.
+/// `Memory` if an allocation fails.
 pub fn place(
     alloc: Global,
     sketch: &SketchDomain,
@@ -389,7 +389,7 @@ pub fn place(
     place_all(alloc, &domain, sketch.links(), streams)
 }
 
-/// The rows of a table, by number.
+/// Returns the rows of a table, by number.
 fn rows_of_table(alloc: Global, table: &Table) -> Result<Vec<Row>, Memory>
     ensures rows { IfOk result (λ rows. rows.items ≡ table.now.rows) }
     ensures good { IfOk result (λ rows. AreOfGoodPaces rows.items) }
@@ -401,7 +401,7 @@ fn rows_of_table(alloc: Global, table: &Table) -> Result<Vec<Row>, Memory>
     Ok(rows)
 }
 
-/// The domain of an administration in which no cycle is closed, and the rows of the streams that are held, by number.
+/// Returns the domain of an administration in which no cycle is closed, and the rows of the streams that are held, by number.
 fn sealed_rows(alloc: Global, admission: Admission) -> Result<(Domain, Vec<Row>), Memory>
     requires { seals admission.entries ≡ 0 }
     ensures domain { IfOk result (λ told. told.0 ≡ admission.domain) }
@@ -424,18 +424,18 @@ fn sealed_rows(alloc: Global, admission: Admission) -> Result<(Domain, Vec<Row>)
 }
 
 impl Placing {
-    /// What becomes of each stream, in their order.
+    /// Returns the outcome for each stream, in their order.
     pub fn outcomes(&self) -> &[PlacingOutcome]
         ensures { map outcome_value result.now ≡ self.now.outcomes }
     {
         self.outcomes.as_slice()
     }
 
-    /// The domain, the rows of the streams that are placed, by number, and what becomes of each stream. The rows are the table of
-    /// cycle 0, where all that are placed are admitted before it.
+    /// Returns the domain, the rows of the streams that are placed, by number, and the outcome for each stream. The rows are the table of
+    /// cycle 0 if all streams that are placed are admitted before that cycle.
     ///
     /// # Errors
-    /// `Memory` where a growth is refused.
+    /// `Memory` if an allocation fails.
     pub fn into_parts(
         self,
         alloc: Global,
@@ -455,10 +455,10 @@ impl Placing {
         Ok((domain, rows, outcomes))
     }
 
-    /// The domain, and the rows of the streams that are placed, by number, as of [`Placing::into_parts`].
+    /// Returns the domain, and the rows of the streams that are placed, by number, as [`Placing::into_parts`] does.
     ///
     /// # Errors
-    /// `Memory` where a growth is refused.
+    /// `Memory` if an allocation fails.
     pub fn into_rows(self, alloc: Global) -> Result<(Domain, Vec<Row>), Memory>
         ensures domain { IfOk result (λ parts. parts.0 ≡ self.domain) }
         ensures rows { IfOk result (λ parts. parts.1.items ≡ held_in self.domain self.entries (seals self.entries)) }

@@ -1,4 +1,4 @@
-//! What a stream reserves of a cycle.
+//! What a stream reserves in a cycle.
 ghost use Rattle.std.specs.Prelude.{◌≡◌, ◌≤◌, ◌<◌, ◌^◌, IfOk, IfSome, IsTrue, Some};
 ghost use Rattle.cqf_model.specs.Limits.{most_reserved};
 ghost use Rattle.cqf_program_placing.specs.Placing.{reserved_by, reserved_on};
@@ -9,7 +9,7 @@ use crate::{PlanFault, Settled};
 use cqf_admission::MOST_OCTETS;
 use cqf_topology::Domain;
 
-/// The reservation of a stream of which a cycle needs so many octets, and that asks for these, where it says them.
+/// Returns the reservation of a stream that needs `needed` octets in a cycle, and that requests `octets` if any are given.
 fn reserved_for(octets: Option<u32>, needed: u128) -> Result<u32, PlanFault>
     requires { needed < 2 ^ 64 }
     ensures { result ≡ reserved_by octets (Some needed) }
@@ -26,12 +26,13 @@ fn reserved_for(octets: Option<u32>, needed: u128) -> Result<u32, PlanFault>
     Ok(asked)
 }
 
-/// The reservation of a stream on a domain, in octets a cycle: what its traffic needs of a cycle, or the octets that it asks for, which
-/// have to be enough.
+/// Returns the reservation of a stream on a domain, in octets a cycle: the octets that it requests, which have to be enough for its
+/// traffic; if it requests none, what its traffic needs in a cycle.
 ///
 /// # Errors
-/// `BadInStep` where its talker is to be in step, and not all its frames of an interval come within one cycle, by its own clock and by the edge
-/// bridge's; else `TooMuch` where its traffic needs more than a stream may reserve; else `TooLittle` where it asks for fewer than that.
+/// `BadInStep` if its talker has to be in step, but not all its frames of an interval arrive within one cycle, by its own clock and by the
+/// edge bridge's; else `TooMuch` if its traffic needs more than a stream may reserve; else `TooLittle` if it requests fewer octets than its
+/// traffic needs.
 pub(crate) fn reservation(domain: &Domain, stream: &Settled) -> Result<u32, PlanFault>
     requires { IsTrue (are_reservable stream.now.octets) }
     ensures value { result ≡ reserved_on domain.now.cycle_time domain.now.sync (settled_value stream.now) }

@@ -1,4 +1,4 @@
-//! What links have left beside streams that are placed.
+//! What links have left with the streams that are placed.
 ghost use Rattle.std.specs.Prelude.{◌≡◌, ◌<◌, ◌≤◌, [], ◌==◌, All, IfOk, List, length, position};
 ghost use Rattle.cqf_model.specs.declared.topology.Hop.{Hop as AHop};
 ghost use Rattle.cqf_model.specs.declared.topology.Row.{Row};
@@ -13,7 +13,7 @@ use cqf_topology::Domain;
 use cqf_units::Memory;
 use std::alloc::Global;
 
-/// The pace of a stream that is offered in one of so many cycles, of which this is the first.
+/// Returns the pace of a stream that is offered in one of `every` cycles from `phase` on.
 pub(crate) fn pace_by(every: u8, phase: u8) -> Pace
     requires { 1 ≤ every }
     ensures { result ≡ pace_by every phase }
@@ -24,7 +24,7 @@ pub(crate) fn pace_by(every: u8, phase: u8) -> Pace
     }
 }
 
-/// What a link has left beside those that are placed, in octets a cycle, in the emptiest of so many cycles.
+/// Returns what a link has left with the streams that are placed, in octets a cycle, in its emptiest phase of `every`.
 fn left_on(domain: &Domain, admission: &Admission, link: u16, every: u8) -> u32
     requires domain { admission.now.domain ≡ domain.now }
     requires inside { link < length domain.now.links }
@@ -44,7 +44,7 @@ fn left_on(domain: &Domain, admission: &Admission, link: u16, every: u8) -> u32
     most
 }
 
-/// What each link has left beside those that are placed, in octets a cycle, in the emptiest of so many cycles, by number.
+/// Returns what each link has left with the streams that are placed, in octets a cycle, in its emptiest phase of `every`, by number.
 fn lefts(
     alloc: Global,
     domain: &Domain,
@@ -62,14 +62,14 @@ fn lefts(
     Ok(left)
 }
 
-/// What each link has left in the emptiest of so many cycles, by number.
+/// What each link has left in its emptiest phase of `every`, by number.
 #[derive(Debug, Drop)]
 struct Emptiest {
     every: u8,
     left: Vec<u32>,
 }
 
-/// Takes anew what the links of a tree's hops have left.
+/// Recomputes what the links of a tree's hops have left.
 fn renew_lefts(emptiest: &mut Emptiest, domain: &Domain, admission: &Admission, tree: &[Hop])
     requires domain { admission.now.domain ≡ domain.now }
     requires inside { All (λ (hop : AHop). hop.link < length domain.now.links) tree.now }
@@ -84,15 +84,15 @@ fn renew_lefts(emptiest: &mut Emptiest, domain: &Domain, admission: &Admission, 
     }
 }
 
-/// What each link has left beside the streams that are placed, in octets a cycle, in the emptiest of so many cycles, for each such number
-/// that was asked for so far. Where a stream is placed, only what its links have left is taken anew.
+/// What each link has left with the streams that are placed, in octets a cycle, in its emptiest phase of `every`, for each `every` that was
+/// requested so far. When a stream is placed, only what its links have left is recomputed.
 #[derive(Debug, Drop)]
 pub(crate) struct Rooms {
     known: Vec<Emptiest>,
 }
 
 impl Rooms {
-    /// Nothing so far. It takes no memory.
+    /// Returns an empty one. It allocates no memory.
     pub(crate) fn new(alloc: Global) -> Rooms
         ensures { result.known.items ≡ [] }
     {
@@ -101,7 +101,8 @@ impl Rooms {
         }
     }
 
-    /// The place of what links have left in the emptiest of so many cycles, which is taken where it isn't known.
+    /// Returns the index of what links have left in their emptiest phase of `every`, which is computed if it isn't known yet. Returns
+    /// `Memory` if an allocation fails.
     pub(crate) fn find(
         &mut self,
         alloc: Global,
@@ -127,7 +128,7 @@ impl Rooms {
         Ok(self.known.len() - 1)
     }
 
-    /// What each link has left in the emptiest of so many cycles, by number, which stands at this place.
+    /// Returns what each link has left in its emptiest phase of `every`, by number, which is at this index.
     pub(crate) fn lefts_at(&self, place: usize, every: u8) -> &[u32]
         requires { IsKnownAt self.now every place }
         ensures { (d : Domain) (rows : List Row) → AreKnown d rows self.now → result.now ≡ lefts_on d rows every }
@@ -135,7 +136,7 @@ impl Rooms {
         self.known[place].left.as_slice()
     }
 
-    /// Takes anew what the links of a tree's hops have left, where a stream was placed along them.
+    /// Recomputes what the links of a tree's hops have left, after a stream was placed along them.
     pub(crate) fn renew(&mut self, domain: &Domain, admission: &Admission, tree: &[Hop])
         requires domain { admission.now.domain ≡ domain.now }
         requires inside { All (λ (hop : AHop). hop.link < length domain.now.links) tree.now }

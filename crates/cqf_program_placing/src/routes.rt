@@ -1,4 +1,4 @@
-//! The first ways with room from a bridge to some stations, as branches.
+//! The first paths with room from a bridge to some stations, as branches.
 ghost use Rattle.std.specs.Prelude.{◌≡◌, ◌<◌, IfErr, IfOk, length, slice_index};
 ghost use Rattle.cqf_admission.specs.Branches.{branches_of};
 ghost use Rattle.cqf_model.specs.Domain.{bridge_of};
@@ -20,13 +20,13 @@ use std::alloc::{AllocError, AllocFailed, Global};
 /// Why a stream has no branches.
 #[derive(Debug, Drop)]
 pub(crate) enum Unrouted {
-    /// There is no room for it on the way to one of its listeners.
+    /// There is no room for it on the paths to one of its listeners.
     Fault(PlanFault),
-    /// A growth was refused.
+    /// An allocation failed.
     Memory,
 }
 
-/// Want of room in memory, as a fault.
+/// A failed allocation of room, as a fault.
 impl<T: Drop> From<AllocFailed<T>> for Unrouted {
     ghost use Rattle.std.specs.Prelude.{◌≡◌};
     ghost use Rattle.cqf_program_placing.specs.declared.routes.Unrouted.TheVariants as variant;
@@ -38,7 +38,7 @@ impl<T: Drop> From<AllocFailed<T>> for Unrouted {
     }
 }
 
-/// Want of memory, as a fault.
+/// A failed allocation, as a fault.
 impl From<AllocError> for Unrouted {
     ghost use Rattle.std.specs.Prelude.{◌≡◌};
     ghost use Rattle.cqf_program_placing.specs.declared.routes.Unrouted.TheVariants as variant;
@@ -50,7 +50,7 @@ impl From<AllocError> for Unrouted {
     }
 }
 
-/// That a listener is full for a stream, where this link of the domain lacks room.
+/// Returns the fault that a listener is full for a stream because this link of the domain lacks room.
 fn full_at(domain: &Domain, room: Room, station: u16, link: u16) -> PlanFault
     requires station { station < length domain.now.stations }
     requires link { link < length domain.now.links }
@@ -67,8 +67,8 @@ fn full_at(domain: &Domain, room: Room, station: u16, link: u16) -> PlanFault
     }
 }
 
-/// That a listener is full for a stream, where a way leads to it from the stream's bridge, but none with room: the first link that lacks
-/// it on the first way there is.
+/// Returns the fault that a listener is full for a stream. Paths lead to it from the stream's bridge, but none with room; the fault names
+/// the first link that lacks room on the first path of all.
 fn full_to(domain: &Domain, room: Room, bridge: u16, station: u16) -> PlanFault
     requires links { room.links.now ≡ domain.now.links }
     requires left { length room.left.now ≡ length domain.now.links }
@@ -92,11 +92,11 @@ fn full_to(domain: &Domain, room: Room, bridge: u16, station: u16) -> PlanFault
     full_at(domain, room, station, link)
 }
 
-/// The branches of the first ways with room from a bridge to some stations, in their order.
+/// Returns the branches of the first paths with room from a bridge to some stations, in their order.
 ///
 /// # Errors
-/// With the fault of the first station to which there is none: of the first way there is, the first link that lacks room; and with
-/// `Memory` where a growth is refused.
+/// The fault of the first station to which there is none, with the first link that lacks room on the first path of all; `Memory` if an
+/// allocation fails.
 pub(crate) fn branches_between(
     alloc: Global,
     domain: &Domain,

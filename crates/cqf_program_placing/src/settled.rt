@@ -1,4 +1,4 @@
-//! Streams of a sketch whose nodes are found.
+//! Streams of a network file whose nodes are found.
 
 use crate::PlanFault;
 use cqf_sketch::Pacing;
@@ -6,41 +6,41 @@ use cqf_traffic::Traffic;
 use cqf_units::{Memory, Name};
 use std::alloc::AllocFailed;
 
-/// Which way a stream goes.
+/// The path of a stream.
 #[derive(Debug, Drop)]
 pub enum StreamWay {
     /// Along these branches of a tree, each the names of its bridges, in order, and then of the listener's station.
     Along(Vec<Vec<String>>),
-    /// From the bridge of this number to the stations of these, in their order, by ways that are to be found.
+    /// From the bridge of this number to the stations of these numbers, in their order, by paths that are still to be found.
     Between(u16, Vec<u16>),
 }
 
-/// A stream of a sketch of which nothing is wrong whatever the cycle time is.
+/// A stream of a network file with which nothing is wrong at any cycle time.
 #[derive(Debug, Drop)]
 pub struct Settled {
     pub name: Name,
-    /// The reservation, in octets a cycle, where the sketch says it. Where it doesn't, there is traffic.
+    /// The reservation, in octets a cycle, if the network file gives it. If it doesn't, there is traffic.
     pub octets: Option<u32>,
-    /// Cycles that are given are such that a stream may have.
+    /// Given cycles are such that a stream may have them.
     pub pacing: Pacing,
     pub way: StreamWay,
-    /// In nanoseconds, from its edge bridge on; 1 at least.
+    /// In nanoseconds, from the edge bridge on; at least 1.
     pub deadline: Option<u32>,
     pub traffic: Option<Traffic>,
 }
 
-/// Why the streams of a sketch aren't settled: the first fault.
+/// Why the streams of a network file aren't settled: the first fault.
 #[derive(Debug, PartialEq, Eq, Drop)]
 pub enum Unsettled {
-    /// The name of the stream at this place, from 1, hasn't the form of a name.
+    /// The name of the stream at this position, from 1, doesn't have the form of a name.
     BadName(usize),
-    /// The stream of this name isn't.
+    /// The stream of this name isn't settled, for this fault.
     Stream(Name, PlanFault),
-    /// A growth was refused.
+    /// An allocation failed.
     Memory,
 }
 
-/// Want of memory, as a fault.
+/// A failed allocation, as a fault.
 impl From<Memory> for Unsettled {
     ghost use Rattle.std.specs.Prelude.{◌≡◌};
     ghost use Rattle.cqf_program_placing.specs.declared.settled.Unsettled.TheVariants as variant;
@@ -52,7 +52,7 @@ impl From<Memory> for Unsettled {
     }
 }
 
-/// Want of room for a value, likewise.
+/// A failed allocation of room for a value, as a fault.
 impl<T: Drop> From<AllocFailed<T>> for Unsettled {
     ghost use Rattle.std.specs.Prelude.{◌≡◌};
     ghost use Rattle.cqf_program_placing.specs.declared.settled.Unsettled.TheVariants as variant;

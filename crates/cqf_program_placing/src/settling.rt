@@ -1,4 +1,4 @@
-//! The streams of a sketch, looked over for what no cycle time changes.
+//! The streams of a network file, checked for what no cycle time changes.
 ghost use Rattle.std.specs.Prelude.{◌≡◌, ◌<◌, ◌≤◌, [], All, IfOk, length, map};
 ghost use Rattle.cqf_model.specs.History.{is_pace};
 ghost use Rattle.cqf_model.specs.Limits.{most_streams};
@@ -18,7 +18,7 @@ use cqf_traffic::Traffic;
 use cqf_units::{Memory, Name};
 use std::alloc::Global;
 
-/// Whether a stream may reserve these octets, where it says any.
+/// Returns whether a stream may reserve these octets; true if none are given.
 fn are_reservable(octets: Option<u32>) -> bool
     ensures { result ≡ are_reservable octets }
 {
@@ -28,7 +28,7 @@ fn are_reservable(octets: Option<u32>) -> bool
     }
 }
 
-/// Whether a stream may be offered in one of so many cycles, of which this is the first.
+/// Returns whether a stream may be offered in one of `every` cycles from `phase` on.
 fn is_pace(every: u32, phase: u32) -> bool
     ensures { result ≡ is_pace every phase }
 {
@@ -38,7 +38,7 @@ fn is_pace(every: u32, phase: u32) -> bool
     MOST_EVERY % every == 0 && phase < every
 }
 
-/// Whether the cycles of a stream, where they are given, are such that it may have.
+/// Returns whether a stream may have these cycles; true if none are given.
 fn is_paced(pacing: Pacing) -> bool
     ensures { result ≡ is_paced pacing }
 {
@@ -48,7 +48,7 @@ fn is_paced(pacing: Pacing) -> bool
     }
 }
 
-/// Why a stream of a name can't stand behind those of other names.
+/// Returns why a stream of this name can't follow those of other names.
 fn refusal_behind(plant: &Domain, held: &NameList, name: &Name) -> Option<Refused>
     ensures { result ≡ refusal_behind plant.now held.now.keys name.now }
 {
@@ -61,14 +61,14 @@ fn refusal_behind(plant: &Domain, held: &NameList, name: &Name) -> Option<Refuse
     None
 }
 
-/// A stream that is refused as admission refuses it.
+/// Returns the fault of a stream that is refused as admission refuses it.
 fn unsettled(name: &Name, refused: Refused) -> Unsettled
     ensures { result ≡ Unsettled.Stream name.now (PlanFault.Refused refused) }
 {
     Unsettled::Stream(name.copied(), PlanFault::Refused(refused))
 }
 
-/// What a stream asks for: its octets a cycle, in which cycles it is offered, its deadline and its traffic, as its text has them.
+/// What a stream requests: its octets in a cycle, the cycles in which it is offered, its deadline and its traffic, as its text gives them.
 #[derive(Clone, Copy)]
 struct Terms {
     octets: Option<u32>,
@@ -77,7 +77,7 @@ struct Terms {
     traffic: Option<Traffic>,
 }
 
-/// A stream whose way is settled, with its deadline, of which so much is over at its edge bridge.
+/// Returns a stream whose path is settled, with its deadline; `taken` nanoseconds of it are over at the edge bridge.
 fn settle_deadline(
     name: &Name,
     terms: Terms,
@@ -100,7 +100,7 @@ fn settle_deadline(
     }
 }
 
-/// The stream of a name behind those of other names, or its first fault.
+/// Returns the stream of a name, which follows those of other names, or its first fault.
 fn settle_named(
     alloc: Global,
     at: OpenSketch,
@@ -130,7 +130,7 @@ fn settle_named(
     settle_deadline(name, terms, settled, taken)
 }
 
-/// The stream behind those of other names, or its first fault.
+/// Returns the stream, which follows those of other names, or its first fault.
 fn settle_next(
     alloc: Global,
     at: OpenSketch,
@@ -156,7 +156,7 @@ fn settle_next(
     }
 }
 
-/// The streams, each behind those before it, or the first fault.
+/// Returns the streams, each following those before it, or the first fault.
 fn settle_all(
     alloc: Global,
     at: OpenSketch,
@@ -176,19 +176,25 @@ fn settle_all(
     Ok(settled)
 }
 
-/// The streams of a sketch, in their order, each with its nodes by number, its deadline from its edge bridge on, and nothing wrong with
-/// it that a cycle time could change.
+/// Returns the streams of a network file, in their order, each with its nodes by number and its deadline from its edge bridge on. Nothing
+/// that is independent of the cycle time is wrong with them.
 ///
 /// # Errors
-/// The first fault, stream by stream: `BadName`, with the place, from 1, where a name hasn't the form of one; and then `Stream` with the
-/// name and the first of these. `BadOctets`, where it asks for fewer than 64 octets a cycle, or more than 1,000,000. `BadPace`, where it is to
-/// be offered in one of a number of cycles that doesn't divide 80, or from a first cycle on that isn't below that number. Of a stream with
-/// given branches, why they are no tree of the plant, as [`find_tree`](cqf_admission::find_tree) has it; of another `NoTalker`, where
-/// it comes from no bridge and from no station with a talker's link, `NoListener` of the first listener that is no station, and `NoWay` of
-/// the first to which no links lead from its edge bridge, at most 16 of them. `NameHeld`, where an earlier one has its name;
-/// `TooManyStreams`, where there are as many before it as may be held. `TooSoon`, where nothing is left of its deadline when a frame is whole at its edge
-/// bridge: such a frame, as long as its traffic lets it be, or else as its octets and at most 1,522, and 8 octets of preamble before it,
-/// takes their time on the talker's link and that link's delay. `Memory` where a growth is refused.
+/// The first fault, stream by stream. `BadName`, with the position from 1, if a name doesn't have the form of a name. Else `Stream`, with
+/// the name and the first of these:
+///
+/// - `BadOctets` if the stream requests fewer than 64 octets a cycle, or more than 1,000,000.
+/// - `BadPace` if it is to be offered in one of a number of cycles that doesn't divide 80, or if its first cycle isn't below that number.
+/// - For a stream with given branches: why they aren't a tree of the domain, as [`find_tree`](cqf_admission::find_tree) says.
+/// - For any other stream: `NoTalker` if it comes neither from a bridge nor from a station with a talker's link; `NoListener` for the first
+///   listener that isn't a station; `NoWay` for the first one to which no path leads from the edge bridge, of at most 16 links.
+/// - `NameHeld` if an earlier stream has its name.
+/// - `TooManyStreams` if as many streams as may be held are before it.
+/// - `TooSoon` if nothing is left of its deadline when a frame is whole at its edge bridge. The frame has the size in the stream's traffic,
+///   or without traffic the octets of its reservation, and at most 1,522. It takes the time of these octets and of 8 octets of preamble on
+///   the talker's link, and that link's delay.
+///
+/// `Memory` if an allocation fails.
 pub fn settle(
     alloc: Global,
     sketch: &SketchDomain,

@@ -1,4 +1,4 @@
-//! In which cycles a stream is offered on a cycle time.
+//! The cycles in which a stream is offered on a cycle time.
 ghost use Rattle.std.specs.Prelude.{◌≡◌, ◌<◌, ◌^◌, IsTrue};
 ghost use Rattle.cqf_program_placing.specs.Placing.{is_chosen_on, turns_on};
 ghost use Rattle.cqf_program_placing.specs.Settled.{is_paced, settled_value};
@@ -10,17 +10,17 @@ use cqf_sketch::Pacing;
 use cqf_traffic::Traffic;
 use cqf_units::Nanos;
 
-/// In which cycles a stream is offered on a cycle time.
+/// The cycles in which a stream is offered on a cycle time.
 #[derive(Clone, Copy, Debug)]
 pub(crate) enum Turns {
-    /// In one of so many, of which this is the first.
+    /// One of `every` cycles from `phase` on.
     Given { every: u8, phase: u8 },
-    /// In one of so many, of which the first is to be chosen.
+    /// One of `every` cycles; the first is to be chosen.
     Chosen { every: u8 },
 }
 
 impl Turns {
-    /// Of how many cycles it is one.
+    /// Returns n if the stream is offered in one of n cycles.
     pub(crate) fn every(self) -> u8
         ensures { result ≡ every_in self }
     {
@@ -30,7 +30,7 @@ impl Turns {
     }
 }
 
-/// Whether all frames of an interval come within one cycle.
+/// Returns whether all frames of an interval arrive within one cycle.
 fn keeps_step(traffic: Traffic, cycle_time: Nanos) -> bool
     requires { 0 < cycle_time.0 }
     ensures { result ≡ keeps_step cycle_time.0 traffic }
@@ -40,7 +40,7 @@ fn keeps_step(traffic: Traffic, cycle_time: Nanos) -> bool
     is_whole && latest < cycle_time.0
 }
 
-/// The greatest common divisor of a number of cycles and 80.
+/// Returns the greatest common divisor of a number of cycles and 80.
 fn every_of(cycles: u64) -> u8
     ensures value { result ≡ every_of cycles }
     ensures good { IsGoodEvery result }
@@ -55,7 +55,8 @@ fn every_of(cycles: u64) -> u8
     every
 }
 
-/// Whether they do by the edge bridge's clock too, however much it and the talker's own may be apart.
+/// Returns whether all frames of an interval arrive within one cycle by the edge bridge's clock too, at any difference to the talker's
+/// clock up to `sync`.
 fn stays_in_step(traffic: Traffic, cycle_time: Nanos, sync: Nanos) -> bool
     requires some { 0 < cycle_time.0 }
     requires short { sync.0 < 2 ^ 32 }
@@ -69,8 +70,8 @@ fn stays_in_step(traffic: Traffic, cycle_time: Nanos, sync: Nanos) -> bool
     sync.0 <= first && latest < cycle_time.0
 }
 
-/// Whether a stream can be offered on a cycle time where clocks may be so far apart: where its talker is to be in step, all its frames of an
-/// interval come within one cycle, by its own clock and by the edge bridge's.
+/// Returns whether a stream can be offered on a cycle time if clocks differ by `sync` at most. If its talker has to be in step, all its
+/// frames of an interval have to arrive within one cycle, by its own clock and by the edge bridge's.
 pub(crate) fn can_step(stream: &Settled, cycle_time: Nanos, sync: Nanos) -> bool
     requires some { 0 < cycle_time.0 }
     requires short { sync.0 < 2 ^ 32 }
@@ -85,7 +86,7 @@ pub(crate) fn can_step(stream: &Settled, cycle_time: Nanos, sync: Nanos) -> bool
     }
 }
 
-/// In which cycles a stream is offered whose talker is in step.
+/// Returns in which cycles a stream is offered whose talker is in step.
 fn turns_in_step(traffic: Option<Traffic>, cycle_time: Nanos) -> Turns
     requires { 0 < cycle_time.0 }
     ensures value { result ≡ turns_in_step cycle_time.0 traffic }
@@ -99,8 +100,8 @@ fn turns_in_step(traffic: Option<Traffic>, cycle_time: Nanos) -> Turns
     }
 }
 
-/// In which cycles a stream that can be is offered on a cycle time: in those that are given; or, where its talker is in step, in one of as
-/// many as an interval has in common with 80, of which the first is to be chosen.
+/// Returns in which cycles a stream that can be offered on a cycle time is offered: in the given ones; or, if its talker is in step, in one
+/// of as many as its interval in cycles has in common with 80; the first is to be chosen.
 pub(crate) fn turns_on(stream: &Settled, cycle_time: Nanos) -> Turns
     requires some { 0 < cycle_time.0 }
     requires paced { IsTrue (is_paced stream.now.pacing) }
@@ -117,8 +118,8 @@ pub(crate) fn turns_on(stream: &Settled, cycle_time: Nanos) -> Turns
 }
 
 impl Settled {
-    /// Whether it is chosen in which cycles the stream is offered on a cycle time: its talker is in step, and all its frames of an
-    /// interval come within one cycle.
+    /// Returns whether the cycles in which the stream is offered on a cycle time are chosen: its talker is in step, and all its frames of
+    /// an interval arrive within one cycle.
     pub fn is_chosen_on(&self, cycle_time: Nanos) -> bool
         requires { 0 < cycle_time.0 }
         ensures { result ≡ is_chosen_on cycle_time.0 (settled_value self.now) }

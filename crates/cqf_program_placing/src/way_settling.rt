@@ -1,4 +1,4 @@
-//! The ways of streams, settled.
+//! The paths of streams, settled.
 ghost use Rattle.std.specs.Prelude.{◌≡◌};
 ghost use Rattle.cqf_admission.specs.Branches.{branches_of};
 ghost use Rattle.cqf_model.specs.Domain.{node_named};
@@ -16,7 +16,7 @@ use cqf_topology::Domain;
 use cqf_units::Name;
 use std::alloc::Global;
 
-/// The station of a name.
+/// Returns the station of a name; `NoListener` if it isn't a station's.
 fn station_by_name(plant: &Domain, name: &Name) -> Result<u16, PlanFault>
     ensures { result ≡ station_by_name plant.now name.now }
 {
@@ -26,7 +26,7 @@ fn station_by_name(plant: &Domain, name: &Name) -> Result<u16, PlanFault>
     }
 }
 
-/// The stations of a stream's listeners.
+/// Returns the stations of a stream's listeners.
 fn stations_by_name(
     alloc: Global,
     plant: &Domain,
@@ -45,7 +45,7 @@ fn stations_by_name(
     Ok(stations)
 }
 
-/// The way of a stream along given branches.
+/// Returns the path of a stream along given branches.
 fn settle_along(
     plant: &Domain,
     stream: &Name,
@@ -62,7 +62,7 @@ fn settle_along(
     }
 }
 
-/// The way of a stream from a node to its listeners.
+/// Returns the path of a stream from a node to its listeners.
 fn settle_between(
     alloc: Global,
     at: OpenSketch,
@@ -84,8 +84,8 @@ fn settle_between(
     }
 }
 
-/// The way of a stream: along given branches that make a tree of the plant; or else from the edge bridge of its talker to the stations
-/// that are its listeners, to each of which links lead.
+/// Returns the path of a stream: along given branches that make a tree of the domain; or from the edge bridge of its talker to the stations
+/// that are its listeners; links lead to each.
 pub(crate) fn settle_way(
     alloc: Global,
     at: OpenSketch,

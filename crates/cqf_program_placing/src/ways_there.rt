@@ -1,4 +1,4 @@
-//! Whether ways lead from a bridge to nodes.
+//! Whether paths lead from a bridge to nodes.
 ghost use Rattle.std.specs.Prelude.{◌≡◌};
 ghost use Rattle.cqf_model.specs.Domain.{node_named};
 ghost use Rattle.cqf_sketch.specs.Ways.{AreLinks, most_links};
@@ -9,12 +9,12 @@ use cqf_model::{Link, MOST_LINKS, Node};
 use cqf_sketch::{Room, first_way, full_ways_have_a_short_link};
 use cqf_units::Name;
 
-/// Whether links lead from a bridge to a node, at most 16 of them. There are no more links than are represented.
+/// Returns whether links lead from a bridge to a node, at most 16 of them. There are no more links than are represented.
 fn is_led(links: &[Link], bridge: u16, to: Node) -> bool
     requires { AreLinks links.now }
     ensures { result ≡ is_led links.now most_links (Node.Bridge bridge) to }
 {
-    // at a cost of nothing each link has room
+    // at a cost of 0 each link has room
     full_ways_have_a_short_link();
     let nothing = [0u32; MOST_LINKS];
     let room = Room {
@@ -25,12 +25,12 @@ fn is_led(links: &[Link], bridge: u16, to: Node) -> bool
     first_way(room, bridge, to).is_some()
 }
 
-/// Whether a way leads from a bridge to the node of a name.
+/// Returns whether a path leads from a bridge to the node of a name.
 fn has_way(at: OpenSketch, bridge: u16, name: &Name) -> bool
     requires { at.sketch.now.links ≡ at.plant.now.links }
     ensures { result ≡ has_way at.entry.plant.now bridge (node_named at.entry.plant.now name.now) }
 {
-    // the plant is accepted, so it has no more links than are represented
+    // the domain is accepted, so it has no more links than are represented
     at.plant.know();
     match at.plant.find(name.as_str()) {
         Some(node) => is_led(at.sketch.links(), bridge, node),
@@ -38,7 +38,7 @@ fn has_way(at: OpenSketch, bridge: u16, name: &Name) -> bool
     }
 }
 
-/// The first of some names to whose node no way leads from a bridge.
+/// Returns the first of some names to whose node no path leads from a bridge.
 pub(crate) fn first_apart(at: OpenSketch, bridge: u16, names: &[Name]) -> Option<Name>
     requires { at.sketch.now.links ≡ at.plant.now.links }
     ensures { result ≡ first_apart at.entry.plant.now bridge names.now }

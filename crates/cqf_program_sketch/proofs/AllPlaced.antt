@@ -33,12 +33,12 @@ use Rattle.cqf_program_placing.proofs.Stepping.{may_be_first}
 use Rattle.cqf_program_sketch.specs.Judging.{first_late, first_unplaced, flow_of, flows_placed, late_fault, traffic_by}
 use Rattle.cqf_program_sketch.specs.PlanLaws.{AreTakenOver, IsTakenOver, ReservesEnough}
 
--- a stream that is placed was refused for nothing
+-- a stream that is placed wasn't refused
 answered_placed : (d : Domain) (asked here : Asked) (refusal : Option Refused) → Placed here ≡ answered d asked refusal → (refusal ≡ None) × (here ≡ asked)
 answered_placed d asked here None h = (refl, cc)
 answered_placed d asked here (Some refused) h = absurd (cc)
 
--- what is known of a stream that is placed: it is asked for under its name with its reservation in its cycles, and granted
+-- what is known of a stream that is placed: it is requested under its name with its reservation in its cycles, and granted
 pub record IsGranted (d : Domain) (entries : List Recorded) (stream : SettledStream) (asked : Asked) (after : List Recorded) : Type 0 where
   pub named : asked.name ≡ stream.name
   pub reserved : reserved_on d.cycle_time d.sync stream ≡ Ok asked.octets
@@ -47,7 +47,7 @@ pub record IsGranted (d : Domain) (entries : List Recorded) (stream : SettledStr
   pub granted : refusal_of d (held_in d entries (seals entries)) asked ≡ None
   pub entered : after ≡ with_asked d entries asked
 
--- where its branches are found
+-- if its branches are found
 granted_routed : (d : Domain) (entries : List Recorded) (stream : SettledStream) (octets : ℕ) (paths : List Branch) (asked : Asked) (after : List Recorded) →
     reserved_on d.cycle_time d.sync stream ≡ Ok octets → IsAskedFor d entries stream.name octets (turns_on d.cycle_time stream) paths (Placed asked) after →
     IsGranted d entries stream asked after
@@ -68,7 +68,7 @@ granted_routed d entries stream octets paths asked after reserves is =
 never_placed : {A : Type 0} (asked : Asked) (found : PlanFault) → Placed asked ≡ Unplaced found → A
 never_placed asked found h = absurd (cc)
 
--- by its branches, where they are found
+-- by its branches, if they are found
 granted_answered : (d : Domain) (entries : List Recorded) (stream : SettledStream) (octets : ℕ) (routed : Result (List Branch) PlanFault) (asked : Asked)
     (after : List Recorded) → reserved_on d.cycle_time d.sync stream ≡ Ok octets →
     IsAnswered d entries stream.name octets (turns_on d.cycle_time stream) routed (Placed asked) after → IsGranted d entries stream asked after
@@ -90,9 +90,9 @@ enough_for octets (Some traffic) cycle_time reserved h = λ t is.
     subst (λ (x : TrafficText). needed cycle_time (promise_of x) ≤ reserved) (same_Some traffic t is)
     (reserved_enough octets (needed cycle_time (promise_of traffic)) reserved h)
 
--- ---- traffic as it is told
+-- ---- traffic as the plan has it
 
--- when offers begin is no part of the promise
+-- the promise doesn't say when offers begin
 same_promise : (cycle_time : ℕ) (pacing : Pacing) (phase : ℕ) (t : TrafficText) → promise_of (traffic_by cycle_time pacing phase t) ≡ promise_of t
 same_promise cycle_time pacing phase t = by (is_in_step cycle_time pacing t)
   where
@@ -100,7 +100,7 @@ same_promise cycle_time pacing phase t = by (is_in_step cycle_time pacing t)
     by true = refl
     by false = refl
 
--- so what is enough for the one is for the other
+-- so what is enough for one is enough for the other
 enough_told : (cycle_time : ℕ) (pacing : Pacing) (phase reserved : ℕ) (traffic : Option TrafficText) →
     ForSome traffic (λ (t : TrafficText). needed cycle_time (promise_of t) ≤ reserved) →
     ForSome (option_map (traffic_by cycle_time pacing phase) traffic) (λ (t : TrafficText). needed cycle_time (promise_of t) ≤ reserved)
@@ -109,7 +109,7 @@ enough_told cycle_time pacing phase reserved (Some traffic) enough = λ t is.
     subst (λ (x : TrafficText). needed cycle_time (promise_of x) ≤ reserved) (same_Some (traffic_by cycle_time pacing phase traffic) t is)
     (subst (λ (p : Traffic). needed cycle_time p ≤ reserved) (sym (same_promise cycle_time pacing phase traffic)) (enough traffic refl))
 
--- what is told of it
+-- what the plan has of it
 record IsTold (cycle_time : ℕ) (pacing : Pacing) (phase : ℕ) (traffic : Option TrafficText) : Type 0 where
   promise : option_map promise_of (option_map (traffic_by cycle_time pacing phase) traffic) ≡ option_map promise_of traffic
   whole : option_map_or (is_in_step cycle_time pacing) traffic false ≡ false → option_map (traffic_by cycle_time pacing phase) traffic ≡ traffic
@@ -128,7 +128,7 @@ is_told cycle_time pacing phase (Some t) =
 
 -- ---- all streams
 
--- streams that are all placed, as a plant has them, behind some entries
+-- streams that are all placed, as the plan has them, after some entries
 pub record AreAllGranted (d : Domain) (entries : List Recorded) (streams : List SettledStream) (flows : List FlowText) (end : List Recorded) : Type 0 where
   pub taken_over : AreTakenOver d.cycle_time d.sync streams flows
   pub admitted : (place : ℕ) → admitted_from d entries place (map asked_in flows) ≡ Ok end
@@ -149,7 +149,7 @@ no_stream d entries end same = record {
   no_seal = ap seals same;
 }
 
--- one whose talker is to be in step is so, and its phase is chosen
+-- a stream whose talker has to be in step is in step, and its phase is chosen
 in_step_chosen : (cycle_time sync : ℕ) (given : Pacing) (traffic : Option TrafficText) → can_step cycle_time sync given traffic ≡ true →
     given ≡ pacing.InStep → option_map_or (is_in_step cycle_time given) traffic false ≡ true
 in_step_chosen cycle_time sync (pacing.Given every phase) traffic can same = absurd (cc)
@@ -223,7 +223,7 @@ pub neither : {A : Type 0} (first later : Option A) → or_else first later ≡ 
 neither None later h = (refl, h)
 neither (Some x) later h = absurd (cc)
 
--- where none is late, none is among those found
+-- if none is found that may be late, none may be
 not_found : (latencies : List Latency) → find is_not_sure latencies ≡ None → All (λ (latency : Latency). is_not_sure latency ≡ false) latencies
 not_found [] h = All-nil (λ (latency : Latency). is_not_sure latency ≡ false)
 not_found (latency ∷ more) h = by (is_not_sure latency) refl (λ found. not_found more found) h

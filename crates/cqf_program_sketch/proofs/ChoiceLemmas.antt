@@ -93,7 +93,7 @@ module _ (sketch : SketchDomain) (streams : List SettledStream) (cycles : List �
   bad_step best candidate after so_far here is_better =
       subst (λ (xs : List ℕ). AreBad sketch streams xs (Some after)) (sym cycles_more) (bad_more best candidate after so_far here is_better)
 
-  -- the first that is good is planned
+  -- the first good candidate is the plan's
   pub good_is_planned : (best : Option Candidate) (tried : Tried) → All (IsPlaceable (open_domain sketch)) streams → sketch.candidates ≡ cycles →
       AreBad sketch streams (take k cycles) best → IsGoodOn sketch streams cycle_time tried → ComesOfAll sketch streams (choice.Planned tried)
   good_is_planned best tried placeable those so_far here =
@@ -124,7 +124,7 @@ module _ (sketch : SketchDomain) (streams : List SettledStream) (cycles : List �
             there.are_placed.placed_are);
       }
 
--- where none is good, nothing is planned
+-- if none is good, there is no plan
 pub none_is_planned : (sketch : SketchDomain) (streams : List SettledStream) (cycles : List ℕ) (best : Candidate) → sketch.candidates ≡ cycles →
     AreBad sketch streams cycles (Some best) → ComesOfAll sketch streams (choice.Unplanned best)
 none_is_planned sketch streams cycles best those bad = (

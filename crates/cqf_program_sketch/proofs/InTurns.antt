@@ -1,4 +1,4 @@
--- What is offered of a plan's stream whose phase was chosen comes in the cycles in which the stream reserves.
+-- The offers of a plan's stream whose phase was chosen are in the cycles in which the stream reserves.
 use Rattle.std.proofs.Common.{◌≡◌, ◌≢◌, ◌∙◌, ◌<◌, ◌≤◌, ◌+◌, ◌-◌, ◌*◌, ◌/◌, ◌%◌, ◌==◌, ◌&&◌, ℕ, zero, suc, Bool, true, false, List, [], ◌∷◌, Option, Some, None, AllPairs, Contains, ap, arith, div-add-mod', eq-eqb, eqb-true, fold, if◌then◌else◌, inl, inr, ltb-true, map, max, refl, slice_get, subst, sym}
 use Rattle.std.specs.Prelude.{nat_le, nat_lt, option_map}
 use Rattle.std.specs.Option.{option_map_or}
@@ -33,7 +33,7 @@ use Rattle.cqf_program_sketch.proofs.SoundPlans.{plan_granted, told_plan_is_admi
 
 -- ---- the greatest common divisor
 
--- the greater of one that divides and the next that does divides too
+-- the greater of a divisor and the next divisor divides too
 more_divides : (cycles k greatest : ℕ) → (1 ≤ greatest → cycles % greatest ≡ 0) → 1 ≤ fold max greatest (divisor_at cycles k) →
     cycles % fold max greatest (divisor_at cycles k) ≡ 0
 more_divides cycles k greatest so_far = by ((most_every % (k + 1) == 0) && (cycles % (k + 1) == 0)) refl
@@ -51,7 +51,7 @@ more_divides cycles k greatest so_far = by ((most_every % (k + 1) == 0) && (cycl
     ]
     by false fails some = so_far some
 
--- so the greatest of the first so many does, where there is one
+-- so the greatest of the first `count` does, if there is one
 divides_so_far : (cycles count : ℕ) → 1 ≤ fold max 0 (each_below (divisor_at cycles) count) → cycles % fold max 0 (each_below (divisor_at cycles) count) ≡ 0
 divides_so_far cycles zero some = absurd (omega (arith, some))
 divides_so_far cycles (suc k) some =
@@ -66,7 +66,7 @@ every_divides cycles some = divides_so_far cycles most_every some
 
 -- ---- numbers
 
--- what is some cycles long, and these some times so many
+-- an interval of a number of cycles that `every` divides is a multiple of `every` cycles
 times_many : (interval cycle_time every : ℕ) → interval % cycle_time ≡ 0 → interval / cycle_time % every ≡ 0 → interval % (every * cycle_time) ≡ 0
 times_many interval cycle_time every one two =
     let times : ℕ = interval / cycle_time / every in
@@ -75,7 +75,7 @@ times_many interval cycle_time every one two =
     let long : interval ≡ times * (every * cycle_time) = omega (arith, cycles, ap (λ n. n * cycle_time) all) in
     ap (λ n. n % (every * cycle_time)) long ∙ mul-mod_left times (every * cycle_time)
 
--- an instant so far behind the beginning of a cycle
+-- an instant this long after the beginning of a cycle
 behind_beginning : (phase cycle_time offset : ℕ) → (phase * cycle_time + offset % cycle_time) % cycle_time ≡ offset % cycle_time
 behind_beginning phase cycle_time offset =
     let turned : phase * cycle_time + offset % cycle_time ≡ offset % cycle_time + phase * cycle_time = omega arith in
@@ -85,7 +85,7 @@ in_its_cycle : (phase cycle_time offset : ℕ) → 0 < cycle_time → (phase * c
 in_its_cycle phase cycle_time offset some =
     cycle_is cycle_time phase (phase * cycle_time + offset % cycle_time) (omega arith) (omega (arith, mod-lt offset some))
 
--- one of so many cycles, from the first on
+-- one of `every` cycles, from the first on
 turn_of : (every phase cycle : ℕ) → phase < every → cycle % every ≡ phase % every → is_turn (record { pause = every - 1; phase = phase }) 0 cycle ≡ true
 turn_of every phase cycle early comes =
     let same : every - 1 + 1 ≡ every = omega (arith, early) in
@@ -128,7 +128,7 @@ is_chosen cycle_time sync pacing.InStep (Some t) every phase chosen can is may =
       early = may;
     }
 
--- what is offered of it comes in its cycles
+-- its offers are in its cycles
 comes_in_turn : (d : Domain) (flows : List FlowText) (flow : FlowText) (place until : ℕ) (seed : Option ℕ) (x : Offer) (t : TrafficText) →
     OffersComeInTurns → AreNamedApart (map (sender_of d) flows) → slice_get flows place ≡ Some flow →
     flow.1 ≡ Some (record t { offset = flow.0.0.phase * d.cycle_time + t.offset % d.cycle_time }) → 0 < d.cycle_time →

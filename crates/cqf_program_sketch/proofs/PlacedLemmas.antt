@@ -1,4 +1,4 @@
--- Streams and what becomes of each, one after the other.
+-- Streams and the outcome for each, one after the other.
 use Rattle.std.proofs.Common.{◌≡◌, ◌∙◌, ℕ, ◌+◌, ◌≤◌, ◌<◌, ◌++◌, ◌∷◌, [], All, List, Option, Some, None, ap, append_assoc, arith, drop, get_or, length, map, refl, subst, sym}
 use Rattle.std.proofs.lemmas.List.{drop_all, drop_more, get_or-map, length-map, map-append}
 use Rattle.cqf_model.specs.History.{Asked}
@@ -10,7 +10,7 @@ use Rattle.cqf_program_sketch.specs.declared.candidates.CandidateFault.{Candidat
 use Rattle.cqf_program_sketch.specs.Judging.{first_unplaced, those_placed}
 use Rattle.cqf_program_sketch.specs.Steps.{those_by}
 
--- those that are placed, from a place on; and the first that isn't
+-- those that are placed, from an index on; and the first that isn't
 abbrev pub those_from : List Settled → List PlacingOutcome → ℕ → List (SettledStream × Asked)
 those_from streams outcomes k = those_placed (map settled_value (drop k streams)) (map outcome_value (drop k outcomes))
 
@@ -23,7 +23,7 @@ those_one : (stream : SettledStream) (streams : List SettledStream) (become : Pl
 those_one stream streams (Placed asked) outcomes = refl
 those_one stream streams (Unplaced found) outcomes = refl
 
--- one that is placed is offered early, where each is
+-- a stream that is placed is offered early, if each is
 pub early_there : (outcomes : List PlacingOutcome) (k : ℕ) (outcome : PlacingOutcome) → k < length outcomes → outcome ≡ get_or outcomes k outcome →
     All BeginsEarly (map outcome_value outcomes) → BeginsEarly (outcome_value outcome)
 early_there outcomes k outcome low is all =
@@ -60,7 +60,7 @@ module _ (streams : List Settled) (outcomes : List PlacingOutcome) (k : ℕ) (st
       ∙ sym (append_assoc done (map value one) (map value rest))
       ∙ ap (λ x. x ++ map value rest) (sym put)
 
-  -- the first that isn't placed is this one, or stands behind it
+  -- the first that isn't placed is this one, or comes after it
   unplaced_next : unplaced_from streams outcomes k
       ≡ first_unplaced (settled_value stream ∷ map settled_value (drop (k + 1) streams)) (outcome_value outcome ∷ map outcome_value (drop (k + 1) outcomes))
   unplaced_next = λ i. first_unplaced (map settled_value (streams_rest i)) (map outcome_value (outcomes_rest i))
@@ -76,7 +76,7 @@ module _ (streams : List Settled) (outcomes : List PlacingOutcome) (k : ℕ) (st
       unplaced_from streams outcomes k ≡ unplaced_from streams outcomes (k + 1)
   unplaced_later h = unplaced_next ∙ h
 
--- behind the last there is none
+-- after the last there is none
 pub made_end : {X : Type 0} (value : (SettledStream × Asked) → X) (streams : List Settled) (outcomes : List PlacingOutcome) (k : ℕ) →
     length streams ≤ k →
     map value (those_from streams outcomes k) ≡ []

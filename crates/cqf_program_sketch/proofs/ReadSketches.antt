@@ -1,4 +1,4 @@
--- A sketch that is read is one, and its streams are placed where there is room.
+-- A network file that is read satisfies `IsSketch`, and its streams are placed if there is room.
 use Rattle.std.proofs.Common.{◌≡◌, ◌∙◌, ℕ, List, [], Option, Result, Ok, Err, IfSome, ap, subst, sym}
 use Rattle.cqf_model.specs.declared.limits.Limits.{Limits}
 use Rattle.cqf_text.specs.Parts.{parts_of}
@@ -23,12 +23,12 @@ use Rattle.cqf_program_placing.specs.Settled.{settled_of}
 use Rattle.cqf_program_sketch.specs.PlanLaws.{SketchesArePlacedByRoom}
 use Rattle.cqf_program_sketch.specs.PlanOutput.{Sketched, sketch_line, unsettled_line}
 
--- what was read before a line was to be told
+-- what was read, before the fault became a line
 or_line-Ok : {A E : Type 0} (line : E → List ℕ) (r : Result A E) (x : A) → or_line line r ≡ Ok x → r ≡ Ok x
 or_line-Ok line (Ok y) x e = cc
 or_line-Ok line (Err fault) x e = absurd cc
 
--- a sketch whose edges pass the checks is what the text says with them
+-- a network file whose edges pass the checks is what the text says with them
 with_these_edges : (text : SketchText) (edges : List Edge) (sketch : SketchDomain) → with_edges text edges ≡ Ok sketch → sketch_with text edges ≡ sketch
 with_these_edges text edges sketch e =
     let a = refuse-Ok (first_twice edges) (λ (element : ℕ). Domain (domain.LinkTwice element)) _ sketch e in
@@ -42,7 +42,7 @@ with_these_edges text edges sketch e =
     let same = m.1 in
     cc
 
--- the domain of a sketch's text is a sketch
+-- the domain of a network file's text satisfies `IsSketch`
 read_is_sketch : (limits : Limits) (given : Option (List ℕ)) (text : List ℕ) (sketch : SketchDomain) → IfSome given AreCandidates →
     sketch_domain_of_text limits given text ≡ Ok sketch → IsSketch sketch
 read_is_sketch limits given text sketch are e =
@@ -65,7 +65,7 @@ read_limits limits given text sketch e =
     let (edges, joined_are, checks) = and_then-Ok (joined draft.bridges draft.stations 0 draft.links) (with_edges draft) sketch numbered in
     ap (λ (s : SketchDomain). s.limits) (sym (with_these_edges draft edges sketch checks)) ∙ draft_limits limits given text draft read
 
--- so the streams of an input are placed where there is room
+-- so the streams of an input are placed if there is room
 pub sketches_are_placed : PlacedWhereThereIsRoom → SketchesArePlacedByRoom
 sketches_are_placed law limits given input sketched cycle placed ways are e is_open placed_at =
     let (parts, two, e1) = and_then-Ok (two_parts (parts_of input)) _ sketched e in

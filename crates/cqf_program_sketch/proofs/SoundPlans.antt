@@ -1,4 +1,4 @@
--- A plan of a sketch is a sound one.
+-- A plan of a network file is sound.
 use Rattle.std.proofs.Common.{◌≡◌, ◌∙◌, ◌+◌, ◌≤◌, ℕ, suc, All, false, true, List, [], ◌∷◌, Option, Some, None, Ok, ap, arith, map, nat_lt, refl, subst, subst₂, sym}
 use Rattle.std.specs.Option.{ForSome, option_or}
 use Rattle.std.proofs.lemmas.Bool.{cond-false, le-ltb}
@@ -25,7 +25,7 @@ use Rattle.cqf_program_sketch.specs.Judging.{deadlines_placed, first_late, first
 use Rattle.cqf_program_sketch.specs.PlanLaws.{IsSoundPlan, ReservesEnough, ToldPlanIsAdmitted, deadlines_of}
 use Rattle.cqf_program_sketch.proofs.AllPlaced.{AreAllGranted, all_granted, all_in_time, neither, none_late}
 
--- what latency says strictly of a plan that is admitted, where no frame may be late
+-- the strict answer of `latency` for a plan that is admitted, if no frame may be late
 strict_ok : (d : Domain) (flows : List FlowText) (entries : List Recorded) → admitted_from d [] 1 (map asked_in flows) ≡ Ok entries →
     first_late (latencies_of d (held_in d entries 0) (deadlines_of flows)) ≡ None →
     latency_of_plan true d (map asked_in flows) (deadlines_of flows) ≡ Ok (latency_text d (held_in d entries 0) (deadlines_of flows))
@@ -52,7 +52,7 @@ none_lacks cycle_time place (flow ∷ flows) enough =
     ap (λ o. option_or o (first_lack cycle_time (place + 1) (map planned_octets flows))) (lacks_nothing cycle_time place flow.0.0.octets flow.1 first)
     ∙ none_lacks cycle_time (place + 1) flows rest
 
--- streams that are all placed, without any that may be late, are a sound plan
+-- if all streams are placed and none may be late, the plan is sound
 sound_of : (streams : List SettledStream) (placed : PlacedStreams) →
     AreAllGranted placed.domain [] streams (flows_placed placed.domain.cycle_time streams placed.outcomes) placed.entries →
     first_late (latencies_placed streams placed) ≡ None →

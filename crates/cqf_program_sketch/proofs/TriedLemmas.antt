@@ -1,4 +1,4 @@
--- Streams that are placed, each with what becomes of it.
+-- Streams that are placed, each with its outcome.
 use Rattle.std.proofs.Common.{◌≡◌, All, List, [], ◌∷◌, ap, length, refl, suc, true}
 use Rattle.std.proofs.lemmas.List.Elements.{All-cons, All-nil, All-tail, All-head}
 use Rattle.cqf_model.specs.Domain.{Domain}
@@ -8,7 +8,7 @@ use Rattle.cqf_program_placing.specs.Settled.{IsPlaceable, SettledStream, is_pac
 use Rattle.cqf_program_placing.proofs.Stepping.{first_is_early}
 use Rattle.cqf_program_sketch.proofs.AllPlaced.{granted_by}
 
--- something becomes of each
+-- each has an outcome
 pub length-placed : (d : Domain) (entries : List Recorded) (streams : List SettledStream) (outcomes : List PlacedOr) (end : List Recorded) →
     ArePlacedFrom d entries streams outcomes end → length outcomes ≡ length streams
 length-placed d entries [] [] end h = refl
@@ -16,7 +16,7 @@ length-placed d entries [] (become ∷ more) end h = absurd h
 length-placed d entries (stream ∷ streams) [] end h = absurd h
 length-placed d entries (stream ∷ streams) (become ∷ more) end h = ap (λ n. suc n) (length-placed d h.0 streams more end h.2)
 
--- one that is placed is offered early
+-- a stream that is placed is offered early
 one_early : (d : Domain) (entries after : List Recorded) (stream : SettledStream) (become : PlacedOr) → is_paced stream.pacing ≡ true →
     IsPlacing d entries stream become after → BeginsEarly become
 one_early d entries after stream (Unplaced found) paced is = tt

@@ -1,4 +1,4 @@
--- Which candidate for the cycle time is taken, and what is told where none is good.
+-- Which candidate for the cycle time is taken, and the line that is printed if none is good.
 use Rattle.std.specs.Prelude.{ℕ, ◌≡◌, ◌<◌, ◌==◌, ◌++◌, List, ◌∷◌, [], All, codes, decimal, fold, if◌then◌else◌, length, nat_lt, Option, Some, None, IsSome}
 use Rattle.cqf_model.specs.Domain.{Domain}
 use Rattle.cqf_sketch.specs.SketchDomain.{SketchDomain, longest_guard}
@@ -12,7 +12,7 @@ use Rattle.cqf_program_sketch.specs.declared.candidates.CandidateFault.{Candidat
 use Rattle.cqf_program_sketch.specs.declared.candidates.CandidateFault.TheVariants as shut
 use Rattle.cqf_program_sketch.specs.Judging.{ArePlacedAt, AreJudgedBy, candidate_of, flows_placed}
 
--- a fault of a candidate, as it is told
+-- the text of a candidate's fault
 abbrev pub candidate_fault_text : CandidateFault → List ℕ
 candidate_fault_text shut.GuardTooLong = codes "GuardTooLong"
 candidate_fault_text (shut.Stream name found) = name ++ (codes ": " ++ plan_fault_text found)
@@ -21,7 +21,7 @@ candidate_fault_text (shut.Stream name found) = name ++ (codes ": " ++ plan_faul
 abbrev pub IsBad : Candidate → Type 0
 IsBad candidate = IsSome candidate.fault
 
--- a plan: the first good candidate is its cycle time, and the streams are those that are placed on it
+-- a plan: its cycle time is the first good candidate, and its streams are those that are placed on it
 pub record IsPlanned (sketch : SketchDomain) (streams : List SettledStream) (d : Domain) (flows : List FlowText) : Type 0 where
   pub before : List ℕ
   pub cycle_time : ℕ
@@ -37,7 +37,7 @@ pub record IsPlanned (sketch : SketchDomain) (streams : List SettledStream) (d :
   pub domain_is : d ≡ placed.domain
   pub flows_are : flows ≡ flows_placed placed.domain.cycle_time streams placed.outcomes
 
--- of two candidates the first, unless more streams are placed on the second; and of some
+-- of two candidates the first, unless more streams are placed on the second; and the best of some
 abbrev pub better : Option Candidate → Candidate → Option Candidate
 better None candidate = Some candidate
 better (Some best) candidate = if nat_lt best.placed candidate.placed then Some candidate else Some best
@@ -45,7 +45,7 @@ better (Some best) candidate = if nat_lt best.placed candidate.placed then Some 
 abbrev pub best_of : List Candidate → Option Candidate
 best_of told = fold better None told
 
--- what is told of a candidate that isn't good, of so many
+-- the text about a candidate that isn't good, of `count` candidates
 abbrev pub bad_text : ℕ → ℕ → List ℕ → List ℕ
 bad_text count cycle_time text =
     if count == 1 then text
@@ -60,7 +60,7 @@ abbrev pub line_of_best : ℕ → Option Candidate → List ℕ
 line_of_best count None = []
 line_of_best count (Some best) = bad_line count best.cycle_time best.fault
 
--- no candidate is good, and this is the line that tells so: of the one on which most streams are placed
+-- no candidate is good, and this line says why the one on which most streams are placed isn't
 pub record IsUnplanned (sketch : SketchDomain) (streams : List SettledStream) (line : List ℕ) : Type 0 where
   pub told : List Candidate
   pub judged : AreJudgedBy sketch streams sketch.candidates told

@@ -3,6 +3,6 @@ pub mod Choosing
 pub mod TableText
 pub mod PlanLaws
 pub mod PlanOutput
--- what the inner functions say
+-- the contracts of inner functions
 pub mod Steps
 pub mod Trying

@@ -1,4 +1,4 @@
--- What a told plan keeps.
+-- What each plan that is written ensures.
 use Rattle.std.specs.Prelude.{ℕ, ◌≡◌, ◌+◌, ◌*◌, ◌%◌, ◌≤◌, List, [], All, Contains, IfSome, Option, Some, None, Ok, false, length, map, option_map, slice_get, true}
 use Rattle.std.specs.Option.{ForSome}
 use Rattle.cqf_laws_timing.specs.Traffic.{needed, offers_named}
@@ -30,9 +30,10 @@ use Rattle.cqf_program_sketch.specs.PlanOutput.{Sketched, sketch_input}
 abbrev pub deadlines_of : List FlowText → List (Option ℕ)
 deadlines_of flows = map (λ (flow : FlowText). flow.0.1) flows
 
--- what a plan on a cycle time takes over of a settled stream: its name, its deadline, in which cycles it is offered, but for a phase that is to
--- be chosen, as it is wherever its talker is to be in step, and what its talker promises; all of its traffic where no phase is; and else its offers begin in the first of its cycles, as far
--- behind the cycle's beginning as they would have begun behind that of another
+-- what a plan at a cycle time keeps of a settled stream: its name, its deadline, what its talker promises, and the cycles in which it is
+-- offered, except a phase that is to be chosen. If its talker has to be in step, its phase is chosen, and it is in step at any clock
+-- difference up to `sync`. If its phase isn't chosen, the plan keeps all of its traffic. If it is chosen, offers begin in the first of its
+-- cycles, as long after the beginning of that cycle as they would have begun after that of another
 pub record IsTakenOver (cycle_time sync : ℕ) (stream : SettledStream) (flow : FlowText) : Type 0 where
   pub name : flow.0.0.name ≡ stream.name
   pub deadline : flow.0.1 ≡ stream.deadline
@@ -45,18 +46,18 @@ pub record IsTakenOver (cycle_time sync : ℕ) (stream : SettledStream) (flow : 
   pub chosen : is_chosen_on cycle_time stream ≡ true →
       flow.1 ≡ option_map (λ (t : TrafficText). record t { offset = flow.0.0.phase * cycle_time + t.offset % cycle_time }) stream.traffic
 
--- so it does of each of some, in their order
+-- the same for each of some streams, in their order
 pub record AreTakenOver (cycle_time sync : ℕ) (streams : List SettledStream) (flows : List FlowText) : Type 0 where
   pub as_many : length flows ≡ length streams
   pub each : (place : ℕ) (stream : SettledStream) (flow : FlowText) → slice_get streams place ≡ Some stream → slice_get flows place ≡ Some flow →
       IsTakenOver cycle_time sync stream flow
 
--- a stream reserves what its talker needs of a cycle
+-- a stream reserves what its talker needs in a cycle
 abbrev pub ReservesEnough : ℕ → FlowText → Type 0
 ReservesEnough cycle_time flow = ForSome flow.1 (λ (t : TrafficText). needed cycle_time (promise_of t) ≤ flow.0.0.octets)
 
--- a plan of all of these streams, in their order: each is admitted before cycle 0, and reserves what its talker needs of a cycle, so that none
--- is refused for less; the frames of none may miss its deadline, and `latency --strict` says so
+-- a plan of all of these streams, in their order. Each is admitted before cycle 0, and reserves what its talker needs in a cycle, so none
+-- is refused for less. No frame of theirs may miss its deadline, and `latency --strict` says so
 pub record IsSoundPlan (streams : List SettledStream) (d : Domain) (flows : List FlowText) : Type 0 where
   pub taken_over : AreTakenOver d.cycle_time d.sync streams flows
   pub entries : List Recorded
@@ -66,14 +67,14 @@ pub record IsSoundPlan (streams : List SettledStream) (d : Domain) (flows : List
   pub in_time : All (λ (latency : Latency). is_not_sure latency ≡ false) (latencies_of d (held_in d entries 0) (deadlines_of flows))
   pub strict : latency_of_plan true d (map asked_in flows) (deadlines_of flows) ≡ Ok (latency_text d (held_in d entries 0) (deadlines_of flows))
 
--- so is each plan of a sketch
+-- each plan of a network file is sound
 abbrev pub ToldPlanIsAdmitted : Type 0
 ToldPlanIsAdmitted =
     (sketch : SketchDomain) (streams : List SettledStream) (d : Domain) (flows : List FlowText) → IsPlanned sketch streams d flows →
     IsSoundPlan streams d flows
 
--- what is offered of a plan's stream whose phase was chosen comes in the cycles in which the stream reserves, for every seed and without one,
--- by its talker's clock, and by the edge bridge's, which may be as far apart from it as the domain states
+-- the offers of a plan's stream whose phase was chosen are in the cycles in which the stream reserves, for every seed and without one. This
+-- holds by the talker's clock, and by the edge bridge's, which may differ from it by as much as the domain's `sync`
 abbrev pub ChosenStreamsComeInTurns : Type 0
 ChosenStreamsComeInTurns =
     (sketch : SketchDomain) (streams : List SettledStream) (d : Domain) (flows : List FlowText) (place : ℕ) (stream : SettledStream) (flow : FlowText)
@@ -82,7 +83,8 @@ ChosenStreamsComeInTurns =
     Contains (offers_named flow.0.0.name (offers_before until seed (map (sender_of d) flows))) x → (at : ℕ) → x.at.0 ≤ at + d.sync → at ≤ x.at.0 + d.sync →
     is_turn (pace_of (asked_in flow)) 0 (cycle_of d at) ≡ true
 
--- the streams of an input that is a sketch, whose branches may be ways, are placed where there is room, on each cycle time that is open to it
+-- the streams of an input that is a network file are placed if there is room, on each cycle time that is open to it, if a branch may have
+-- as many nodes as the longest path
 abbrev pub SketchesArePlacedByRoom : Type 0
 SketchesArePlacedByRoom =
     (limits : Limits) (given : Option (List ℕ)) (input : List ℕ) (sketched : Sketched) (cycle_time : ℕ) (placed : PlacedStreams) → MayBeWays limits →

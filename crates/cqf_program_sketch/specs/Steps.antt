@@ -1,4 +1,4 @@
--- What the inner functions say of streams, and of a candidate's line.
+-- The contracts of inner functions about streams, and about a candidate's line.
 use Rattle.std.specs.Prelude.{ℕ, ◌≤◌, List, [], ◌∷◌, All, Option, decimal, length, map}
 use Rattle.std.specs.Option.{option_map_or}
 use Rattle.cqf_model.specs.History.{Asked}
@@ -14,12 +14,12 @@ use Rattle.cqf_program_sketch.specs.Choosing.{candidate_fault_text}
 use Rattle.cqf_program_sketch.specs.Judging.{flow_of}
 use Rattle.cqf_program_sketch.specs.TableText.{slack_text, stream_of_slack}
 
--- settled streams of a sketch
+-- settled streams of a network file
 pub record AreSettled (sketch : SketchDomain) (streams : List SettledStream) : Type 0 where
   pub few : length streams ≤ most_streams
   pub placeable : All (IsPlaceable (open_domain sketch)) streams
 
--- a stream with what was asked for, where it is placed; and as a plant has it, and its deadline
+-- a stream with its request, if it is placed; as the plan has it; and its deadline
 abbrev pub those_by : SettledStream → PlacedOr → List (SettledStream × Asked)
 those_by stream (Placed asked) = (stream, asked) ∷ []
 those_by stream (Unplaced found) = []
@@ -30,7 +30,7 @@ flows_by cycle_time stream become = map (λ (one : SettledStream × Asked). flow
 abbrev pub deadlines_by : SettledStream → PlacedOr → List (Option ℕ)
 deadlines_by stream become = map (λ (one : SettledStream × Asked). one.0.deadline) (those_by stream become)
 
--- the two halves of a candidate's fields: what is placed and held, and how tight deadlines are
+-- the two halves of a candidate's fields: what is placed and held; and how tight deadlines are
 abbrev pub held_fields : ℕ → Candidate → Fields
 held_fields streams candidate =
     decimal candidate.cycle_time ∷ decimal candidate.placed ∷ decimal streams ∷ option_map_or percentage_text candidate.used [] ∷ []

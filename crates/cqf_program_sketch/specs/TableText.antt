@@ -14,21 +14,21 @@ abbrev pub candidates_header : Fields
 candidates_header =
     codes "cycle" ∷ codes "placed" ∷ codes "streams" ∷ codes "used" ∷ codes "late" ∷ codes "tightest" ∷ codes "slack" ∷ codes "fault" ∷ []
 
--- the stream of the tightest deadline, and what is left of it, below 0 where the most is beyond it
+-- the stream of the tightest deadline; and what is left of that deadline, below 0 if the longest latency exceeds it
 abbrev pub stream_of_slack : Option Slack → List ℕ
 stream_of_slack slack = option_map_or (λ (found : Slack). found.stream) slack []
 
 abbrev pub slack_text : Option Slack → List ℕ
 slack_text slack = option_map_or (λ (found : Slack). left_text found.deadline found.most) slack []
 
--- a candidate, beside so many streams
+-- the fields of a candidate; `streams` is the number of all streams
 abbrev pub candidate_fields : ℕ → Candidate → Fields
 candidate_fields streams candidate =
     decimal candidate.cycle_time ∷ decimal candidate.placed ∷ decimal streams ∷ option_map_or percentage_text candidate.used []
     ∷ decimal candidate.late ∷ stream_of_slack candidate.tightest ∷ slack_text candidate.tightest
     ∷ option_map_or candidate_fault_text candidate.fault [] ∷ []
 
--- one line a candidate, in their order
+-- one line for each candidate, in their order
 abbrev pub lines_of_candidates : ℕ → List Candidate → List ℕ
 lines_of_candidates streams told = flat_map (λ (candidate : Candidate). line_of_fields (candidate_fields streams candidate)) told
 

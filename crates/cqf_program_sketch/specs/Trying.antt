@@ -1,4 +1,4 @@
--- What the inner functions say of cycle times that are tried.
+-- The contracts of inner functions about cycle times that are tried.
 use Rattle.std.specs.Prelude.{ℕ, ◌≡◌, ◌<◌, List, All, IfSome, Option, Some, None, length, map}
 use Rattle.cqf_sketch.specs.SketchDomain.{SketchDomain, longest_guard}
 use Rattle.cqf_program_placing.specs.Placing.{BeginsEarly, PlacedStreams, outcome_value}
@@ -10,30 +10,30 @@ use Rattle.cqf_program_sketch.specs.declared.trying.Tried.{Tried}
 use Rattle.cqf_program_sketch.specs.Choosing.{IsBad, IsPlanned, IsUnplanned, best_of, line_of_best}
 use Rattle.cqf_program_sketch.specs.Judging.{ArePlacedAt, AreJudgedBy, IsJudgedBy, candidate_of, flows_placed}
 
--- what is told of streams that are placed, with their domain and what becomes of each
+-- the verdict on streams that are placed, with their domain and the outcome for each
 pub record IsTriedBy (streams : List SettledStream) (placed : PlacedStreams) (tried : Tried) : Type 0 where
   pub candidate_is : tried.candidate ≡ candidate_of streams placed
   pub domain_is : tried.domain ≡ placed.domain
   pub outcomes_are : map outcome_value tried.outcomes.items ≡ placed.outcomes
 
--- on a cycle time
+-- the same on a cycle time
 pub record IsTried (sketch : SketchDomain) (streams : List SettledStream) (cycle_time : ℕ) (tried : Tried) : Type 0 where
   pub placed : PlacedStreams
   pub are_placed : ArePlacedAt sketch streams cycle_time placed
   pub tried_by : IsTriedBy streams placed tried
 
--- a cycle time is good, and its plant's streams are these
+-- a cycle time is good: all streams are placed on it, and none may be late
 pub record IsGoodOn (sketch : SketchDomain) (streams : List SettledStream) (cycle_time : ℕ) (tried : Tried) : Type 0 where
   pub open_to : longest_guard sketch < cycle_time
   pub tried_is : IsTried sketch streams cycle_time tried
   pub good : tried.candidate.fault ≡ None
 
--- it isn't, and this is told of it
+-- a cycle time isn't good, and this is the verdict on it
 pub record IsBadOn (sketch : SketchDomain) (streams : List SettledStream) (cycle_time : ℕ) (candidate : Candidate) : Type 0 where
   pub judged : IsJudgedBy sketch streams cycle_time candidate
   pub bad : IsBad candidate
 
--- what comes of a candidate
+-- the choice after one candidate
 abbrev pub ComesOf : SketchDomain → List SettledStream → ℕ → Choice → Type 0
 ComesOf sketch streams cycle_time (choice.Planned tried) = IsGoodOn sketch streams cycle_time tried
 ComesOf sketch streams cycle_time (choice.Unplanned candidate) = IsBadOn sketch streams cycle_time candidate
@@ -46,13 +46,13 @@ pub record AreBad (sketch : SketchDomain) (streams : List SettledStream) (cycles
   pub best_is : best ≡ best_of told
   pub best_bad : IfSome best IsBad
 
--- a cycle time on which streams were placed is planned
+-- a cycle time on which streams were placed is the plan's
 pub record IsPlannedOn (sketch : SketchDomain) (streams : List SettledStream) (tried : Tried) : Type 0 where
   pub planned : IsPlanned sketch streams tried.domain (flows_placed tried.domain.cycle_time streams (map outcome_value tried.outcomes.items))
   pub each : length tried.outcomes.items ≡ length streams
   pub early : All BeginsEarly (map outcome_value tried.outcomes.items)
 
--- what comes of all
+-- the choice after all candidates
 abbrev pub ComesOfAll : SketchDomain → List SettledStream → Choice → Type 0
 ComesOfAll sketch streams (choice.Planned tried) = IsPlannedOn sketch streams tried
 ComesOfAll sketch streams (choice.Unplanned best) =

@@ -1,4 +1,4 @@
-//! What is told of a candidate for the cycle time.
+//! The verdict on a candidate for the cycle time.
 ghost use Rattle.std.specs.Prelude.{◌≡◌, Some};
 ghost use Rattle.cqf_program_sketch.specs.Choosing.{candidate_fault_text};
 ghost use Rattle.cqf_program_sketch.specs.Judging.{shut_candidate};
@@ -10,7 +10,7 @@ use std::fmt;
 /// Why a candidate isn't good.
 #[derive(Debug, Drop)]
 pub enum CandidateFault {
-    /// It isn't above each guard time.
+    /// It isn't longer than every guard band.
     GuardTooLong,
     /// The stream of this name isn't placed, or may be late.
     Stream(Name, PlanFault),
@@ -23,29 +23,29 @@ pub struct Slack {
     pub stream: Name,
     /// In nanoseconds.
     pub deadline: u32,
-    /// The most that a frame takes, in nanoseconds: what is left is the deadline less this.
+    /// The longest time that a frame takes, in nanoseconds. What is left is the deadline less this.
     pub most: u64,
 }
 
-/// What is told of a candidate for the cycle time.
+/// The verdict on a candidate for the cycle time.
 #[derive(Debug, Drop)]
 pub struct Candidate {
     /// In nanoseconds.
     pub cycle_time: u32,
     /// How many streams are placed.
     pub placed: usize,
-    /// The greatest share of a link's budget that is held, in thousandths, rounded down; none where no link has a budget, or it isn't
-    /// above each guard time.
+    /// The greatest share of a link's budget that is held, in thousandths, rounded down; none if no link has a budget, or if the cycle time
+    /// isn't longer than every guard band.
     pub used: Option<u64>,
-    /// Of how many streams and listeners a frame may be late.
+    /// For how many streams and listeners a frame may be late.
     pub late: usize,
-    /// The first of the deadlines of which the least is left.
+    /// The first of the deadlines with the least time left.
     pub tightest: Option<Slack>,
     /// Why it isn't good.
     pub fault: Option<CandidateFault>,
 }
 
-/// The fault as it is told: behind the name of its stream, where it is one of a stream.
+/// The text of the fault: the fault of a stream follows the stream's name.
 impl fmt::Display for CandidateFault {
     ghost output = { λ fault. Some (candidate_fault_text fault) };
 
@@ -58,7 +58,7 @@ impl fmt::Display for CandidateFault {
 }
 
 impl Candidate {
-    /// What is told of a cycle time, in nanoseconds, that isn't above each guard time: nothing is placed.
+    /// Returns the verdict on a cycle time, in nanoseconds, that isn't longer than every guard band: nothing is placed.
     pub(crate) fn shut(cycle_time: u32) -> Candidate
         ensures { result ≡ shut_candidate cycle_time }
     {

@@ -13,7 +13,7 @@ use cqf_sketch::SketchDomain;
 use cqf_units::Memory;
 use std::alloc::Global;
 
-/// What comes of a candidate for the cycle time, or of some.
+/// The choice after one candidate for the cycle time, or after some.
 #[derive(Drop)]
 pub(crate) enum Choice {
     /// It is good, and taken.
@@ -22,7 +22,7 @@ pub(crate) enum Choice {
     Unplanned(Candidate),
 }
 
-/// Of two candidates the first, unless more streams are placed on the second.
+/// Returns the first of two candidates, unless more streams are placed on the second.
 fn better(best: Option<Candidate>, candidate: Candidate) -> Candidate
     ensures { Some result ≡ better best candidate }
 {
@@ -38,7 +38,7 @@ fn better(best: Option<Candidate>, candidate: Candidate) -> Candidate
     }
 }
 
-/// What comes of settled streams of a sketch on a cycle time.
+/// Returns the choice for settled streams of a network file on a cycle time.
 fn choice_at(
     alloc: Global,
     sketch: &SketchDomain,
@@ -60,7 +60,7 @@ fn choice_at(
     }
 }
 
-/// The first candidate of a sketch that is good for its settled streams, or the one of the others on which most are placed.
+/// Returns the first candidate of a network file that is good for its settled streams; if none is, the one on which most are placed.
 pub(crate) fn choose(
     alloc: Global,
     sketch: &SketchDomain,

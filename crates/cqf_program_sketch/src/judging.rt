@@ -1,4 +1,4 @@
-//! What is told of a candidate for the cycle time.
+//! The verdict on a candidate for the cycle time.
 ghost use Rattle.std.specs.Prelude.{ℕ, ◌≡◌, ◌++◌, IfOk, OnOk, count_by, length, map};
 ghost use Rattle.cqf_admission.specs.Turns.{AreOfGoodPaces};
 ghost use Rattle.cqf_laws_history.specs.StateLaws.{AreHeld};
@@ -20,7 +20,7 @@ use cqf_topology::Domain;
 use cqf_units::Memory;
 use std::alloc::Global;
 
-/// Puts a stream's deadline behind others, where the stream is placed.
+/// Puts a stream's deadline after others, if the stream is placed.
 fn put_deadline(
     deadlines: &mut Vec<Option<u32>>,
     stream: &Settled,
@@ -36,7 +36,7 @@ fn put_deadline(
     Ok(())
 }
 
-/// The deadlines of those of some streams that are placed, in their order.
+/// Returns the deadlines of those of some streams that are placed, in their order.
 fn deadlines_placed(
     alloc: Global,
     streams: &[Settled],
@@ -52,7 +52,7 @@ fn deadlines_placed(
     Ok(deadlines)
 }
 
-/// The same fault again.
+/// Returns a copy of a fault.
 fn copied(fault: &PlanFault) -> PlanFault
     ensures { result ≡ fault.now }
 {
@@ -95,7 +95,7 @@ fn copied(fault: &PlanFault) -> PlanFault
     }
 }
 
-/// The first of some streams that isn't placed, and why.
+/// Returns the first of some streams that isn't placed, and why.
 fn first_unplaced(streams: &[Settled], outcomes: &[PlacingOutcome]) -> Option<CandidateFault>
     requires { length outcomes.now ≡ length streams.now }
     ensures { result ≡ first_unplaced (map settled_value streams.now) (map outcome_value outcomes.now) }
@@ -108,7 +108,7 @@ fn first_unplaced(streams: &[Settled], outcomes: &[PlacingOutcome]) -> Option<Ca
     None
 }
 
-/// That the frames of a latency may be late, as a fault.
+/// Returns the fault that the frames of a latency may be late.
 fn late_fault(latency: &Latency) -> CandidateFault
     ensures { result ≡ late_fault latency.now }
 {
@@ -120,7 +120,7 @@ fn late_fault(latency: &Latency) -> CandidateFault
     CandidateFault::Stream(latency.stream.copied(), late)
 }
 
-/// The first whose frames may be late.
+/// Returns the first whose frames may be late.
 fn first_late(latencies: &[Latency]) -> Option<CandidateFault>
     ensures { result ≡ first_late latencies.now }
 {
@@ -130,7 +130,7 @@ fn first_late(latencies: &[Latency]) -> Option<CandidateFault>
     }
 }
 
-/// At how many listeners frames may be late.
+/// Returns at how many listeners frames may be late.
 fn late_count(latencies: &[Latency]) -> usize
     ensures { result ≡ count_by is_not_sure latencies.now }
 {
@@ -140,7 +140,7 @@ fn late_count(latencies: &[Latency]) -> usize
         .count()
 }
 
-/// The first stream that isn't placed, or else the first whose frames may be late.
+/// Returns the first stream that isn't placed; or else the first whose frames may be late.
 fn first_fault(unplaced: Option<CandidateFault>, latencies: &[Latency]) -> Option<CandidateFault>
     ensures { result ≡ or_else unplaced (first_late latencies.now) }
 {
@@ -150,7 +150,7 @@ fn first_fault(unplaced: Option<CandidateFault>, latencies: &[Latency]) -> Optio
     }
 }
 
-/// What is told of a domain on which streams are placed, by the rows of those that are and what becomes of each.
+/// Returns the verdict on a domain on which streams are placed, by the rows of those that are and the outcome for each.
 pub(crate) fn candidate_of(
     alloc: Global,
     streams: &[Settled],

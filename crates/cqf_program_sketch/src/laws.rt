@@ -1,4 +1,4 @@
-//! Laws about told plans.
+//! Laws about plans that are written.
 ghost use Rattle.cqf_program_sketch.specs.PlanLaws.{ChosenStreamsComeInTurns, SketchesArePlacedByRoom, ToldPlanIsAdmitted};
 
 use cqf_laws_history::state_follows_history;
@@ -6,18 +6,18 @@ use cqf_laws_timing::lists_bound_costs;
 use cqf_program_placing::placed_where_there_is_room;
 use cqf_traffic::offers_come_in_turns;
 
-/// A plan that is told has all streams of its sketch, in their order, each with its name, its deadline, the cycles in which it is to be
-/// offered and what its talker promises; and its whole traffic, but that one whose phase is chosen begins in the first of its cycles. All are
-/// admitted before cycle 0, each reserves what its talker needs of a cycle, and none may have a frame that misses its deadline: `latency --strict`
-/// ends well.
+/// A plan that is written has all streams of its network file, in their order, each with its name, its deadline, the cycles in which it is
+/// to be offered and what its talker promises. It has all of their traffic, but a stream whose phase is chosen begins in the first of its
+/// cycles. All streams are admitted before cycle 0, each reserves what its talker needs in a cycle, and none may have a frame that misses
+/// its deadline: `latency --strict` succeeds.
 pub fn told_plan_is_admitted()
     ensures { ToldPlanIsAdmitted }
 {
     state_follows_history();
 }
 
-/// What is offered of a told plan's stream whose phase was chosen comes in the cycles in which the stream reserves, for every seed and
-/// without one.
+/// The offers of a written plan's stream whose phase was chosen are in the cycles in which the stream reserves, for every seed and without
+/// one.
 pub fn chosen_streams_come_in_turns()
     ensures { ChosenStreamsComeInTurns }
 {
@@ -26,8 +26,8 @@ pub fn chosen_streams_come_in_turns()
     offers_come_in_turns();
 }
 
-/// The streams of each input that is a sketch are placed where there is room, on each cycle time above its guard time: as
-/// [`placed_where_there_is_room`] says it of settled streams.
+/// The streams of each input that is a network file are placed if there is room, on each cycle time that is longer than every guard band,
+/// if a branch may have as many nodes as the longest path: [`placed_where_there_is_room`] says so about settled streams.
 pub fn sketches_are_placed_where_there_is_room()
     ensures { SketchesArePlacedByRoom }
 {

@@ -1,10 +1,10 @@
-//! The command `plan`: from a sketch, with its talkers, traffic, deadlines and candidates for the cycle time, to a plant.
+//! The command `plan`: makes a plan from a network file with talkers, traffic, deadlines and candidates for the cycle time.
 //!
-//! - A `Candidate` is what is told of a cycle time: how many streams are placed, how full its fullest link is, and how tight its tightest
-//!   deadline; and why it isn't good, a `CandidateFault`.
+//! - A `Candidate` is the verdict on a cycle time: how many streams are placed, how full the fullest link is, how tight the tightest
+//!   deadline is; and, if it isn't good, why, a `CandidateFault`.
 //!
-//! `specs/` has what is told of a cycle time (`Judging`), which one is taken (`Choosing`), the table (`TableText`), and what it is that a text
-//! is the output (`PlanOutput`).
+//! `specs/` defines the verdict on a cycle time (`Judging`), which one is taken (`Choosing`), the table (`TableText`), and when a text is
+//! the output (`PlanOutput`).
 #![tactic(auto)]
 
 mod candidates;

@@ -29,7 +29,7 @@ use cqf_topology::DomainFault;
 use cqf_units::{Memory, Name};
 use std::alloc::Global;
 
-/// The end where the domain of a sketch is refused.
+/// Returns the end if the domain of a network file is refused.
 fn sketch_stop(alloc: Global, fault: SketchFault) -> Stop
     ensures refused { fault ≢ SketchFault.Domain DomainFault.Memory → EndsWith 1 (sketch_line fault) result }
     ensures memory { fault ≡ SketchFault.Domain DomainFault.Memory → EndsWith 3 [] result }
@@ -40,8 +40,8 @@ fn sketch_stop(alloc: Global, fault: SketchFault) -> Stop
     }
 }
 
-/// The domain of a sketch's part that is read within some limits. `Err` with status 1 and the line of its first fault, and with status 3
-/// for want of memory.
+/// Returns the domain of a network file's part that is read within some limits. Returns `Err` with status 1 and the line of its first
+/// fault; with status 3 if an allocation fails.
 fn sketch_part(
     alloc: Global,
     limits: Limits,
@@ -58,7 +58,7 @@ fn sketch_part(
     }
 }
 
-/// The streams of a sketch's part, likewise.
+/// Returns the streams of a network file's part; `Err` likewise.
 fn wanted_part(alloc: Global, text: &[u8]) -> Result<Vec<Stream>, Stop>
     ensures ok { IfOk result (λ streams. sketch_streams_of_text text.now ≡ Ok (map stream_text streams.items)) }
     ensures err { IfErr result (IsRefused (or_line flows_line (sketch_streams_of_text text.now))) }
@@ -69,7 +69,7 @@ fn wanted_part(alloc: Global, text: &[u8]) -> Result<Vec<Stream>, Stop>
     }
 }
 
-/// The line of a stream that isn't settled.
+/// Returns the line of a stream that isn't settled.
 fn line_of_unsettled(alloc: Global, name: &Name, fault: &PlanFault) -> Result<String, Memory>
     ensures { IfOk result (λ line. string_bytes line ≡ unsettled_line (Unsettled.Stream name.now fault.now)) }
 {
@@ -77,7 +77,7 @@ fn line_of_unsettled(alloc: Global, name: &Name, fault: &PlanFault) -> Result<St
     Ok(line)
 }
 
-/// The end where streams of a sketch aren't settled.
+/// Returns the end if streams of a network file aren't settled.
 fn unsettled_stop(alloc: Global, fault: Unsettled) -> Stop
     ensures refused { fault ≢ Unsettled.Memory → EndsWith 1 (unsettled_line fault) result }
     ensures memory { fault ≡ Unsettled.Memory → EndsWith 3 [] result }
@@ -91,7 +91,8 @@ fn unsettled_stop(alloc: Global, fault: Unsettled) -> Stop
     }
 }
 
-/// The streams of a sketch, settled. `Err` with status 1 and the line of the first fault, and with status 3 for want of memory.
+/// Returns the streams of a network file, settled. Returns `Err` with status 1 and the line of the first fault; with status 3 if an
+/// allocation fails.
 fn settled_part(
     alloc: Global,
     sketch: &SketchDomain,
@@ -107,8 +108,8 @@ fn settled_part(
     }
 }
 
-/// The domain and the settled streams of the input, read within some limits. `Err` with status 1 and the line of the first fault: of its
-/// parts, of the domain, of the streams, or of what no cycle time changes; and with status 3 for want of memory.
+/// Returns the domain and the settled streams of the input, read within some limits. Returns `Err` with status 1 and the line of the first
+/// fault: of its parts, of the domain, of the streams, or of what no cycle time changes; with status 3 if an allocation fails.
 fn read_sketch(
     alloc: Global,
     limits: Limits,
@@ -128,7 +129,7 @@ fn read_sketch(
     Ok((domain, streams))
 }
 
-/// The table of a sketch's candidates.
+/// Returns the table of a network file's candidates.
 fn table_of(alloc: Global, sketch: &SketchDomain, streams: &[Settled]) -> Result<Vec<u8>, Memory>
     requires { AreSettled sketch.now (map settled_value streams.now) }
     ensures { IfOk result (λ text. IsCandidatesText (record { domain = sketch.now; streams = map settled_value streams.now }) text.items) }
@@ -138,7 +139,7 @@ fn table_of(alloc: Global, sketch: &SketchDomain, streams: &[Settled]) -> Result
     Ok(text)
 }
 
-/// The plant's text of a cycle time on which streams are placed.
+/// Returns the text of the plan on a cycle time on which streams are placed.
 fn plant_of(alloc: Global, streams: &[Settled], tried: &Tried) -> Result<Vec<u8>, Memory>
     requires each { length tried.now.outcomes.items ≡ length streams.now }
     requires early { All BeginsEarly (map outcome_value tried.now.outcomes.items) }
@@ -151,7 +152,7 @@ fn plant_of(alloc: Global, streams: &[Settled], tried: &Tried) -> Result<Vec<u8>
     Ok(text.into_bytes())
 }
 
-/// The end where none of so many candidates is good.
+/// Returns the end if none of `count` candidates is good.
 fn unplanned_stop(alloc: Global, count: usize, best: &Candidate) -> Stop
     requires { IsBad best.now }
     ensures { EndsWith 1 (line_of_best count (Some best.now)) result }
@@ -159,10 +160,10 @@ fn unplanned_stop(alloc: Global, count: usize, best: &Candidate) -> Stop
     Stop::with_text(alloc, REFUSED, line_of_best(alloc, count, best))
 }
 
-/// The plant that is planned of a sketch.
+/// Returns the text of a network file's plan.
 ///
 /// # Errors
-/// With status 1 and the line that tells why none of its candidates is good; and with status 3 for want of memory.
+/// With status 1 and the line that says why none of its candidates is good; with status 3 if an allocation fails.
 fn plan_of(alloc: Global, sketch: &SketchDomain, streams: &[Settled]) -> Result<Vec<u8>, Stop>
     requires { AreSettled sketch.now (map settled_value streams.now) }
     ensures ok { IfOk result (λ text. IsPlanText (record { domain = sketch.now; streams = map settled_value streams.now }) text.items) }
@@ -180,10 +181,10 @@ fn plan_of(alloc: Global, sketch: &SketchDomain, streams: &[Settled]) -> Result<
     }
 }
 
-/// What is told of a sketch: its plant, or a table of its candidates.
+/// Returns the output for a network file: its plan, or a table of its candidates.
 ///
 /// # Errors
-/// As of [`plan_of`], and of the table only with status 3 for want of memory.
+/// As [`plan_of`]; for the table, only with status 3 if an allocation fails.
 fn told_of(
     alloc: Global,
     table: bool,
@@ -203,13 +204,13 @@ fn told_of(
     }
 }
 
-/// The output of `plan` for an input that is read within some limits, where candidates for the cycle time may be given, each in
-/// nanoseconds: the text of a plant, or of a table of the candidates.
+/// Returns the output of `plan` for an input that is read within some limits: the text of a plan, or of a table of the candidates.
+/// Candidates for the cycle time may be given, in nanoseconds.
 ///
 /// # Errors
 /// With status 1 and the line of the first fault: of the input's parts, of the domain, of the streams, or of what no cycle time changes; or
-/// else, where no table is asked for and none of the candidates is good, of the one on which most streams are placed; and with status 3 for
-/// want of memory.
+/// else, if no table is requested and no candidate is good, of the one on which most streams are placed. With status 3 if an allocation
+/// fails.
 pub fn plan_output(
     alloc: Global,
     limits: Limits,

@@ -1,4 +1,4 @@
-//! A plan, as a plant has it, or the line that tells why there is none.
+//! The streams of a plan; or the line that says why there is no plan.
 ghost use Rattle.std.specs.Prelude.{◌≡◌, ◌++◌, ◌<◌, ◌≤◌, All, IfOk, OnOk, Some, length, map, string_bytes};
 ghost use Rattle.cqf_admission.specs.Asking.{asked_paced};
 ghost use Rattle.cqf_model.specs.Limits.{longest_cycle, most_every};
@@ -16,7 +16,7 @@ use cqf_traffic::{Flow, Traffic};
 use cqf_units::{Memory, Nanos};
 use std::alloc::Global;
 
-/// The traffic of a stream that is placed on a cycle time in this phase, as a plant has it.
+/// Returns the traffic of a stream that is placed on a cycle time in this phase, as the plan has it.
 fn traffic_told(stream: &Settled, cycle_time: Nanos, phase: u32) -> Option<Traffic>
     requires some { 0 < cycle_time.0 }
     requires short { cycle_time.0 ≤ longest_cycle }
@@ -33,7 +33,7 @@ fn traffic_told(stream: &Settled, cycle_time: Nanos, phase: u32) -> Option<Traff
     Some(traffic.from_instant(Nanos(begins)))
 }
 
-/// A stream that is placed on a cycle time with a request, as a plant has it.
+/// Returns a stream that is placed on a cycle time with a request, as the plan has it.
 fn flow_of(stream: &Settled, cycle_time: Nanos, request: PacedRequest) -> Flow
     requires some { 0 < cycle_time.0 }
     requires short { cycle_time.0 ≤ longest_cycle }
@@ -50,7 +50,7 @@ fn flow_of(stream: &Settled, cycle_time: Nanos, request: PacedRequest) -> Flow
     }
 }
 
-/// Puts a stream behind others, as a plant has it, where it is placed.
+/// Puts a stream after others, as the plan has it, if the stream is placed.
 fn put_flow(
     alloc: Global,
     flows: &mut Vec<Flow>,
@@ -74,7 +74,7 @@ fn put_flow(
     Ok(())
 }
 
-/// Those of some streams that are placed on a cycle time, as a plant has them.
+/// Returns those of some streams that are placed on a cycle time, as the plan has them.
 pub(crate) fn flows_placed(
     alloc: Global,
     streams: &[Settled],
@@ -95,7 +95,7 @@ pub(crate) fn flows_placed(
     Ok(flows)
 }
 
-/// The line that tells why none of so many candidates is good, by the best of them.
+/// Returns the line that says why none of `count` candidates is good, by the best of them.
 pub(crate) fn line_of_best(alloc: Global, count: usize, best: &Candidate) -> Result<String, Memory>
     requires { IsBad best.now }
     ensures { IfOk result (λ line. string_bytes line ≡ line_of_best count (Some best.now)) }

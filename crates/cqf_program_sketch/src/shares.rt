@@ -13,7 +13,7 @@ use cqf_topology::Domain;
 use cqf_units::Memory;
 use std::alloc::Global;
 
-/// The greater of a share and that of a budget that is held, in thousandths, rounded down. Of no budget there is none.
+/// Returns the greater of a share and that of a budget that is held, in thousandths, rounded down. A budget of 0 has none.
 fn with_share(most: Option<u64>, budget: u32, held: u32) -> Option<u64>
     ensures { result ≡ fold larger most (share_of budget held) }
 {
@@ -27,7 +27,8 @@ fn with_share(most: Option<u64>, budget: u32, held: u32) -> Option<u64>
     }
 }
 
-/// The greatest share of a link's budget that is held, where these octets are, by number.
+/// Returns the greatest share of a link's budget that is held, in thousandths, rounded down, if these octets are held of the links, by
+/// number.
 fn greatest_by(domain: &Domain, held: &[u32]) -> Option<u64>
     requires { length held.now ≡ length domain.now.links }
     ensures { result ≡ greatest_of (each_below (λ l. share_of (budget domain.now l) (slice_index held.now l)) (length domain.now.links)) }
@@ -39,7 +40,8 @@ fn greatest_by(domain: &Domain, held: &[u32]) -> Option<u64>
     most
 }
 
-/// The greatest share of a link's budget that the streams of these rows hold in a cycle, in thousandths, rounded down.
+/// Returns the greatest share of a link's budget that the streams of these rows hold in a cycle, in thousandths, rounded down; none if no
+/// link has a budget.
 pub(crate) fn greatest_share(
     alloc: Global,
     domain: &Domain,

@@ -5,7 +5,7 @@ ghost use Rattle.cqf_program_sketch.specs.Judging.{slack_by, slacks_of, tighter,
 use crate::candidates::Slack;
 use cqf_program_plans::Latency;
 
-/// Whether less is left of a deadline than of another, where a frame takes so much at most.
+/// Returns whether less is left of a deadline than of another, if a frame takes `most` and `other_most` at most.
 fn is_less_left(deadline: u32, most: u64, other: u32, other_most: u64) -> bool
     ensures { result ≡ nat_lt (deadline + other_most) (other + most) }
 {
@@ -14,14 +14,14 @@ fn is_less_left(deadline: u32, most: u64, other: u32, other_most: u64) -> bool
     ours < theirs
 }
 
-/// Whether a deadline is tighter than another.
+/// Returns whether less is left of a deadline than of another.
 fn is_tighter(slack: &Slack, other: &Slack) -> bool
     ensures { result ≡ nat_lt (slack.now.deadline + other.now.most) (other.now.deadline + slack.now.most) }
 {
     is_less_left(slack.deadline, slack.most, other.deadline, other.most)
 }
 
-/// The tighter of two, the first of equals.
+/// Returns the tighter of two, the first of equals.
 fn tighter(first: Option<Slack>, slack: Slack) -> Option<Slack>
     ensures { result ≡ tighter first slack }
 {
@@ -37,7 +37,7 @@ fn tighter(first: Option<Slack>, slack: Slack) -> Option<Slack>
     }
 }
 
-/// The tighter of one and what is left of a latency's deadline, where there is one.
+/// Returns the tighter of one and what is left of a latency's deadline, if it has one.
 fn tighter_by(first: Option<Slack>, latency: &Latency) -> Option<Slack>
     ensures { result ≡ fold tighter first (slack_by latency.now latency.now.deadline) }
 {
@@ -54,7 +54,7 @@ fn tighter_by(first: Option<Slack>, latency: &Latency) -> Option<Slack>
     }
 }
 
-/// The first of the latencies' deadlines of which the least is left.
+/// Returns the first of the latencies' deadlines with the least time left.
 pub(crate) fn tightest_of(latencies: &[Latency]) -> Option<Slack>
     ensures { result ≡ tightest_of (slacks_of latencies.now) }
 {

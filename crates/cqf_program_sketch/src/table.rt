@@ -12,7 +12,7 @@ use crate::candidates::{Candidate, CandidateFault, Slack};
 use cqf_units::Memory;
 use std::alloc::Global;
 
-/// A share in thousandths as a percentage, or nothing.
+/// Returns a share in thousandths as a percentage; an empty text if there is none.
 fn used_text(alloc: Global, used: Option<u64>) -> Result<String, Memory>
     ensures { IfOk result (λ text. string_bytes text ≡ option_map_or percentage_text used []) }
 {
@@ -24,7 +24,7 @@ fn used_text(alloc: Global, used: Option<u64>) -> Result<String, Memory>
     Ok(text)
 }
 
-/// What is left of a deadline, below 0 where more is taken.
+/// Returns what is left of a deadline, below 0 if more is taken.
 fn left_text(alloc: Global, deadline: u64, most: u64) -> Result<String, Memory>
     ensures { IfOk result (λ text. string_bytes text ≡ left_text deadline most) }
 {
@@ -38,7 +38,7 @@ fn left_text(alloc: Global, deadline: u64, most: u64) -> Result<String, Memory>
     Ok(text)
 }
 
-/// What is left of the tightest deadline, or nothing.
+/// Returns what is left of the tightest deadline; an empty text if there is none.
 fn slack_text(alloc: Global, tightest: &Option<Slack>) -> Result<String, Memory>
     ensures { IfOk result (λ text. string_bytes text ≡ slack_text tightest.now) }
 {
@@ -48,7 +48,7 @@ fn slack_text(alloc: Global, tightest: &Option<Slack>) -> Result<String, Memory>
     }
 }
 
-/// The stream of the tightest deadline, or nothing.
+/// Returns the stream of the tightest deadline; an empty text if there is none.
 fn stream_of_slack(tightest: &Option<Slack>) -> &str
     ensures { result.now ≡ stream_of_slack tightest.now }
 {
@@ -58,7 +58,7 @@ fn stream_of_slack(tightest: &Option<Slack>) -> &str
     }
 }
 
-/// Why a candidate isn't good, or nothing.
+/// Returns why a candidate isn't good; an empty text if it is good.
 fn fault_text(alloc: Global, fault: &Option<CandidateFault>) -> Result<String, Memory>
     ensures { IfOk result (λ text. string_bytes text ≡ option_map_or candidate_fault_text fault.now []) }
 {
@@ -69,7 +69,7 @@ fn fault_text(alloc: Global, fault: &Option<CandidateFault>) -> Result<String, M
     Ok(text)
 }
 
-/// The first half of a candidate's fields, beside so many streams: what is placed and held.
+/// Returns the first half of a candidate's fields: what is placed and held. `streams` is the number of all streams.
 fn held_text(alloc: Global, streams: usize, candidate: &Candidate) -> Result<String, Memory>
     ensures { IfOk result (λ text. string_bytes text ≡ join_with_byte 44 (held_fields streams candidate.now)) }
 {
@@ -79,7 +79,7 @@ fn held_text(alloc: Global, streams: usize, candidate: &Candidate) -> Result<Str
     Ok(text)
 }
 
-/// The second half: how tight deadlines are, and why the candidate isn't good.
+/// Returns the second half: how tight deadlines are, and why the candidate isn't good.
 fn tight_text(alloc: Global, candidate: &Candidate) -> Result<String, Memory>
     ensures { IfOk result (λ text. string_bytes text ≡ join_with_byte 44 (tight_fields candidate.now)) }
 {
@@ -91,7 +91,7 @@ fn tight_text(alloc: Global, candidate: &Candidate) -> Result<String, Memory>
     Ok(text)
 }
 
-/// The line of a candidate, beside so many streams.
+/// Returns the line of a candidate. `streams` is the number of all streams.
 fn candidate_line(alloc: Global, streams: usize, candidate: &Candidate) -> Result<String, Memory>
     ensures { IfOk result (λ line. string_bytes line ≡ line_of_fields (candidate_fields streams candidate.now)) }
 {
@@ -101,7 +101,8 @@ fn candidate_line(alloc: Global, streams: usize, candidate: &Candidate) -> Resul
     Ok(line)
 }
 
-/// The table of some candidates, beside so many streams: a header, and a line a candidate. `Memory` where a growth is refused.
+/// Returns the table of some candidates: a header, and a line for each candidate. `streams` is the number of all streams. Returns `Memory`
+/// if an allocation fails.
 pub(crate) fn text_of_candidates(
     alloc: Global,
     streams: usize,

@@ -1,4 +1,4 @@
-//! Cycle times that are tried: the streams are placed on them, and what comes of it is judged.
+//! Cycle times that are tried: the streams are placed on them, and the result is judged.
 ghost use Rattle.std.specs.Prelude.{IfOk, map};
 ghost use Rattle.cqf_program_placing.specs.Placing.{ArePlaced};
 ghost use Rattle.cqf_program_placing.specs.Settled.{settled_value};
@@ -15,7 +15,7 @@ use cqf_topology::Domain;
 use cqf_units::Memory;
 use std::alloc::Global;
 
-/// A cycle time on which streams were placed: what is told of it, the plant's domain, and what becomes of each stream.
+/// A cycle time on which streams were placed: the verdict on it, the plan's domain, and the outcome for each stream.
 #[derive(Drop)]
 pub(crate) struct Tried {
     pub(crate) candidate: Candidate,
@@ -23,7 +23,7 @@ pub(crate) struct Tried {
     pub(crate) outcomes: Vec<PlacingOutcome>,
 }
 
-/// What is told of streams that are placed.
+/// Returns the verdict on streams that are placed.
 fn tried_of(alloc: Global, streams: &[Settled], placing: Placing) -> Result<Tried, Memory>
     requires { ArePlaced (map settled_value streams.now) placing }
     ensures { IfOk result (IsTriedBy (map settled_value streams.now) placing) }
@@ -43,7 +43,7 @@ fn tried_of(alloc: Global, streams: &[Settled], placing: Placing) -> Result<Trie
     })
 }
 
-/// Places settled streams of a sketch on a cycle time that is open.
+/// Places settled streams of a network file on an open cycle time.
 pub(crate) fn try_cycle(
     alloc: Global,
     sketch: &SketchDomain,
@@ -59,12 +59,12 @@ pub(crate) fn try_cycle(
     Ok(tried)
 }
 
-/// What is told of a cycle time, in nanoseconds, for settled streams of a sketch: of one that isn't above each guard time, that nothing is
-/// placed; else how many streams are placed, how much of the links' budgets is held, how tight deadlines are, and why it isn't good
-/// 
+/// Returns the verdict on a cycle time, in nanoseconds, for settled streams of a network file. If the cycle time isn't longer than every
+/// guard band, nothing is placed. Else the verdict says how many streams are placed, how much of the links' budgets is held, how tight
+/// deadlines are, and, if it isn't good, why.
 ///
 /// # Errors
-/// `Memory` where a growth is refused.
+/// `Memory` if an allocation fails.
 pub fn judge(
     alloc: Global,
     sketch: &SketchDomain,
@@ -82,7 +82,7 @@ pub fn judge(
     Ok(tried.candidate)
 }
 
-/// What is told of each candidate of a sketch, in the order of wish.
+/// Returns the verdict on each candidate of a network file, in the order of preference.
 pub(crate) fn judge_all(
     alloc: Global,
     sketch: &SketchDomain,

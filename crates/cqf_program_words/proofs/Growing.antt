@@ -3,7 +3,7 @@ use Rattle.std.proofs.Common.{◌≡◌, ℕ, ◌++◌, List, [], ◌∷◌, ap,
 use Rattle.cqf_press.specs.Stops.{line_of}
 use Rattle.cqf_program_words.specs.Shown.{Lengthens}
 
--- nothing stands behind them yet
+-- nothing follows them yet
 pub lengthens_by_none : (old : List ℕ) → Lengthens old old
 lengthens_by_none old = record { more = []; is = sym (append-nil old) }
 
@@ -14,11 +14,11 @@ lengthens_more old new newer more so_far is = record {
   is = is ∙ ap (λ t. t ++ more) so_far.is ∙ append_assoc old so_far.more more;
 }
 
--- one growth behind another
+-- one growth after another
 pub lengthens_twice : (old new newer : List ℕ) → Lengthens old new → Lengthens new newer → Lengthens old newer
 lengthens_twice old new newer first second = lengthens_more old new newer second.more first second.is
 
--- a line of three texts behind its beginning
+-- a line of three texts after its beginning
 pub line_of_three : (line before shown behind text : List ℕ) → line ≡ codes "cqf: words: " ++ (before ++ (shown ++ (behind ++ 10 ∷ [])))
     → before ++ (shown ++ behind) ≡ text → line ≡ line_of (codes "cqf: words: " ++ text)
 line_of_three line before shown behind text is told =

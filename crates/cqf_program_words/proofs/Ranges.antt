@@ -15,39 +15,39 @@ use Rattle.cqf_program_words.specs.Candidates.{AreFromTo, AreNamed, range_word}
 use Rattle.std.specs.Option.{option_and_then}
 use Rattle.std.proofs.lemmas.Grind.{common_steps}
 
--- no digit is another byte
+-- a digit isn't another byte
 pub lacks : (byte : ℕ) (digits : Text) → is_ascii_digit byte ≡ false → list_all is_ascii_digit digits ≡ true →
     (i : ℕ) → i < length digits → get_or digits i 0 ≢ byte
 lacks byte digits other all i inside is =
     let none : list_all is_ascii_digit digits ≡ false = list_all_at is_ascii_digit digits i 0 inside (ap is_ascii_digit is ∙ other) in
     absurd (cc)
 
--- what stands behind the first dot of a range, and with it
+-- what follows the first dot of a range; and the same with that dot
 abbrev pub behind_dot : Text → Text → Text
 behind_dot to step = 46 ∷ (to ++ (codes "/" ++ step))
 
 abbrev pub behind_two : Text → Text → Text
 behind_two to step = 46 ∷ behind_dot to step
 
--- the first dot of a range stands behind its first text
+-- the first dot of a range follows its first text
 pub dot_cut : (word from to step : Text) (r : Option (Bor (List ℕ) × Bor (List ℕ))) → IsSplitOnceResult 46 word r → word ≡ range_word from to step →
     list_all is_ascii_digit from ≡ true → MatchOption r ⊥ (λ x. (x.0.now ≡ from) × (x.1.now ≡ behind_dot to step))
 dot_cut word from to step r cut is digits = split_after 46 word from (behind_dot to step) r cut (omega arith) is (lacks 46 from refl digits)
 
--- and the first slash behind the dots stands behind its second
+-- and the first slash after the dots follows its second text
 pub slash_cut : (others to step : Text) (r : Option (Bor (List ℕ) × Bor (List ℕ))) → IsSplitOnceResult 47 others r → others ≡ to ++ (codes "/" ++ step) →
     list_all is_ascii_digit to ≡ true → MatchOption r ⊥ (λ x. (x.0.now ≡ to) × (x.1.now ≡ step))
 slash_cut others to step r cut is digits = split_after 47 others to step r cut (omega arith) is (lacks 47 to refl digits)
 
--- the value that there is meets what is said of it
+-- the value that is there meets its condition
 pub at_some : {A : Type 0} (r : Option A) (x : A) (N : Type 0) (P : A → Type 0) → r ≡ Some x → MatchOption r N P → P x
 at_some {A = A} r x N P is h = let Q : Option A → Type 0 = λ v. MatchOption v N P in subst Q is h
 
--- and where there is none, what is said then holds
+-- and if there is none, the condition for none holds
 pub at_none : {A : Type 0} (r : Option A) (N : Type 0) (P : A → Type 0) → r ≡ None → MatchOption r N P → N
 at_none {A = A} r N P is h = let Q : Option A → Type 0 = λ v. MatchOption v N P in subst Q is h
 
--- what stands behind the first of two dots, and not where there is another byte
+-- what follows the first of two dots; nothing if another byte follows
 pub second_dot : (behind rest : Text) (r : Option (Bor (List ℕ))) → MatchOption r ((more : Text) → behind ≢ 46 ∷ more) (λ x. behind ≡ 46 ∷ x.now) →
     behind ≡ 46 ∷ rest →
     MatchOption r ⊥ (λ x. x.now ≡ rest)
@@ -59,14 +59,14 @@ written_form : (form : Bool) (least most value number : ℕ) → option_and_then
 written_form true least most value number is = refl
 written_form false least most value number is = absurd (cc)
 
--- and so is of digits alone
+-- and consists of digits alone
 pub digits_by_form : (text : Text) → is_decimal text ≡ true → list_all is_ascii_digit text ≡ true
 digits_by_form text is = grind (arith, common_steps)
 
 pub digits_of : (least most number : ℕ) (text : Text) → decimal_in least most text ≡ Some number → list_all is_ascii_digit text ≡ true
 digits_of least most number text is = digits_by_form text (written_form (is_decimal text) least most _ number is)
 
--- a range is no number
+-- a range isn't a number
 pub range_no_number : (word from to step : Text) (least most number : ℕ) → word ≡ range_word from to step → decimal_in least most word ≡ Some number → ⊥
 range_no_number word from to step least most number is written =
     let dot : get_or (from ++ behind_two to step) (length from) 0 ≡ 46 = get_or-append_seam from 46 (behind_dot to step) 0 in

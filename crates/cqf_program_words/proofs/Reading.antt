@@ -1,4 +1,4 @@
--- What words are read as is what clap has: both are made of one table, and whether plants may be large changes no name.
+-- Words are read as clap has them: both readings follow from one table, and no name depends on whether plans may be large.
 use Rattle.std.proofs.Common.{true, false, refl}
 use Rattle.cqf_program_words.specs.Operands.{ReadsCommands, ReadsOptions}
 

@@ -1,4 +1,4 @@
--- Values of a command, and the jobs that they rule out.
+-- Values of a command, and the jobs that they exclude.
 use Rattle.std.specs.Prelude.{String}
 use Rattle.std.specs.declared.alloc.Global.{Global}
 use Rattle.std.proofs.Common.{◌≡◌, ◌≢◌, ◌∙◌, ◌+◌, ◌*◌, ◌++◌, ℕ, true, false, refl, List, [], Option, Some, None, sym, ap, ap₂, subst}
@@ -25,17 +25,17 @@ use Rattle.cqf_program_words.specs.Mistakes.{mistake_of}
 use Rattle.cqf_program_words.specs.Words.{app_for, ask_for_large, rate_text, IsJob, IsFormat, IsFormatOf, IsFreeIn, IsJobOf, IsNumberIn, AreGiven}
 use Rattle.cqf_program_words.specs.Words.{Mean, AskForHelp, EndsBy, EndsWords, TellsMistake}
 
--- an option whose parser was set goes by the rule that it went by, but for the parser
+-- an option whose parser was set has the same rule except for the parser
 pub with_parser : (before after : Arg) (rule : Rule) (parser : ValueParser) → after ≡ record before { value_parser = after.value_parser } →
     rule_of before ≡ rule → after.value_parser ≡ Some parser → rule_of after ≡ record rule { parser = Some parser }
 with_parser before after rule parser is went set =
     ap rule_of is ∙ ap₂ (λ (r : Rule) (p : Option ValueParser). record r { parser = p }) went set
 
--- the first and the third letter of a command's name, which tell it from the others
+-- the first and the third letter of a command's name, which distinguish it from the others
 abbrev mark : Text → ℕ
 mark name = 256 * slice_index name 0 + slice_index name 2
 
--- names of two marks are two
+-- names with two marks are different
 marked : (one two : Text) → one ≡ two → mark one ≡ mark two
 marked one two e = ap mark e
 
@@ -125,22 +125,22 @@ only_plan rows none (Offers cycles seed) job = omega (arith, marked (codes "plan
 only_plan rows none (Hops cycles stream frame) job = omega (arith, marked (codes "plan") (codes "hops") job.0)
 only_plan rows none (Plan table given) job = none table given job
 
--- so with no number there is no job of `port`
+-- so without a number there is no job of `port`
 pub no_port-until : (rows : List Row) (text : Option Text) → text ≡ first_of (codes "until") rows → ((n : ℕ) → ¬ IsNumberIn 1 100000000 n text) → (job : Job) →
     ¬ IsJobOf job (codes "port") rows
 no_port-until rows text same none =
     only_port rows (λ until rate job. let P : Option Text → Type 0 = λ t. IsNumberIn 1 100000000 until t in none until (subst P (sym same) job.1))
 
--- nor with no rate
+-- nor without a rate
 pub no_port-rate : (rows : List Row) (text : Option Text) → text ≡ first_of (codes "rate") rows → ((rate : Rate) → ¬ (text ≡ Some (rate_text rate))) →
     (job : Job) → ¬ IsJobOf job (codes "port") rows
 no_port-rate rows text same none = only_port rows (λ until rate job. none rate (same ∙ job.2))
 
--- with no format there is no job of `compile`
+-- without a format there is no job of `compile`
 pub no_compile-format : (rows : List Row) → ((format : Format) → ¬ IsFormatOf format rows) → (job : Job) → ¬ IsJobOf job (codes "compile") rows
 no_compile-format rows none = only_compile rows (λ format job. none format job.1)
 
--- with no number of cycles there is no job of a command that takes them alone
+-- without a number of cycles there is no job of a command that takes only these
 pub no_cycles : (name : Text) (rows : List Row) → name ≢ codes "port" → name ≢ codes "compile" → name ≢ codes "load" → name ≢ codes "latency" →
     name ≢ codes "offers" → name ≢ codes "hops" → name ≢ codes "plan" → ((n : ℕ) → ¬ IsNumberIn 1 100000 n (first_of (codes "cycles") rows)) →
     (job : Job) → ¬ IsJobOf job name rows
@@ -158,7 +158,7 @@ no_cycles name rows not_port not_compile not_load not_latency not_offers not_hop
 no_cycles name rows not_port not_compile not_load not_latency not_offers not_hops not_plan none (Hops cycles stream frame) job = not_hops job.0
 no_cycles name rows not_port not_compile not_load not_latency not_offers not_hops not_plan none (Plan table given) job = not_plan job.0
 
--- with no number of cycles there is no job of `offers`
+-- without a number of cycles there is no job of `offers`
 pub no_offers-cycles : (rows : List Row) → ((n : ℕ) → ¬ IsNumberIn 1 100000 n (first_of (codes "cycles") rows)) → (job : Job) →
     ¬ IsJobOf job (codes "offers") rows
 no_offers-cycles rows none = only_offers rows (λ cycles seed job. none cycles job.1)
@@ -168,7 +168,7 @@ pub no_offers-seed : (rows : List Row) → ((seed : Option ℕ) → ¬ IsFreeIn 
     ¬ IsJobOf job (codes "offers") rows
 no_offers-seed rows none = only_offers rows (λ cycles seed job. none seed job.2)
 
--- with no number of cycles there is no job of `hops`
+-- without a number of cycles there is no job of `hops`
 pub no_hops-cycles : (rows : List Row) → ((n : ℕ) → ¬ IsNumberIn 1 100000 n (first_of (codes "cycles") rows)) → (job : Job) →
     ¬ IsJobOf job (codes "hops") rows
 no_hops-cycles rows none = only_hops rows (λ cycles stream frame job. none cycles job.1)
@@ -188,26 +188,26 @@ pub number_of-text : (least most number : ℕ) (text value : Option Text) → te
 number_of-text least most number text value same h =
     let P : Option Text → Type 0 = λ t. IsNumberIn least most number t in subst P same h
 
--- where a text that is given writes no number, there is none, and not nothing
+-- if a text is given that writes no number, then there is neither a number nor no text
 pub no_free_number : (least most : ℕ) (text : Text) (value : Option Text) → Some text ≡ value → ((n : ℕ) → ¬ IsNumberIn least most n (Some text)) →
     (number : Option ℕ) → ¬ IsFreeIn least most number value
 no_free_number least most text value same none None is = absurd (cc)
 no_free_number least most text value same none (Some number) is = none number (number_of-text least most number value (Some text) (sym same) is)
 
--- where a word that is given names no candidates, there are none, and not nothing
+-- if a word is given that names no candidates, then there are neither candidates nor no word
 pub none_given : (word : Text) (value : Option Text) → Some word ≡ value → ((given : Candidates) → ¬ AreNamed word given) → (given : Option Candidates) →
     ¬ AreGiven given value
 none_given word value same none None is = absurd (cc)
 none_given word value same none (Some given) is =
     let P : Option Text → Type 0 = λ v. AreGiven (Some given) v in none given (subst P (sym same) is)
 
--- where clap's error is one of the words' faults, and isn't for memory, they mean no job
+-- if clap's error is one of the words' faults, and isn't for memory, they mean no job
 pub no_job-by_fault : (words : List Text) (kind : ErrorKind) → (kind ≡ OutOfMemory) ⊎ IsAmong kind (fault_of (app_for words) words) → kind ≢ OutOfMemory → (job : Job) →
     ¬ Mean words job
 no_job-by_fault words kind (inl none) known job m = known none
 no_job-by_fault words kind (inr among) known job m = let P : Kinds → Type 0 = λ kinds. IsAmong kind kinds in subst P m.taken among
 
--- an error that shows help comes of words that ask for it
+-- an error that shows help is for words that request it
 asked : (words : List Text) (kind : ErrorKind) → (kind ≡ OutOfMemory) ⊎ IsAmong kind (fault_of (app_for words) words) → kind ≢ OutOfMemory →
     (kind ≡ DisplayHelp) ⊎ (kind ≡ DisplayVersion) → AskForHelp words
 asked words kind (inl none) known shown = absurd (known none)
@@ -236,7 +236,7 @@ EndsWords-by_fault words kind stop h e = record {
   memory = e.memory;
 }
 
--- the program's command is one whose faults clap states, where plants may be large or not
+-- the program's command is one whose faults clap states, for large plans or not
 simple_and_free : (is_large : Bool) → is_simple_and_free (cqf_app is_large) ≡ true
 simple_and_free true = refl
 simple_and_free false = refl
@@ -255,7 +255,7 @@ EndsWords-by_error app words error stop same fails e =
     let P : App → Type 0 = λ a. HasKind (fault_of a words) error in
     EndsWords-by_fault words (kind_of error) stop (subst P same (fails (ap is_simple_and_free same ∙ simple words))) e
 
--- where clap takes the words, and no job is read of them, they mean none
+-- if clap takes the words, and no job is read from them, they mean none
 pub EndsWords-by_value : (words : List Text) (stop : Stop) → EndsBy InvalidValue stop → fault_of (app_for words) words ≡ [] →
     ((job : Job) → ¬ IsJob job (subcommand_of (app_for words) words)) → EndsWords words stop
 EndsWords-by_value words stop e taken none = record {
@@ -275,7 +275,7 @@ EndsWords-by_matches app words matches stop same taken has e none =
     let P : Option (Text × List Row) → Type 0 = λ r. (job : Job) → ¬ IsJob job r in
     EndsWords-by_value words stop e (ap (λ (a : App). fault_of a words) (sym same) ∙ taken (ap is_simple_and_free same ∙ simple words)) (subst P rows none)
 
--- and the job that is read of them is what the words mean
+-- and the job that is read from them is what the words mean
 pub Mean-by_matches : (app : App) (words : List Text) (matches : ArgMatches) (job : Job) → app ≡ app_for words →
     (is_simple_and_free app ≡ true → fault_of app words ≡ []) → HasMatchesOf app words matches → IsJob job (subcommand_rows_of matches) → Mean words job
 Mean-by_matches app words matches job same taken has is_job =
@@ -286,7 +286,7 @@ Mean-by_matches app words matches job same taken has is_job =
       read = subst P rows is_job;
     }
 
--- words that mean no job end so too where the stop is told otherwise
+-- words that mean no job end so too if the stop is given another text
 pub EndsWords-told : (words : List Text) (stop told : Stop) → EndsWords words stop → (told.status ≡ stop.status) ⊎ (told.status ≡ 3)
     → (told.status ≡ 3 → told.text.items ≡ []) → EndsWords words told
 EndsWords-told words stop told e (inl same) memory = record {
@@ -308,14 +308,14 @@ EndsWords-told words stop told e (inr three) memory = record {
   memory = memory;
 }
 
--- where clap takes the words, its matches say which command they name, with which values
+-- if clap takes the words, its matches say which command they name, with which values
 pub TellsMistake-by_matches : (app : App) (words : List Text) (matches : ArgMatches) (stop : Stop) → app ≡ app_for words → HasMatchesOf app words matches →
     EndsWith 2 (line_of (codes "cqf: words: " ++ mistake_of (subcommand_rows_of matches))) stop → TellsMistake words stop
 TellsMistake-by_matches app words matches stop same has ends = λ taken two.
     let rows : subcommand_rows_of matches ≡ subcommand_of (app_for words) words = (has (ap is_simple same ∙ simple_app (ask_for_large words))).1 ∙ ap (λ (a : App). subcommand_of a words) same in
     ends.line_is two ∙ ap (λ (r : Option (Text × List Row)). line_of (codes "cqf: words: " ++ mistake_of r)) rows
 
--- where clap refuses the words, it doesn't take them
+-- if clap refuses the words, it doesn't take them
 pub TellsMistake-by_error : (app : App) (words : List Text) (error : Error) (stop : Stop) → app ≡ app_for words →
     (is_simple_and_free app ≡ true → HasKind (fault_of app words) error) → EndsBy (kind_of error) stop → TellsMistake words stop
 TellsMistake-by_error app words error stop same fails e = λ taken two.
@@ -324,7 +324,7 @@ TellsMistake-by_error app words error stop same fails e = λ taken two.
     let Q : Kinds → Type 0 = λ kinds. IsAmong (kind_of error) kinds in
     absurd (subst Q taken among)
 
--- a mistake that is told by another text ends so too
+-- a mistake with another text ends so too
 pub EndsBy-helped : (kind : ErrorKind) (stop told : Stop) → EndsBy kind stop → stop.status ≡ 2 → (told.status ≡ 2) ⊎ (told.status ≡ 3)
     → (told.status ≡ 3 → told.text.items ≡ []) → EndsBy kind told
 EndsBy-helped kind stop told e two statuses memory = record {

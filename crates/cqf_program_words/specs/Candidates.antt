@@ -10,15 +10,16 @@ use Rattle.cqf_program_words.specs.declared.candidates.Candidates.{Candidates}
 abbrev pub cycle_time_in : Text → Option ℕ
 cycle_time_in text = decimal_in 10000 10000000 text
 
--- a step from one candidate to the next, in nanoseconds: 1 or more, of up to twenty digits. One above the longest cycle counts as that:
--- both lead beyond each last candidate, so that the first stands alone
+-- a step from one candidate to the next, in nanoseconds: at least 1, of at most twenty digits. A step above the longest cycle counts as the
+-- longest cycle: either leads beyond every last candidate, so only the first is left
 abbrev pub step_from : ℕ → Option ℕ
 step_from step = if nat_le 1 step then Some (if nat_le step 10000000 then step else 10000000) else None
 
 abbrev pub step_in : Text → Option ℕ
 step_in text = option_and_then step_from (decimal_value text)
 
--- candidates from the first, each a step behind the one before it, up to the last, and at most 1,000 of them: by the texts of these three
+-- candidates from the first, each a step after the one before it, up to the last, and at most 1,000 of them: by the texts of these three
+-- values
 pub record AreFromTo (from to step : Text) (c : Candidates) : Type 0 where
   pub first : cycle_time_in from ≡ Some c.first
   pub last : cycle_time_in to ≡ Some c.last

@@ -1,4 +1,4 @@
--- The program's commands, as clap has them.
+-- The program's commands, as given to clap.
 use Rattle.std.specs.Prelude.{Bool, true, List, [], ◌∷◌, codes, fold}
 use Rattle.std.specs.List.{list_any}
 use Rattle.clap.specs.Words.{App, Text, new_app, with_rule, with_subcommand}
@@ -57,11 +57,11 @@ options_of Hops = options.Cycles ∷ options.Stream ∷ options.Frame ∷ option
 options_of Offers = options.Cycles ∷ options.Seed ∷ options.Large ∷ []
 options_of Plan = options.Table ∷ options.Cycle ∷ options.Large ∷ []
 
--- the word is one of its options, whose value stands behind it as a word of its own
+-- the word is one of the command's options, and its value follows as a separate word
 abbrev pub does_want_value : Text → Subcommand → Bool
 does_want_value word command = list_any (λ option. gives_value word (option_rule option)) (options_of command)
 
--- a command with one option more, where plants may be large or not
+-- a command with one more option, for large plans or not
 abbrev pub with_option : Bool → App → CommandOption → App
 with_option is_large app option = with_rule app (rule_for is_large option)
 
@@ -69,11 +69,11 @@ with_option is_large app option = with_rule app (rule_for is_large option)
 abbrev pub command_app : Bool → Subcommand → App
 command_app is_large command = fold (with_option is_large) (new_app (name_of command)) (options_of command)
 
--- the program's name, and settings: the words come without the program's name, and one of the commands has to be given
+-- the program's name, and settings: the words don't include the program's name, and one of the commands has to be given
 abbrev pub named_app : App
 named_app = on_top (λ s. record s { no_binary_name = true; subcommand_required = true }) (new_app (codes "cqf"))
 
--- a program with one command more
+-- a program with one more command
 abbrev pub with_command : Bool → App → Subcommand → App
 with_command is_large app command = with_subcommand app (command_app is_large command).top
 

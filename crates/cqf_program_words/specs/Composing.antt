@@ -1,4 +1,4 @@
--- The input that the texts of files come to.
+-- The input that is made from the texts of files.
 use Rattle.std.specs.Prelude.{ℕ, ◌==◌, ◌||◌, ◌&&◌, ◌++◌, Bool, false, not, List, [], ◌∷◌, if◌then◌else◌, codes, length, nat_eq}
 use Rattle.std.specs.List.{ends_with, flat_map}
 use Rattle.cqf_press.specs.Stops.{line_of}
@@ -6,19 +6,19 @@ use Rattle.cqf_text.specs.Parts.{parts_of}
 use Rattle.cqf_program_words.specs.declared.words.Job.{Job}
 use Rattle.cqf_program_words.specs.Words.{takes_domain}
 
--- a text that needs no line feed behind it: it is empty, or ends with one
+-- a text that needs no line feed at its end: it is empty, or ends with one
 abbrev pub is_closed : List ℕ → Bool
 is_closed text = length text == 0 || ends_with nat_eq text (10 ∷ [])
 
--- a text, with a line feed behind it where it needs one
+-- a text, followed by a line feed if it needs one
 abbrev pub closed : List ℕ → List ℕ
 closed text = text ++ (if is_closed text then [] else 10 ∷ [])
 
--- a text behind others: a divider stands before it
+-- a text that follows others: after a divider
 abbrev pub text_behind : List ℕ → List ℕ
 text_behind text = line_of (codes "%%") ++ closed text
 
--- a name of a TOML file, and whether the second of some is one
+-- a name of a TOML file; and whether the second of some names is one
 abbrev pub is_toml : List ℕ → Bool
 is_toml name = ends_with nat_eq name (codes ".toml")
 
@@ -34,11 +34,11 @@ is_undivided text = length (parts_of text) == 1
 abbrev pub is_plant : Job → List (List ℕ) → List ℕ → Bool
 is_plant job names first = takes_domain job && (not (second_is_toml names) && is_undivided first)
 
--- the first text: a plant stands twice
+-- the first text; a plan is there twice
 abbrev pub first_text : Bool → List ℕ → List ℕ
 first_text plant first = closed first ++ (if plant then text_behind first else [])
 
--- the input that files with these names and texts come to
+-- the input that is made from files with these names and texts
 abbrev pub composed_of : Job → List (List ℕ) → List (List ℕ) → List ℕ
 composed_of job names [] = []
 composed_of job names (first ∷ more) = first_text (is_plant job names first) first ++ flat_map text_behind more

@@ -1,28 +1,28 @@
--- What is said of words that clap takes and that mean no job: which value is wrong, and what is wanted.
+-- The line about words that clap takes and that mean no job: which value is wrong, and what is wanted.
 use Rattle.std.specs.Prelude.{◌++◌, ◌||◌, Bool, List, [], Option, Some, None, if◌then◌else◌, bytes_eq, codes, unwrap_or}
 use Rattle.std.specs.Borrow.{Bor}
 use Rattle.clap.specs.Words.{Row, Text, first_of}
 use Rattle.cqf_units.specs.Name.{is_name}
 
--- what is said in three texts: before a word that is shown, the word, and behind it
+-- a line in three texts: the text before a word that is shown, the word, and the text after it
 abbrev pub told_of : Bor Text × Bor Text × Bor Text → Text
 told_of texts = texts.0.now ++ (texts.1.now ++ texts.2.now)
 
--- the value of an option, none where it isn't given
+-- the value of an option; an empty text if it isn't given
 abbrev pub value_of : Text → List Row → Text
 value_of option rows = unwrap_or (first_of option rows) []
 
--- of `port`, where the rate isn't one of the nine
+-- the line of `port`, if the rate isn't one of the nine
 abbrev pub mistake_of_rate : Text → Text
 mistake_of_rate rate = codes "--rate " ++ (rate ++ codes " is no rate: 10, 100, 1000, 2500, 5000, 10000, 25000, 40000 or 100000 (Mb/s)")
 
--- of `plan`, where the word names no candidates
+-- the line of `plan`, if the word names no candidates
 abbrev pub mistake_of_candidates : Text → Text
 mistake_of_candidates word = codes "--cycle "
     ++ (word ++ codes " names no candidates: N, or FROM..TO/STEP with FROM up to TO and at most 1000 of them, in ns, 10000 to 10000000")
 
--- of `compile`: the format isn't one of the four, the bridge of `env` isn't given, or by no name, or one is given for another format; else
--- what is for `tc` alone is asked of another format
+-- the line of `compile`: the format isn't one of the four; the bridge of `env` isn't given, or not by a name; a bridge is given for another
+-- format; or else an option that is for `tc` alone is given for another format
 abbrev pub is_form : Text → Bool
 is_form format = bytes_eq format (codes "list") || (bytes_eq format (codes "tc") || (bytes_eq format (codes "env") || bytes_eq format (codes "json")))
 
@@ -41,7 +41,7 @@ mistake_of_format format bridge = if is_form format
     then (if bytes_eq format (codes "env") then mistake_of_env bridge else mistake_of_others bridge)
     else codes "--format " ++ (format ++ codes " is no format: list, tc, env or json")
 
--- of a command by its name and its values. No other command has values that clap takes and that are none
+-- the line of a command, by its name and its values. No other command has values that clap takes and that are wrong
 abbrev pub mistake_in : Text → List Row → Text
 mistake_in name rows = if bytes_eq name (codes "port") then mistake_of_rate (value_of (codes "rate") rows)
     else (if bytes_eq name (codes "plan") then mistake_of_candidates (value_of (codes "cycle") rows)

@@ -8,19 +8,19 @@ use Rattle.cqf_program_words.specs.declared.operands.Operands.{Operands}
 use Rattle.cqf_program_words.specs.Commands.{all_commands, cqf_app, does_want_value, name_of}
 use Rattle.cqf_program_words.specs.Options.{gives_value}
 
--- a command, all of which take files
+-- a command; all commands take files
 abbrev pub is_command : Text → Bool
 is_command word = list_any (λ command. bytes_eq word (name_of command)) all_commands
 
--- an option of some command, behind which its value stands as a word of its own
+-- an option of some command, with its value as a separate word after it
 abbrev pub wants_value : Text → Bool
 wants_value word = list_any (does_want_value word) all_commands
 
--- law: what is read as a command is what clap has as one, and no other word
+-- law: the words that are read as commands are those that clap has as commands, and no others
 abbrev pub ReadsCommands : Type 0
 ReadsCommands = (is_large : Bool) (word : Text) → is_command word ≡ list_any (λ shape. bytes_eq word shape.name) (cqf_app is_large).subs
 
--- law: a word has its value behind it just where it is what clap has as an option with a value, of some command
+-- law: a word is read as one with a value after it if and only if clap has it as an option with a value, of some command
 abbrev pub ReadsOptions : Type 0
 ReadsOptions = (is_large : Bool) (word : Text)
     → wants_value word ≡ list_any (λ shape. list_any (gives_value word) shape.rules) (cqf_app is_large).subs
@@ -29,12 +29,12 @@ ReadsOptions = (is_large : Bool) (word : Text)
 abbrev pub ends_options : Text → Bool
 ends_options word = bytes_eq word (codes "--")
 
--- an option: it begins with a minus, and isn't that alone
+-- an option: it begins with a minus, and isn't a minus alone
 abbrev pub is_option : Text → Bool
 is_option (first ∷ second ∷ more) = first == 45
 is_option word = false
 
--- what a word is read as, by those before it
+-- what a word is read as, by the words before it
 abbrev pub behind_word : WordPlace → Text → WordPlace
 behind_word Start word = if is_command word then Free else Other
 behind_word Free word = if wants_value word then Value else (if ends_options word then Behind else Free)
@@ -42,13 +42,13 @@ behind_word Value word = Free
 behind_word Behind word = Behind
 behind_word Other word = Other
 
--- whether a word names a file: behind a command each that is no option and no option's value, and behind `--` each
+-- whether a word names a file: after a command, each word that is neither an option nor an option's value; after `--`, each word
 abbrev pub names_file : WordPlace → Text → Bool
 names_file Free word = if is_option word then false else true
 names_file Behind word = true
 names_file place word = false
 
--- the words so far: those that name no files, those that do, and what the next is read as
+-- the words so far: those that name no files, those that do, and what the next word is read as
 pub record Split : Type 0 where
   pub words : List Text
   pub files : List Text
@@ -57,7 +57,7 @@ pub record Split : Type 0 where
 abbrev pub no_words : Split
 no_words = record { words = []; files = []; place = Start }
 
--- with one word more
+-- with one more word
 abbrev pub with_word : Split → Text → Split
 with_word split word = record {
   words = if names_file split.place word then split.words else split.words ++ word ∷ [];
@@ -77,7 +77,7 @@ split_so_far operands = record {
   place = operands.place;
 }
 
--- the file is standard input, and two of some are
+-- the file is standard input; and two of some files are
 abbrev pub is_standard : Text → Bool
 is_standard file = bytes_eq file (codes "-")
 

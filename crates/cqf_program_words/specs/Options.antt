@@ -1,4 +1,4 @@
--- The options of the program's commands, as clap has them.
+-- The options of the program's commands, as given to clap.
 use Rattle.std.specs.Prelude.{◌&&◌, ◌++◌, Bool, true, false, [], ◌∷◌, Option, Some, None, bytes_eq, codes, unwrap_or}
 use Rattle.clap.specs.Words.{Rule, Text, new_rule}
 use Rattle.clap.specs.declared.builder.action.ArgAction.{ArgAction}
@@ -13,7 +13,7 @@ use Rattle.cqf_program_words.specs.declared.options.CommandOption.TheVariants.{U
 abbrev pub wanted_rule : Text → Rule
 wanted_rule name = record (new_rule name) { long = Some name; action = Some Set; required = true; value_names = 1 }
 
--- an option `--NAME VALUE`, and the text that stands for its value where it isn't given
+-- an option `--NAME VALUE`, and its default text
 abbrev pub default_rule : Text → Text → Rule
 default_rule name text = record (new_rule name) { long = Some name; action = Some Set; defaults = text ∷ []; value_names = 1 }
 
@@ -42,7 +42,7 @@ option_rule Table = flag_rule (codes "table")
 option_rule Software = flag_rule (codes "software")
 option_rule Large = flag_rule (codes "large")
 
--- the name that stands behind `--` where an option is given
+-- the name of an option, which follows `--` on the command line
 abbrev pub long_of : Rule → Text
 long_of rule = unwrap_or rule.long []
 
@@ -50,8 +50,8 @@ long_of rule = unwrap_or rule.long []
 abbrev pub name_of : CommandOption → Text
 name_of option = long_of (option_rule option)
 
--- the numbers that its value may be, where plants may be large or not; none where it needs to be no number. A frame's is one that an
--- offer may have
+-- the numbers that the option's value may be, for large plans or not; none if the value needn't be a number. A frame's number is one that
+-- an offer may have
 abbrev pub parser_of : Bool → CommandOption → Option ValueParser
 parser_of is_large Until = Some (Unsigned 1 last_until)
 parser_of is_large Cycles = Some (Unsigned 1 most_cycles)
@@ -63,11 +63,11 @@ abbrev pub with_parser_of : Option ValueParser → Rule → Rule
 with_parser_of None rule = rule
 with_parser_of (Some parser) rule = record rule { parser = Some parser }
 
--- the option with these
+-- the option with these numbers
 abbrev pub rule_for : Bool → CommandOption → Rule
 rule_for is_large option = with_parser_of (parser_of is_large option) (option_rule option)
 
--- a value stands behind an option
+-- a value follows an option
 abbrev pub is_set : Option ArgAction → Bool
 is_set (Some Set) = true
 is_set action = false
@@ -75,6 +75,6 @@ is_set action = false
 abbrev pub takes_value : Rule → Bool
 takes_value rule = is_set rule.action
 
--- the word gives the option, and its value stands behind it as a word of its own
+-- the word gives the option, and its value follows as a separate word
 abbrev pub gives_value : Text → Rule → Bool
 gives_value word rule = takes_value rule && bytes_eq word (codes "--" ++ long_of rule)

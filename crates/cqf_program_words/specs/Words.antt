@@ -1,4 +1,4 @@
--- What the words of a command line mean: clap's reading of them, for the command that is written out here.
+-- What the words of a command line mean: clap's reading of them, for the command that is defined here.
 use Rattle.std.specs.Prelude.{ℕ, ◌≡◌, ◌≢◌, ◌⊎◌, ◌≤◌, ◌++◌, Bool, true, false, List, [], Option, Some, None, IsTrue, codes, bytes_eq, option_map, string_bytes}
 use Rattle.std.specs.List.{list_any}
 use Rattle.std.specs.Str.Parse.{IsNumeral, digits_value, without_leading_plus}
@@ -22,14 +22,14 @@ use Rattle.cqf_program_words.specs.Candidates.{AreNamed}
 use Rattle.cqf_program_words.specs.Commands.{cqf_app}
 use Rattle.cqf_program_words.specs.Mistakes.{mistake_of}
 
--- whether words ask for large plants: one of them is `--large`
+-- whether words request large plans: one of them is `--large`
 abbrev pub is_large_word : Text → Bool
 is_large_word word = bytes_eq word (codes "--large")
 
 abbrev pub ask_for_large : List Text → Bool
 ask_for_large words = list_any is_large_word words
 
--- the limits within which their plants are read
+-- the limits within which the plans of the words are read
 abbrev pub limits_of : List Text → Limits
 limits_of words = limits_where (ask_for_large words)
 
@@ -37,7 +37,7 @@ limits_of words = limits_where (ask_for_large words)
 abbrev pub app_for : List Text → App
 app_for words = cqf_app (ask_for_large words)
 
--- the text of a value writes a number from least to most: digits, and a plus may stand first
+-- the text of a value writes a number from least to most: digits, possibly after a plus
 abbrev pub IsNumberIn : ℕ → ℕ → ℕ → Option Text → Type 0
 IsNumberIn least most number None = ⊥
 IsNumberIn least most number (Some text) = IsNumeral 10 (without_leading_plus text)
@@ -55,17 +55,17 @@ rate_text Mb25000 = codes "25000"
 rate_text Mb40000 = codes "40000"
 rate_text Mb100000 = codes "100000"
 
--- a flag is given just where its value is `true`
+-- a flag is given if and only if its value is `true`
 abbrev pub IsFlagGiven : Bool → Option Text → Type 0
 IsFlagGiven true value = value ≡ Some (codes "true")
 IsFlagGiven false value = value ≢ Some (codes "true")
 
--- whether the text is the format that is of one bridge
+-- whether the text is the format for one bridge
 abbrev pub is_of_bridge : Option Text → Bool
 is_of_bridge None = false
 is_of_bridge (Some format) = bytes_eq format (codes "env")
 
--- the form of a configuration by the values of its options: `env` is of the bridge of a name, and `tc` may be for software
+-- the form of a configuration, by the values of its options: `env` is for a bridge by its name, and `tc` may be for software
 abbrev pub IsFormat : Format → Option Text → Option Text → Option Text → Type 0
 IsFormat form.List format bridge software = (format ≡ Some (codes "list")) × (bridge ≡ None) × IsFlagGiven false software
 IsFormat (form.Tc is_software) format bridge software = (format ≡ Some (codes "tc")) × (bridge ≡ None) × IsFlagGiven is_software software
@@ -75,12 +75,12 @@ IsFormat form.Json format bridge software = (format ≡ Some (codes "json")) × 
 abbrev pub IsFormatOf : Format → List Row → Type 0
 IsFormatOf format rows = IsFormat format (first_of (codes "format") rows) (first_of (codes "bridge") rows) (first_of (codes "software") rows)
 
--- a number from least to most that may be given
+-- a number from least to most, or none
 abbrev pub IsFreeIn : ℕ → ℕ → Option ℕ → Option Text → Type 0
 IsFreeIn least most None value = value ≡ None
 IsFreeIn least most (Some number) value = IsNumberIn least most number value
 
--- the text of a value names candidates for a cycle time, and there may be none
+-- the text of a value names candidates for a cycle time; or candidates may be missing
 abbrev pub AreNamedBy : Option Text → Candidates → Type 0
 AreNamedBy None given = ⊥
 AreNamedBy (Some word) given = AreNamed word given
@@ -123,7 +123,7 @@ IsJobOf (Plan table given) name rows = (name ≡ codes "plan")
     × IsFlagGiven table (first_of (codes "table") rows)
     × AreGiven given (first_of (codes "cycle") rows)
 
--- whether the input of a job begins with a domain, behind which its streams stand
+-- whether the input of a job begins with a domain, followed by its streams
 abbrev pub takes_domain : Job → Bool
 takes_domain (Port until rate) = false
 takes_domain (Line cycles) = false
@@ -139,7 +139,7 @@ pub record Mean (words : List Text) (job : Job) : Type 0 where
   pub taken : fault_of (app_for words) words ≡ []
   pub read : IsJob job (subcommand_of (app_for words) words)
 
--- the words ask for help
+-- the words request help
 abbrev pub AskForHelp : List Text → Type 0
 AskForHelp words = IsAmong DisplayHelp (fault_of (app_for words) words) ⊎ IsAmong DisplayVersion (fault_of (app_for words) words)
 
@@ -147,13 +147,13 @@ AskForHelp words = IsAmong DisplayHelp (fault_of (app_for words) words) ⊎ IsAm
 abbrev pub ShowsNoHelp : ErrorKind → Type 0
 ShowsNoHelp kind = (kind ≢ DisplayHelp) × (kind ≢ DisplayVersion)
 
--- the words are a mistake: clap refuses them, and not for a request for help; or it takes them, and no job is read of them
+-- the words are a mistake: clap refuses them, and not for a request for help; or it takes them, and no job is read from them
 abbrev pub AreMistaken : List Text → Type 0
 AreMistaken words = ((kind : ErrorKind) × IsAmong kind (fault_of (app_for words) words) × ShowsNoHelp kind)
     ⊎ ((fault_of (app_for words) words ≡ []) × ((job : Job) → ¬ IsJob job (subcommand_of (app_for words) words)))
 
--- how an error of clap's ends: a request for help with status 0, a mistake with status 2. Without memory the status is
--- 3, and there is no text
+-- how an error of clap's ends the run: a request for help with status 0, a mistake with status 2. If memory lacks, the status is 3, and
+-- there is no text
 pub record EndsBy (kind : ErrorKind) (stop : Stop) : Type 0 where
   pub statuses : (stop.status ≡ 0) ⊎ ((stop.status ≡ 2) ⊎ (stop.status ≡ 3))
   pub help : stop.status ≡ 0 → (kind ≡ DisplayHelp) ⊎ (kind ≡ DisplayVersion)
@@ -161,8 +161,8 @@ pub record EndsBy (kind : ErrorKind) (stop : Stop) : Type 0 where
   pub known : stop.status ≢ 3 → kind ≢ OutOfMemory
   pub memory : stop.status ≡ 3 → stop.text.items ≡ []
 
--- how words that mean no job end: with status 2 where they are a mistake, or with status 0 where they ask for help.
--- Without memory the status is 3, and there is no text
+-- how words that mean no job end the run: with status 2 if they are a mistake, or with status 0 if they request help. If memory lacks, the
+-- status is 3, and there is no text
 pub record EndsWords (words : List Text) (stop : Stop) : Type 0 where
   pub statuses : (stop.status ≡ 0) ⊎ ((stop.status ≡ 2) ⊎ (stop.status ≡ 3))
   pub no_job : stop.status ≢ 3 → (job : Job) → ¬ Mean words job
@@ -170,7 +170,7 @@ pub record EndsWords (words : List Text) (stop : Stop) : Type 0 where
   pub mistake : stop.status ≡ 2 → AreMistaken words
   pub memory : stop.status ≡ 3 → stop.text.items ≡ []
 
--- where clap takes the words, and they are a mistake, the line is the program's own: which value is wrong, and what is wanted
+-- if clap takes the words, and they are a mistake, the line is the program's own: which value is wrong, and what is wanted
 abbrev pub TellsMistake : List Text → Stop → Type 0
 TellsMistake words stop = fault_of (app_for words) words ≡ [] → stop.status ≡ 2
     → stop.text.items ≡ line_of (codes "cqf: words: " ++ mistake_of (subcommand_of (app_for words) words))

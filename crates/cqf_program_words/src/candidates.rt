@@ -4,8 +4,8 @@ ghost use Rattle.std.specs.Prelude.{◌≡◌, ◌≤◌, ◌<◌, ◌+◌, ◌*
 use cqf_units::Memory;
 use std::alloc::Global;
 
-/// Candidates for a cycle time, in nanoseconds: the first, a step behind it the next, and so on up to the last, which need not be one of
-/// them. There are 1 to 1,000.
+/// Candidates for a cycle time, in nanoseconds: the first, each next one a step later, up to the last, which need not be one of them. There
+/// are 1 to 1,000.
 #[derive(Clone, Copy, Debug, PartialEq, Eq)]
 pub struct Candidates {
     pub first: u32,
@@ -22,7 +22,7 @@ pub struct Candidates {
 impl Candidates {
     ghost use Rattle.cqf_program_words.specs.Candidates.{count_of, times_of};
 
-    /// How many candidates there are.
+    /// Returns how many candidates there are.
     fn count(&self) -> u32
         ensures count { result ≡ count_of self.now }
         ensures some { 1 ≤ result }
@@ -31,7 +31,7 @@ impl Candidates {
         (self.last - self.first) / self.step + 1
     }
 
-    /// The candidate at a place, from 0.
+    /// Returns the candidate at an index, in nanoseconds.
     fn time_at(&self, place: u32) -> u32
         requires { place < count_of self.now }
         ensures time { result ≡ self.now.first + place * self.now.step }
@@ -40,7 +40,8 @@ impl Candidates {
         self.first + place * self.step
     }
 
-    /// The candidates as cycle times in nanoseconds, in their order: 1 to 1,000, each 10,000 to 10,000,000. The error is want of memory.
+    /// Returns the candidates as cycle times in nanoseconds, in their order: 1 to 1,000, each 10,000 to 10,000,000. Returns `Memory` if an
+    /// allocation fails.
     pub fn list(&self, alloc: Global) -> Result<Vec<u32>, Memory>
         ensures times { IfOk result (λ times. times.items ≡ times_of self.now) }
         ensures some { IfOk result (λ times. 1 ≤ length times.items) }

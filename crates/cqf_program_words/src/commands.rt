@@ -1,4 +1,4 @@
-//! The program's commands, each once: its name, its options and what help says of it; and all of them, as `clap` has them.
+//! The program's commands, each once: its name, its options and its help; and all commands, as given to `clap`.
 ghost use Rattle.std.specs.Prelude.{◌≡◌, IfOk, bytes_eq, false};
 ghost use Rattle.std.specs.List.{list_any};
 ghost use Rattle.clap.specs.declared.builder.command.Command.TheViews.{out-Command};
@@ -47,7 +47,7 @@ pub(crate) enum Subcommand {
     Plan,
 }
 
-/// The commands, in the order in which help has them.
+/// The commands, in the order of the help.
 const COMMANDS: [Subcommand; 13] = [
     Subcommand::Port,
     Subcommand::Line,
@@ -65,7 +65,7 @@ const COMMANDS: [Subcommand; 13] = [
 ];
 
 impl Subcommand {
-    /// Its name.
+    /// Returns the command's name.
     fn name(self) -> &'static str
         ensures { result.now ≡ name_of self }
     {
@@ -86,7 +86,7 @@ impl Subcommand {
         }
     }
 
-    /// Its options, in the order in which help has them.
+    /// Returns the command's options, in the order of the help.
     fn options(self) -> &'static [CommandOption]
         ensures { result.now ≡ options_of self }
     {
@@ -129,7 +129,7 @@ impl Subcommand {
         }
     }
 
-    /// What it does, in a line of help.
+    /// Returns what the command does, in a line of help.
     fn about(self) -> &'static str {
         match self {
             Subcommand::Port => "the starts of one output port",
@@ -152,7 +152,7 @@ impl Subcommand {
         }
     }
 
-    /// What help says of its input, its output and its work.
+    /// Returns the help about the command's input, output and work.
     fn input(self) -> &'static str {
         match self {
             Subcommand::Port => PORT_INPUT,
@@ -171,14 +171,14 @@ impl Subcommand {
         }
     }
 
-    /// Whether the word is its name.
+    /// Returns whether the word is the command's name.
     fn is_named(self, word: &str) -> bool
         ensures { result ≡ bytes_eq word.now (name_of self) }
     {
         word == self.name()
     }
 
-    /// Whether the word is one of its options, whose value stands behind it as a word of its own.
+    /// Returns whether the word is one of the command's options, and its value follows as a separate word.
     fn wants_value(self, word: &str) -> bool
         ensures { result ≡ does_want_value word.now self }
     {
@@ -186,14 +186,14 @@ impl Subcommand {
     }
 }
 
-/// Whether the word is one of these options, whose value stands behind it as a word of its own.
+/// Returns whether the word is one of these options, and its value follows as a separate word.
 fn is_value_wanted(options: &[CommandOption], word: &str) -> bool
     ensures { result ≡ list_any (λ option. gives_value word.now (option_rule option)) options.now }
 {
     options.iter().any(|option| option.wants_value(word))
 }
 
-/// A command with one option more, where plants may be large or not.
+/// Returns a command with one more option, for large plans or not.
 fn with_option<'a>(
     command: Command<'a>,
     alloc: Global,
@@ -207,7 +207,7 @@ fn with_option<'a>(
     command.arg(argument(alloc, option, is_large))
 }
 
-/// A command of this name as `clap` has it, without options, and what help says of it.
+/// Returns a command of this name for `clap`, with its help and without options.
 fn bare_command<'a>(
     alloc: Global,
     name: &'static str,
@@ -220,7 +220,7 @@ fn bare_command<'a>(
     Command::new(alloc, name).about(about).after_help(input)
 }
 
-/// The command as `clap` has it, where plants may be large or not.
+/// Returns the command for `clap`, for large plans or not.
 fn command_of<'a>(
     alloc: Global,
     subcommand: Subcommand,
@@ -242,7 +242,7 @@ fn command_of<'a>(
     Ok(command)
 }
 
-/// The program without its commands. Its name stands in the usage of each command.
+/// Returns the program without its commands. Its name is in the usage of each command.
 fn named_command<'a>(alloc: Global) -> Result<Command<'a>, AllocError>
     ensures app { IfOk result (λ command. app_of command ≡ named_app) }
     ensures local { IfOk result (λ command. (out-Command command).has_globals ≡ false) }
@@ -257,7 +257,7 @@ fn named_command<'a>(alloc: Global) -> Result<Command<'a>, AllocError>
     )
 }
 
-/// A program with one command more, where plants may be large or not.
+/// Returns a program with one more command, for large plans or not.
 fn with_command<'a>(
     program: Command<'a>,
     alloc: Global,
@@ -272,7 +272,7 @@ fn with_command<'a>(
     program.subcommand(command)
 }
 
-/// The program's commands, where plants may be large or not.
+/// Returns the program with its commands, for large plans or not.
 pub(crate) fn commands<'a>(alloc: Global, is_large: bool) -> Result<Command<'a>, AllocError>
     ensures app { IfOk result (λ command. app_of command ≡ cqf_app is_large) }
     ensures local { IfOk result (λ command. (out-Command command).has_globals ≡ false) }
@@ -285,7 +285,7 @@ pub(crate) fn commands<'a>(alloc: Global, is_large: bool) -> Result<Command<'a>,
     Ok(program)
 }
 
-/// Whether the word names one of the commands.
+/// Returns whether the word names one of the commands.
 fn is_one_named(subcommands: &[Subcommand], word: &str) -> bool
     ensures { result ≡ list_any (λ subcommand. bytes_eq word.now (name_of subcommand)) subcommands.now }
 {
@@ -294,14 +294,14 @@ fn is_one_named(subcommands: &[Subcommand], word: &str) -> bool
         .any(|subcommand| subcommand.is_named(word))
 }
 
-/// Whether the word is a command, all of which take files.
+/// Returns whether the word is a command. All commands take files.
 pub(crate) fn is_command(word: &str) -> bool
     ensures { result ≡ is_command word.now }
 {
     is_one_named(&COMMANDS, word)
 }
 
-/// Whether the word is an option of one of the commands, whose value stands behind it as a word of its own.
+/// Returns whether the word is an option of one of the commands, and its value follows as a separate word.
 fn does_one_want_value(subcommands: &[Subcommand], word: &str) -> bool
     ensures { result ≡ list_any (λ subcommand. does_want_value word.now subcommand) subcommands.now }
 {
@@ -310,7 +310,7 @@ fn does_one_want_value(subcommands: &[Subcommand], word: &str) -> bool
         .any(|subcommand| subcommand.wants_value(word))
 }
 
-/// Whether the word is an option of some command, whose value stands behind it as a word of its own.
+/// Returns whether the word is an option of some command, and its value follows as a separate word.
 pub(crate) fn wants_value(word: &str) -> bool
     ensures { result ≡ wants_value word.now }
 {

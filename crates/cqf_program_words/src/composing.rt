@@ -1,4 +1,4 @@
-//! Texts of files, one behind the other.
+//! Texts of files, one after the other.
 ghost use Rattle.std.specs.Prelude.{◌≡◌, ◌∷◌, ◌++◌, IfOk, OnOk, map};
 ghost use Rattle.std.specs.List.{flat_map};
 ghost use Rattle.cqf_program_words.specs.Composing.{text_behind, closed, composed_of, first_text, is_closed, is_plant, is_toml, is_undivided, second_is_toml};
@@ -8,14 +8,14 @@ use cqf_text::parts;
 use cqf_units::Memory;
 use std::alloc::{AllocError, Global};
 
-/// Whether the text needs no line feed behind it: it is empty, or ends with one.
+/// Returns whether the text needs no line feed at its end: it is empty, or ends with one.
 fn is_closed(text: &[u8]) -> bool
     ensures { result ≡ is_closed text.now }
 {
     text.is_empty() || text.ends_with(b"\n")
 }
 
-/// Puts a text behind the input, and a line feed behind it where it needs one.
+/// Appends a text to the input, and a line feed if the text needs one.
 fn put_closed(input: &mut Vec<u8>, text: &[u8]) -> Result<(), AllocError>
     ensures { OnOk result (input.new.items ≡ input.old.items ++ closed text.now) }
 {
@@ -26,7 +26,7 @@ fn put_closed(input: &mut Vec<u8>, text: &[u8]) -> Result<(), AllocError>
     Ok(())
 }
 
-/// Puts a divider behind the input, and a text behind that.
+/// Appends a divider to the input, and then a text.
 fn put_behind(input: &mut Vec<u8>, text: &[u8]) -> Result<(), AllocError>
     ensures { OnOk result (input.new.items ≡ input.old.items ++ text_behind text.now) }
 {
@@ -34,14 +34,14 @@ fn put_behind(input: &mut Vec<u8>, text: &[u8]) -> Result<(), AllocError>
     put_closed(input, text)
 }
 
-/// Whether the name is one of a TOML file: it ends with `.toml`.
+/// Returns whether the name is one of a TOML file: it ends with `.toml`.
 pub fn is_toml(name: &str) -> bool
     ensures { result ≡ is_toml name.now }
 {
     name.as_bytes().ends_with(b".toml")
 }
 
-/// Whether the second of the names is one of a TOML file.
+/// Returns whether the second of the names is one of a TOML file.
 fn second_is_toml(names: &[&str]) -> bool
     ensures { result ≡ second_is_toml (map (λ name. name.now) names.now) }
 {
@@ -51,7 +51,7 @@ fn second_is_toml(names: &[&str]) -> bool
     }
 }
 
-/// Whether no line of the text divides it. The error is want of memory.
+/// Returns whether no line of the text divides it. Returns `Memory` if an allocation fails.
 pub fn is_undivided(alloc: Global, text: &[u8]) -> Result<bool, Memory>
     ensures { IfOk result (λ undivided. undivided ≡ is_undivided text.now) }
 {
@@ -59,7 +59,7 @@ pub fn is_undivided(alloc: Global, text: &[u8]) -> Result<bool, Memory>
     Ok(found.len() == 1)
 }
 
-/// Whether the first file is a plant, which has both the domain and its streams. The error is want of memory.
+/// Returns whether the first file is a plan, which has both the domain and its streams. Returns `Memory` if an allocation fails.
 pub fn is_plant(alloc: Global, job: &Job, names: &[&str], first: &[u8]) -> Result<bool, Memory>
     ensures { IfOk result (λ plant. plant ≡ is_plant job.now (map (λ name. name.now) names.now) first.now) }
 {
@@ -72,7 +72,7 @@ pub fn is_plant(alloc: Global, job: &Job, names: &[&str], first: &[u8]) -> Resul
     is_undivided(alloc, first)
 }
 
-/// Puts the first text, twice where it is a plant.
+/// Puts the first text, twice if it is a plan.
 fn put_first(input: &mut Vec<u8>, plant: bool, first: &[u8]) -> Result<(), AllocError>
     ensures { OnOk result (input.new.items ≡ input.old.items ++ first_text plant first.now) }
 {
@@ -83,7 +83,7 @@ fn put_first(input: &mut Vec<u8>, plant: bool, first: &[u8]) -> Result<(), Alloc
     Ok(())
 }
 
-/// Puts texts behind the input, each behind a divider.
+/// Appends texts to the input, each after a divider.
 fn put_rest(input: &mut Vec<u8>, texts: &[&[u8]]) -> Result<(), AllocError>
     ensures { OnOk result (input.new.items ≡ input.old.items ++ flat_map text_behind (map (λ text. text.now) texts.now)) }
 {
@@ -93,8 +93,8 @@ fn put_rest(input: &mut Vec<u8>, texts: &[&[u8]]) -> Result<(), AllocError>
     Ok(())
 }
 
-/// The first text, twice where it is a plant, and the others behind it, with a line `%%` between them, and a line feed behind each that has
-/// none at its end and isn't empty. The error is want of memory.
+/// Returns the first text, twice if it is a plan, followed by the others, with a line `%%` between them. A line feed follows each text that
+/// isn't empty and doesn't end with one. Returns an error if an allocation fails.
 pub fn joined(
     alloc: Global,
     plant: bool,
@@ -109,7 +109,7 @@ pub fn joined(
     Ok(input)
 }
 
-/// The input that a first text and others behind it come to, as [`composed`] has it. The error is want of memory.
+/// Returns the input that is made from a first text and others after it, as [`composed`] does. Returns `Memory` if an allocation fails.
 pub fn composed_behind(
     alloc: Global,
     job: &Job,
@@ -123,7 +123,7 @@ pub fn composed_behind(
     joined(alloc, plant, first, rest)
 }
 
-/// The input that two texts and others behind them come to, as [`composed`] has it. The error is want of memory.
+/// Returns the input that is made from two texts and others after them, as [`composed`] does. Returns `Memory` if an allocation fails.
 pub fn composed_between(
     alloc: Global,
     job: &Job,
@@ -143,10 +143,10 @@ pub fn composed_between(
     Ok(input)
 }
 
-/// The input that the texts of files with these names come to, for the job: one text behind the other, with a line `%%` between them,
-/// and a line feed behind each that has none at its end and isn't empty. Where the job takes a domain, the first text has no line
-/// `%%`, and the second name doesn't end with `.toml`, the first text stands twice, as the domain and as its streams. The error is want
-/// of memory.
+/// Returns the input that is made from the texts of files with these names, for the job: one text after the other, with a line `%%` between
+/// them. A line feed follows each text that isn't empty and doesn't end with one. If the job takes a domain, the first text has no line
+/// `%%`, and the second name doesn't end with `.toml`, then the first text is there twice, as the domain and as its streams. Returns
+/// `Memory` if an allocation fails.
 pub fn composed(
     alloc: Global,
     job: &Job,

@@ -13,7 +13,7 @@ use cqf_press::{DONE, Stop, USAGE};
 use cqf_units::Memory;
 use std::alloc::Global;
 
-/// The text of an error of clap's, or what there is of it where memory lacks.
+/// Returns the end with the text of an error of clap's, or with the part of it for which memory suffices.
 pub(crate) fn stop_of(alloc: Global, error: &clap::Error) -> Stop
     ensures { EndsBy (kind_of error.now) result }
 {
@@ -31,7 +31,7 @@ pub(crate) fn stop_of(alloc: Global, error: &clap::Error) -> Stop
     }
 }
 
-/// Whether the words are one that is empty, as those of an empty line are.
+/// Returns whether the words are a single empty one, as those of an empty line are.
 fn are_nothing(words: &[&str]) -> bool {
     match *words {
         [word] => word.is_empty(),
@@ -39,7 +39,7 @@ fn are_nothing(words: &[&str]) -> bool {
     }
 }
 
-/// The end of a mistake, with the program's help for its text.
+/// Returns the end of a mistake, with the program's help as its text.
 fn helped(alloc: Global, command: &mut Command<'_>) -> Stop
     ensures statuses { (result.status ≡ 2) ⊎ (result.status ≡ 3) }
     ensures memory { result.status ≡ 3 → result.text.items ≡ [] }
@@ -47,7 +47,8 @@ fn helped(alloc: Global, command: &mut Command<'_>) -> Stop
     Stop::with_text(alloc, USAGE, command.render_help())
 }
 
-/// The end of words that clap refuses: its text, or of one empty word the program's help, and what there is of it where memory lacks.
+/// Returns the end of words that clap refuses: clap's text, or for a single empty word the program's help; or the part of it for which
+/// memory suffices.
 pub(crate) fn refused_by_clap(
     alloc: Global,
     command: &mut Command<'_>,
@@ -66,7 +67,7 @@ pub(crate) fn refused_by_clap(
     helped(alloc, command)
 }
 
-/// The line of words that clap takes, and of which no job is read.
+/// Returns the line of words that clap takes and from which no job is read.
 fn line_of_mistake(alloc: Global, matches: &ArgMatches<'_>) -> Result<String, Memory>
     ensures { IfOk result (λ line. string_bytes line ≡ line_of (codes "cqf: words: " ++ mistake_of (subcommand_rows_of matches.now))) }
 {
@@ -75,7 +76,7 @@ fn line_of_mistake(alloc: Global, matches: &ArgMatches<'_>) -> Result<String, Me
     Ok(line)
 }
 
-/// The end where clap takes the words, and no job is read of them, with a line that says which value is wrong, and what is wanted.
+/// Returns the end if clap takes the words and no job is read from them, with a line that says which value is wrong, and what is wanted.
 pub(crate) fn no_job(alloc: Global, matches: &ArgMatches<'_>) -> Stop
     ensures ends { EndsBy InvalidValue result }
     ensures line { EndsWith 2 (line_of (codes "cqf: words: " ++ mistake_of (subcommand_rows_of matches.now))) result }

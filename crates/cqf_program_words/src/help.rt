@@ -1,6 +1,6 @@
-//! What the help of each command says of its input, its output and its work.
+//! The help of each command about its input, its output and its work.
 
-/// What the help of `port` says of standard input.
+/// The help of `port` about standard input.
 pub(crate) const PORT_INPUT: &str = r"Standard input has two parts, which a line of %% divides:
   a gate list    80 120000
   arrivals       at,class,octets,frame
@@ -8,13 +8,13 @@ pub(crate) const PORT_INPUT: &str = r"Standard input has two parts, which a line
 or they are two files:
   cqf port --until 1000000 list.txt arrivals.csv";
 
-/// What the help of `line` says of standard input.
+/// The help of `line` about standard input.
 pub(crate) const LINE_INPUT: &str = r"Standard input has one part, or it is a file:
   offers         at,bridge,stream,octets
                  0,a,x,1000
   cqf line --cycles 2 offers.csv";
 
-/// What the help of a command that reads a domain and its streams alone says of standard input, and what it says more.
+/// The help of a command that reads only a domain and its streams about standard input, followed by more help.
 macro_rules! plant_input {
     ($command:literal, $more:literal) => {
         concat!(
@@ -32,7 +32,7 @@ or they are one file with both, or 2 to 16 whose names end with .toml:
     };
 }
 
-/// What the help of `compile` says of standard input and of its output.
+/// The help of `compile` about standard input and its output.
 pub(crate) const COMPILE_INPUT: &str = plant_input!(
     "compile",
     r"
@@ -50,7 +50,7 @@ reads at this bridge. With --format json it is the configuration for other
 programs."
 );
 
-/// What the help of `load` says of standard input and of its output.
+/// The help of `load` about standard input and its output.
 pub(crate) const LOAD_INPUT: &str = plant_input!(
     "load",
     r"
@@ -63,7 +63,7 @@ pause those of the fullest cycle, and of what is reserved, not of what is sent.
 A plan that is over is told too: left is then below 0."
 );
 
-/// What the help of `latency` says of standard input and of its output.
+/// The help of `latency` about standard input and its output.
 pub(crate) const LATENCY_INPUT: &str = plant_input!(
     "latency",
     r#"
@@ -83,7 +83,7 @@ With --strict the status is 1 where a deadline isn't kept for sure, and the
 first line whose verdict is late or may-be-late stands on standard error."#
 );
 
-/// What the help of `run` says of standard input and of its work.
+/// The help of `run` about standard input and its work.
 pub(crate) const RUN_INPUT: &str =
     r#"Standard input has four parts, which lines of %% divide, or five:
   a domain       links = [{ from = "a", to = "s", rate = 1000, delay = 500 }]
@@ -111,7 +111,7 @@ its own, and the cycles are closed meanwhile: lines seal behind the first are
 passed over, and the history may differ from run to run. The book is always that
 of the history."#;
 
-/// What the help of `report` says of standard input and of its work.
+/// The help of `report` about standard input and its work.
 pub(crate) const REPORT_INPUT: &str =
     r"Standard input has the four or five parts of the command run, or they are files:
   cqf report --cycles 5 plant.toml calls.txt offers.csv
@@ -120,7 +120,7 @@ The output has a line for each link: its frames, their octets, and the most
 octets that it starts in one cycle. Background frames don't count. It runs no
 network.";
 
-/// What the help of `deliveries` says of standard input and of its output.
+/// The help of `deliveries` about standard input and its output.
 pub(crate) const DELIVERIES_INPUT: &str =
     r"Standard input has the four or five parts of the command run, or they are files:
   cqf deliveries --cycles 5 plant.toml calls.txt offers.csv
@@ -135,7 +135,7 @@ edge, as one is that comes while its stream pauses, has one line, with the
 reason and no listener. Offers of cycles that aren't run have no line, nor have
 background frames.";
 
-/// What the help of `check` says of standard input and of its statuses.
+/// The help of `check` about standard input and its statuses.
 pub(crate) const CHECK_INPUT: &str =
     r"Standard input has the four or five parts of the command run, or they are files:
   cqf check --cycles 5 plant.toml calls.txt offers.csv
@@ -162,7 +162,7 @@ An input that is refused has status 1 too, and a line that begins otherwise.
 Nothing is said of background frames, nor of offers other than these: latency
 bounds all that a reservation covers.";
 
-/// What the help of `offers` says of standard input and of its output.
+/// The help of `offers` about standard input and its output.
 pub(crate) const OFFERS_INPUT: &str = r#"Standard input has two parts, which a line of %% divides:
   a domain       links = [{ from = "a", to = "s", rate = 1000, delay = 500 }]
   its streams    streams = [{ name = "x", octets = 64, path = ["a", "s"],
@@ -176,7 +176,7 @@ is within N cycles; by instant, then by the stream's place, then in order. With
 a seed each block is late by chance, up to its stream's jitter, but comes no
 earlier than the one before it; the same seed gives the same offers."#;
 
-/// What the help of `summary` says of standard input and of its output.
+/// The help of `summary` about standard input and its output.
 pub(crate) const SUMMARY_INPUT: &str =
     r"Standard input has the four or five parts of the command run, or they are files:
   cqf summary --cycles 5 plant.toml calls.txt offers.csv
@@ -191,7 +191,7 @@ or path are refused has one line and no listener. Offers that claim other names
 have one line, of ?, behind the others. Offers of cycles that aren't run don't
 count, nor do background frames.";
 
-/// What the help of `hops` says of standard input and of its output.
+/// The help of `hops` about standard input and its output.
 pub(crate) const HOPS_INPUT: &str =
     r"Standard input has the four or five parts of the command run, or they are files:
   cqf hops --cycles 5 --stream x plant.toml calls.txt offers.csv
@@ -205,7 +205,7 @@ lines of that stream, of that frame are told, and with both those of both.
 Where no stream of the plant has the name and no offer claims it, or there are
 fewer offers than F, the status is 1. Background frames have no line.";
 
-/// What the help of `plan` says of standard input and of its output.
+/// The help of `plan` about standard input and its output.
 pub(crate) const PLAN_INPUT: &str =
     r#"Standard input is a sketch in two parts, which a line of %% divides:
   a domain       cycle = [250000, 125000]
@@ -231,7 +231,7 @@ keeps each deadline. Where none is good the status is 1, and standard error says
 what hinders the one that places most. With --table the output has a line for
 each candidate instead."#;
 
-/// What the program's help says of files and of its version.
+/// The program's help about files and its version.
 pub(crate) const MORE_WORDS: &str =
     r"Behind a command stand files, - for standard input; without one all is read
 from standard input. The help of each command has an example, and the manual,

@@ -1,15 +1,15 @@
-//! The words of a command line, read by the crate `clap`, and the one input that the files come to which they name.
+//! The words of a command line, read by the crate `clap`, and the one input that is made from the files that they name.
 //!
-//! - **Words.** [`read_words`] gives the [`Job`] that some mean, and else the end of the run: with status 2 for a mistake, by clap's text or by
-//!   a line that says which value is wrong and what is wanted, and with status 0 for a request for help. [`ask_for_large`] says whether they
-//!   ask for large plants, and [`limits_of`] gives the limits within which their plants are read.
-//! - **Files.** `split_operands` tells those that some words name from the other words; [`check_files`] refuses standard input that is named
-//!   twice. [`composed`] is the input that the files' texts come to, for a job.
-//! - **Lines** that show a text that may hold anything end a run by [`stop_of_file`], [`stop_of_line`] and [`stop_of_long_line`].
+//! - **Words.** [`read_words`] returns the [`Job`] that some words mean, or else the end of the run: with status 2 for a mistake, by clap's
+//!   text or by a line that says which value is wrong and what is wanted; with status 0 for a request for help. [`ask_for_large`] returns
+//!   whether they request large plans, and [`limits_of`] the limits within which their plans are read.
+//! - **Files.** `split_operands` separates the words that name files from the other words. [`check_files`] refuses standard input that is
+//!   named twice. [`composed`] returns the input that is made from the files' texts, for a job.
+//! - **Lines** that show a text with any content end a run by [`stop_of_file`], [`stop_of_line`] and [`stop_of_long_line`].
 //!
-//! `specs/Commands.antt` has the commands, and `specs/Options.antt` their options, once: what `clap` takes and which words have their value
-//! behind them are made of these. `specs/Words.antt` says what it is that words `Mean` a job, are a mistake or ask for help,
-//! `specs/Mistakes.antt` what is said of a value that is none, and `specs/Composing.antt` has the input as a definition.
+//! `specs/Commands.antt` defines the commands, and `specs/Options.antt` their options, once: what `clap` takes, and which words have their
+//! value after them, follows from these. `specs/Words.antt` defines when words `Mean` a job, are a mistake or request help,
+//! `specs/Mistakes.antt` the line about a wrong value, and `specs/Composing.antt` the input.
 //!
 //! ```text
 //! read_words(alloc, &["port", "--until", "5"]) is Ok(Job::Port { until: 5, rate: Rate::Mb1000 })

@@ -1,4 +1,4 @@
-//! What is said of words that clap takes and that mean no job: which value is wrong, and what is wanted.
+//! The line about words that clap takes and that mean no job: which value is wrong, and what is wanted.
 ghost use Rattle.std.specs.Prelude.{◌≡◌, option_map};
 ghost use Rattle.clap.specs.Words.{found_of, rows_of, subcommand_rows_of};
 ghost use Rattle.cqf_units.specs.Name.{is_name};
@@ -9,10 +9,10 @@ use crate::words::text_of;
 use clap::ArgMatches;
 use cqf_units::Name;
 
-/// What is said before a word that is shown, the word, and what is said behind it.
+/// The text before a word that is shown, the word, and the text after it.
 type Mistake<'v> = (&'static str, &'v str, &'static str);
 
-/// The value of an option, none where it isn't given.
+/// Returns the value of an option; an empty text if it isn't given.
 fn value_of<'v>(values: &ArgMatches<'v>, option: &str) -> &'v str
     ensures { result.now ≡ value_of option.now (rows_of (found_of values.now)) }
 {
@@ -22,7 +22,7 @@ fn value_of<'v>(values: &ArgMatches<'v>, option: &str) -> &'v str
     }
 }
 
-/// Of `port`: the rate isn't one of the nine.
+/// Returns the line of `port`: the rate isn't one of the nine.
 fn mistake_of_rate(rate: &str) -> Mistake<'_>
     ensures { told_of result ≡ mistake_of_rate rate.now }
 {
@@ -33,7 +33,7 @@ fn mistake_of_rate(rate: &str) -> Mistake<'_>
     )
 }
 
-/// Of `plan`: the word names no candidates.
+/// Returns the line of `plan`: the word names no candidates.
 fn mistake_of_candidates(word: &str) -> Mistake<'_>
     ensures { told_of result ≡ mistake_of_candidates word.now }
 {
@@ -44,14 +44,14 @@ fn mistake_of_candidates(word: &str) -> Mistake<'_>
     )
 }
 
-/// Whether the text is one of the four formats.
+/// Returns whether the text is one of the four formats.
 fn is_form(format: &str) -> bool
     ensures { result ≡ is_form format.now }
 {
     format == "list" || format == "tc" || format == "env" || format == "json"
 }
 
-/// Whether the text has the form of a name.
+/// Returns whether the text has the form of a name.
 fn is_name(text: &str) -> bool
     ensures { result ≡ is_name text.now }
 {
@@ -61,7 +61,7 @@ fn is_name(text: &str) -> bool
     }
 }
 
-/// Of `compile --format env`.
+/// Returns the line of `compile --format env`.
 fn mistake_of_env(bridge: Option<&str>) -> Mistake<'_>
     ensures { told_of result ≡ mistake_of_env (option_map (λ text. text.now) bridge.entry) }
 {
@@ -76,7 +76,7 @@ fn mistake_of_env(bridge: Option<&str>) -> Mistake<'_>
     }
 }
 
-/// Of `compile` with another format.
+/// Returns the line of `compile` with another format.
 fn mistake_of_others(bridge: Option<&str>) -> &'static str
     ensures { result.now ≡ mistake_of_others (option_map (λ text. text.now) bridge.entry) }
 {
@@ -86,7 +86,7 @@ fn mistake_of_others(bridge: Option<&str>) -> &'static str
     }
 }
 
-/// Of `compile`.
+/// Returns the line of `compile`.
 fn mistake_of_format<'v>(format: &'v str, bridge: Option<&'v str>) -> Mistake<'v>
     ensures { told_of result ≡ mistake_of_format format.now (option_map (λ text. text.now) bridge.entry) }
 {
@@ -100,7 +100,7 @@ fn mistake_of_format<'v>(format: &'v str, bridge: Option<&'v str>) -> Mistake<'v
     }
 }
 
-/// Of a command by its name and its values.
+/// Returns the line of a command, by its name and its values.
 fn mistake_in<'v>(name: &str, values: &ArgMatches<'v>) -> Mistake<'v>
     ensures { told_of result ≡ mistake_in name.now (rows_of (found_of values.now)) }
 {
@@ -116,7 +116,7 @@ fn mistake_in<'v>(name: &str, values: &ArgMatches<'v>) -> Mistake<'v>
     ("a value is not one that the command takes", "", "")
 }
 
-/// Of the command that was named.
+/// Returns the line of the command that was named.
 pub(crate) fn mistake_of<'v>(matches: &ArgMatches<'v>) -> Mistake<'v>
     ensures { told_of result ≡ mistake_of (subcommand_rows_of matches.now) }
 {

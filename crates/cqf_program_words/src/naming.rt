@@ -17,7 +17,7 @@ const SHORTEST_CYCLE: u64 = 10_000;
 /// The most candidates that a word may name.
 const MOST_CANDIDATES: u64 = 1_000;
 
-/// The cycle time that a text writes.
+/// Returns the cycle time that a text writes, in nanoseconds.
 fn cycle_time_in(text: &str) -> Option<u32>
     ensures { result ≡ cycle_time_in text.now }
 {
@@ -27,14 +27,14 @@ fn cycle_time_in(text: &str) -> Option<u32>
     }
 }
 
-/// Whether all of the bytes are digits.
+/// Returns whether all of the bytes are digits.
 fn are_digits(bytes: &[u8]) -> bool
     ensures { result ≡ list_all is_ascii_digit bytes.now }
 {
     bytes.iter().all(|byte| byte.is_ascii_digit())
 }
 
-/// Whether the text is a number of one to twenty digits.
+/// Returns whether the text is a number of one to twenty digits.
 fn is_decimal(text: &str) -> bool
     ensures { result ≡ is_decimal text.now }
 {
@@ -48,7 +48,7 @@ fn is_decimal(text: &str) -> bool
     are_digits(digits)
 }
 
-/// The step that a text writes: one above the longest cycle counts as that.
+/// Returns the step that a text writes, in nanoseconds; a step above the longest cycle counts as the longest cycle.
 fn step_in(text: &str) -> Option<u32>
     ensures { result ≡ step_in text.now }
 {
@@ -62,7 +62,7 @@ fn step_in(text: &str) -> Option<u32>
     }
 }
 
-/// The three texts of a word `FROM..TO/STEP`, cut at the first dot and at the first slash behind the two.
+/// Returns the three texts of a word `FROM..TO/STEP`, cut at the first dot and at the first slash after the two dots.
 fn split_range(word: &str) -> Option<(&str, &str, &str)>
     ensures cut { IfSome result (λ p. word.now ≡ range_word p.0.now p.1.now p.2.now) }
     ensures whole { (from to step : Text) → word.now ≡ range_word from to step → list_all is_ascii_digit from ≡ true → list_all is_ascii_digit to ≡ true
@@ -74,7 +74,7 @@ fn split_range(word: &str) -> Option<(&str, &str, &str)>
     Some((from, to, step))
 }
 
-/// Candidates by the texts of the first, the last and the step.
+/// Returns candidates by the texts of the first, the last and the step.
 fn candidates_between(from: &str, to: &str, step: &str) -> Option<Candidates>
     ensures { MatchOption result ((c : Candidates) → ¬ AreFromTo from.now to.now step.now c) (AreFromTo from.now to.now step.now) }
 {
@@ -90,9 +90,9 @@ fn candidates_between(from: &str, to: &str, step: &str) -> Option<Candidates>
     Some(Candidates { first, last, step })
 }
 
-/// The candidates that a word names: `N` for one cycle time, or `FROM..TO/STEP` for `FROM`, `FROM + STEP`, .. up to `TO`. `None` where it is
-/// something else, where a cycle time isn't 10,000 to 10,000,000, where `TO` is below `FROM` or `STEP` is 0, and where there are more than
-/// 1,000.
+/// Returns the candidates that a word names: `N` for one cycle time, or `FROM..TO/STEP` for `FROM`, `FROM + STEP`, .. up to `TO`. Returns
+/// `None` if the word is anything else, if a cycle time isn't 10,000 to 10,000,000, if `TO` is below `FROM` or `STEP` is 0, or if there are
+/// more than 1,000.
 pub fn candidates_named(word: &str) -> Option<Candidates>
     ensures { MatchOption result ((c : Candidates) → ¬ AreNamed word.now c) (AreNamed word.now) }
 {

@@ -11,13 +11,13 @@ use std::alloc::{AllocError, Global};
 /// What the next word is read as.
 #[derive(Clone, Copy, Debug, PartialEq, Eq)]
 enum WordPlace {
-    /// The first, a command or else.
+    /// The first word: a command or something else.
     Start,
     /// An option or a file.
     Free,
     /// The value of the option before it.
     Value,
-    /// A file, whatever it looks like.
+    /// A file, regardless of its form.
     Behind,
     /// A word of no command that takes files.
     Other,
@@ -31,14 +31,14 @@ pub struct Operands<'a> {
     place: WordPlace,
 }
 
-/// Whether the word is the one that ends the options.
+/// Returns whether the word is the one that ends the options.
 fn ends_options(word: &str) -> bool
     ensures { result ≡ ends_options word.now }
 {
     word == "--"
 }
 
-/// Whether the word is an option: it begins with a minus, and isn't that alone.
+/// Returns whether the word is an option: it begins with a minus, and isn't a minus alone.
 fn is_option(word: &str) -> bool
     ensures { result ≡ is_option word.now }
 {
@@ -49,7 +49,7 @@ fn is_option(word: &str) -> bool
 }
 
 impl WordPlace {
-    /// What the word behind this one is read as.
+    /// Returns what the word after this one is read as.
     fn behind(self, word: &str) -> WordPlace
         ensures { result ≡ behind_word self word.now }
     {
@@ -64,7 +64,7 @@ impl WordPlace {
         }
     }
 
-    /// Whether the word names a file.
+    /// Returns whether the word names a file.
     fn names_file(self, word: &str) -> bool
         ensures { result ≡ names_file self word.now }
     {
@@ -77,21 +77,21 @@ impl WordPlace {
 }
 
 impl<'a> Operands<'a> {
-    /// The words that name no files.
+    /// Returns the words that name no files.
     pub fn words(&self) -> &[&'a str]
         ensures { result.now ≡ self.now.words.items }
     {
         self.words.as_slice()
     }
 
-    /// The words that name files.
+    /// Returns the words that name files.
     pub fn files(&self) -> &[&'a str]
         ensures { result.now ≡ self.now.files.items }
     {
         self.files.as_slice()
     }
 
-    /// Puts one word more to its kind. The error is want of memory.
+    /// Adds one more word to those of its kind. Returns an error if an allocation fails.
     fn put(&mut self, word: &'a str) -> Result<(), AllocError>
         ensures { OnOk result (split_so_far self.new ≡ with_word (split_so_far self.old) word.now) }
     {
@@ -105,8 +105,8 @@ impl<'a> Operands<'a> {
     }
 }
 
-/// Tells the words that name files from the others: behind a command each word that is no option and no option's value, and behind
-/// `--` each. Where the first word is no command, none does. The error is want of memory.
+/// Separates the words that name files from the others: after a command, each word that is neither an option nor an option's value; after
+/// `--`, each word. If the first word isn't a command, none names a file. Returns an error if an allocation fails.
 pub fn split_operands<'a>(alloc: Global, words: &[&'a str]) -> Result<Operands<'a>, AllocError>
     ensures { IfOk result (λ operands. split_so_far operands ≡ split_of (map (λ word. word.now) words.now)) }
 {
@@ -121,7 +121,7 @@ pub fn split_operands<'a>(alloc: Global, words: &[&'a str]) -> Result<Operands<'
     Ok(operands)
 }
 
-/// The words that a process was started with, told apart as [`split_operands`] does. The error is want of memory.
+/// Separates the words with which a process was started, as [`split_operands`] does. Returns an error if an allocation fails.
 pub fn operands_of(alloc: Global, words: &[String]) -> Result<Operands<'_>, AllocError>
     ensures { IfOk result (λ operands. split_so_far operands ≡ split_of (map string_bytes words.now)) }
 {
@@ -132,25 +132,25 @@ pub fn operands_of(alloc: Global, words: &[String]) -> Result<Operands<'_>, Allo
     split_operands(alloc, texts.as_slice())
 }
 
-/// The name of a file that stands for standard input.
+/// The name of a file that means standard input.
 pub const STANDARD: &str = "-";
 
-/// Whether the file is standard input.
+/// Returns whether the file is standard input.
 fn is_standard(file: &str) -> bool
     ensures { result ≡ is_standard file.now }
 {
     file == STANDARD
 }
 
-/// Whether two of the files are standard input.
+/// Returns whether two of the files are standard input.
 fn is_standard_twice(files: &[&str]) -> bool
     ensures { result ≡ is_standard_twice (map (λ file. file.now) files.now) }
 {
     files.iter().filter(|file| is_standard(file)).count() >= 2
 }
 
-/// Nothing where at most one of the files is standard input, whose text can be read once. `Err` with status 2 and a line that says so
-/// where two are.
+/// Checks that at most one of the files is standard input, whose text can be read only once. Returns `Err` with status 2 and a line that
+/// says so if two are.
 pub fn check_files(alloc: Global, files: &[&str]) -> Result<(), Stop>
     ensures ok { OnOk result (is_standard_twice (map (λ file. file.now) files.now) ≡ false) }
     ensures twice { OnErr result (is_standard_twice (map (λ file. file.now) files.now) ≡ true) }

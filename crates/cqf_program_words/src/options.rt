@@ -1,4 +1,4 @@
-//! The options of the program's commands, each once: its name, how it is given, and what help says of it.
+//! The options of the program's commands, each once: its name, how it is given, and its help.
 ghost use Rattle.std.specs.Prelude.{◌≡◌, ◌++◌, bytes_eq, codes, false};
 ghost use Rattle.clap.specs.Words.{rule_of};
 ghost use Rattle.cqf_program_words.specs.Options.{default_rule, flag_rule, free_rule, gives_value, name_of, option_rule, parser_of, rule_for, takes_value, wanted_rule};
@@ -38,7 +38,7 @@ macro_rules! long {
 }
 
 impl CommandOption {
-    /// Its name, and the word that gives it.
+    /// Returns the option's name, and the word that gives it.
     fn texts(self) -> (&'static str, &'static str)
         ensures name { result.0.now ≡ name_of self }
         ensures word { result.1.now ≡ codes "--" ++ name_of self }
@@ -61,14 +61,14 @@ impl CommandOption {
         }
     }
 
-    /// Its name.
+    /// Returns the option's name.
     fn name(self) -> &'static str
         ensures { result.now ≡ name_of self }
     {
         self.texts().0
     }
 
-    /// Whether a value stands behind it.
+    /// Returns whether a value follows the option.
     fn takes_value(self) -> bool
         ensures { result ≡ takes_value (option_rule self) }
     {
@@ -90,7 +90,7 @@ impl CommandOption {
         }
     }
 
-    /// Which numbers its value may be, where plants may be large or not; `None` where it needs to be no number.
+    /// Returns which numbers the option's value may be, for large plans or not; `None` if it needn't be a number.
     fn numbers<'a>(self, is_large: bool) -> Option<ValueParser<'a>>
         ensures { result ≡ parser_of is_large self }
     {
@@ -115,7 +115,7 @@ impl CommandOption {
         }
     }
 
-    /// What help calls its value, where it has one.
+    /// Returns the name of the option's value in help, if it has one.
     fn value(self) -> &'static str {
         match self {
             CommandOption::Until | CommandOption::Cycles => "N",
@@ -133,7 +133,7 @@ impl CommandOption {
         }
     }
 
-    /// What help says of it, where plants may be large or not.
+    /// Returns the option's help, for large plans or not.
     fn about(self, is_large: bool) -> &'static str {
         match self {
             CommandOption::Until => "starts before this instant, in nanoseconds, 1 to 100000000",
@@ -157,14 +157,14 @@ impl CommandOption {
         }
     }
 
-    /// Whether the word gives this option.
+    /// Returns whether the word gives this option.
     fn is_given_by(self, word: &str) -> bool
         ensures { result ≡ bytes_eq word.now (codes "--" ++ name_of self) }
     {
         word == self.texts().1
     }
 
-    /// Whether the word gives this option, and its value stands behind it as a word of its own.
+    /// Returns whether the word gives this option, and its value follows as a separate word.
     pub(crate) fn wants_value(self, word: &str) -> bool
         ensures { result ≡ gives_value word.now (option_rule self) }
     {
@@ -172,7 +172,7 @@ impl CommandOption {
     }
 }
 
-/// An option `--NAME N` that has to be given, whatever N is.
+/// Returns an option `--NAME N` that has to be given, with any N.
 fn wanted_option<'a>(alloc: Global, name: &'static str, value: &'static str) -> Arg<'a>
     ensures rule { rule_of result ≡ wanted_rule name.now }
     ensures own { result.global ≡ false }
@@ -184,7 +184,7 @@ fn wanted_option<'a>(alloc: Global, name: &'static str, value: &'static str) -> 
         .value_name(value)
 }
 
-/// An option `--NAME VALUE`, and the text that stands for its value where it isn't given.
+/// Returns an option `--NAME VALUE`, and its default text.
 fn default_option<'a>(
     alloc: Global,
     name: &'static str,
@@ -201,7 +201,7 @@ fn default_option<'a>(
         .value_name(value)
 }
 
-/// An option `--NAME N` that may be given, whatever N is.
+/// Returns an option `--NAME N` that may be given, with any N.
 fn free_option<'a>(alloc: Global, name: &'static str, value: &'static str) -> Arg<'a>
     ensures rule { rule_of result ≡ free_rule name.now }
     ensures own { result.global ≡ false }
@@ -212,7 +212,7 @@ fn free_option<'a>(alloc: Global, name: &'static str, value: &'static str) -> Ar
         .value_name(value)
 }
 
-/// A flag `--NAME`.
+/// Returns a flag `--NAME`.
 fn flag<'a>(alloc: Global, name: &'static str) -> Arg<'a>
     ensures rule { rule_of result ≡ flag_rule name.now }
     ensures own { result.global ≡ false }
@@ -220,7 +220,7 @@ fn flag<'a>(alloc: Global, name: &'static str) -> Arg<'a>
     Arg::new(alloc, name).long(name).action(ArgAction::SetTrue)
 }
 
-/// The option as `clap` has it, but for its help and for the numbers that its value may be.
+/// Returns the option for `clap`, without its help and without the numbers that its value may be.
 fn bare_argument<'a>(alloc: Global, option: CommandOption) -> Arg<'a>
     ensures rule { rule_of result ≡ option_rule option }
     ensures own { result.global ≡ false }
@@ -244,7 +244,7 @@ fn bare_argument<'a>(alloc: Global, option: CommandOption) -> Arg<'a>
     }
 }
 
-/// The option as `clap` has it, where plants may be large or not.
+/// Returns the option for `clap`, for large plans or not.
 pub(crate) fn argument<'a>(alloc: Global, option: CommandOption, is_large: bool) -> Arg<'a>
     ensures rule { rule_of result ≡ rule_for is_large option }
     ensures own { result.global ≡ false }

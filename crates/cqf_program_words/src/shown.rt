@@ -1,4 +1,4 @@
-//! What a line of standard error shows of a text that may hold anything.
+//! What a line of standard error shows of a text with any content.
 ghost use Rattle.std.specs.Prelude.{◌≡◌, ◌≢◌, ◌⊎◌, [], IfOk, OnOk, false, length, map, string_bytes, true};
 ghost use Rattle.std.specs.List.{list_all};
 ghost use Rattle.std.specs.Str.{chars};
@@ -12,8 +12,8 @@ use std::alloc::Global;
 /// The most characters of a text that a line shows.
 const SHOWN: usize = 200;
 
-/// Whether the character is a printable one of ASCII. With others a terminal may do something else than print them, or print what looks
-/// like another.
+/// Returns whether the character is a printable one of ASCII. A terminal may do something else with other characters than print them, or
+/// print what looks like another.
 fn is_plain(character: char) -> bool
     ensures { result ≡ is_plain character }
 {
@@ -21,28 +21,28 @@ fn is_plain(character: char) -> bool
     0x20 <= code && code <= 0x7e
 }
 
-/// Whether each character of the text is a printable one of ASCII.
+/// Returns whether each character of the text is a printable one of ASCII.
 fn is_printable(text: &str) -> bool
     ensures { result ≡ is_printable text.now }
 {
     text.chars().all(|character| is_plain(character))
 }
 
-/// How many characters the text has.
+/// Returns how many characters the text has.
 fn count_of(text: &str) -> usize
     ensures { result ≡ length (chars text.now) }
 {
     text.chars().count()
 }
 
-/// Whether a line shows the whole text as it is.
+/// Returns whether a line shows the whole text unchanged.
 fn is_shown_whole(text: &str) -> bool
     ensures { result ≡ is_shown_whole text.now }
 {
     is_printable(text) && count_of(text) <= SHOWN
 }
 
-/// Puts a character as a line shows it: one that isn't a printable one of ASCII as `\u{..}`, with its number in hexadecimal digits.
+/// Appends a character as a line shows it: one that isn't a printable one of ASCII as `\u{..}`, with its number in hexadecimal digits.
 fn show(line: &mut String, character: char) -> Result<(), Memory>
     ensures { OnOk result (Lengthens (string_bytes line.old) (string_bytes line.new)) }
 {
@@ -55,7 +55,8 @@ fn show(line: &mut String, character: char) -> Result<(), Memory>
     Ok(())
 }
 
-/// Puts what a line shows of a text: its first 200 characters, others than printable ones of ASCII escaped, and `..` behind them where there are more.
+/// Appends what a line shows of a text: its first 200 characters, with all but printable ones of ASCII escaped, followed by `..` if there
+/// are more.
 fn show_front(line: &mut String, text: &str) -> Result<(), Memory>
     ensures { OnOk result (Lengthens (string_bytes line.old) (string_bytes line.new)) }
 {
@@ -68,7 +69,7 @@ fn show_front(line: &mut String, text: &str) -> Result<(), Memory>
     Ok(())
 }
 
-/// The line of a text that is no command.
+/// Returns the line of a text that isn't a command.
 fn line_of_text(alloc: Global, text: &str) -> Result<String, Memory>
     ensures { IfOk result (λ line. ShowsBehind no_command (string_bytes line)) }
 {
@@ -78,7 +79,7 @@ fn line_of_text(alloc: Global, text: &str) -> Result<String, Memory>
     Ok(line)
 }
 
-/// The line of a file that can't be read, and why.
+/// Returns the line of a file that can't be read, and why.
 fn line_of_file(alloc: Global, name: &str, cause: &str) -> Result<String, Memory> {
     let mut line = String::from_str(alloc, "cqf: ")?;
     show_front(&mut line, name)?;
@@ -88,8 +89,8 @@ fn line_of_file(alloc: Global, name: &str, cause: &str) -> Result<String, Memory
     Ok(line)
 }
 
-/// The end where the file of this name can't be read: status 4, and the line `cqf: NAME: input fault: CAUSE` with what a line shows of the
-/// name and of the cause, which is the system's; or for want of memory for it.
+/// Returns the end if the file of this name can't be read: status 4, and the line `cqf: NAME: input fault: CAUSE`, with what a line shows
+/// of the name and of the cause, which is the system's. Returns status 3 without a text if an allocation fails.
 pub fn stop_of_file(alloc: Global, name: &str, cause: &str) -> Stop
     ensures status { (result.status ≡ 4) ⊎ (result.status ≡ 3) }
     ensures memory { result.status ≡ 3 → result.text.items ≡ [] }
@@ -97,8 +98,9 @@ pub fn stop_of_file(alloc: Global, name: &str, cause: &str) -> Stop
     Stop::with_text(alloc, FAULT, line_of_file(alloc, name, cause))
 }
 
-/// The end of a run whose first line has words that are a mistake, with `stop` for these words alone: that stop, which echoes some of them,
-/// where a line shows all of the text as it is; else with a line that shows what can be shown. Other stops stay as they are.
+/// Returns the end of a run whose first line has words that are a mistake. `stop` is the end for these words alone, and echoes some of
+/// them. The result is `stop` if a line shows the whole text unchanged; else it has a line that shows what can be shown. Ends with another
+/// status than 2 are returned unchanged.
 pub fn stop_of_line(alloc: Global, text: &str, stop: Stop) -> Stop
     requires { stop.status ≡ 3 → stop.text.items ≡ [] }
     ensures status { (result.status ≡ stop.status) ⊎ (result.status ≡ 3) }
@@ -117,21 +119,21 @@ pub fn stop_of_line(alloc: Global, text: &str, stop: Stop) -> Stop
     Stop::with_text(alloc, USAGE, line_of_text(alloc, text))
 }
 
-/// The same, of the words themselves.
+/// Returns whether each character of the words is a printable one of ASCII.
 fn are_all_printable(words: &[&str]) -> bool
     ensures { result ≡ list_all (λ word. is_printable word.now) words.now }
 {
     words.iter().all(|word| is_printable(word))
 }
 
-/// Whether a line shows each of the words as it is, however long it is.
+/// Returns whether a line shows each of the words unchanged, at any length.
 fn are_printable(words: &[&str]) -> bool
     ensures { result ≡ are_printable (map (λ word. word.now) words.now) }
 {
     are_all_printable(words)
 }
 
-/// The line of words that are no command.
+/// Returns the line of words that aren't a command.
 fn line_of_words(alloc: Global, words: &[&str]) -> Result<String, Memory>
     ensures { IfOk result (λ line. ShowsBehind no_words (string_bytes line)) }
 {
@@ -144,8 +146,9 @@ fn line_of_words(alloc: Global, words: &[&str]) -> Result<String, Memory>
     Ok(line)
 }
 
-/// The end of a run whose words are a mistake, with `stop` for these words: that stop, which echoes some of them, where each has only
-/// characters that a line shows as they are; else with a line that shows what can be shown. Other stops stay as they are.
+/// Returns the end of a run whose words are a mistake. `stop` is the end for these words, and echoes some of them. The result is `stop` if
+/// each word has only characters that a line shows unchanged; else it has a line that shows what can be shown. Ends with another status
+/// than 2 are returned unchanged.
 pub(crate) fn stop_of_words(alloc: Global, words: &[&str], stop: Stop) -> Stop
     requires { stop.status ≡ 3 → stop.text.items ≡ [] }
     ensures status { (result.status ≡ stop.status) ⊎ (result.status ≡ 3) }
@@ -164,8 +167,8 @@ pub(crate) fn stop_of_words(alloc: Global, words: &[&str], stop: Stop) -> Stop
     Stop::with_text(alloc, USAGE, line_of_words(alloc, words))
 }
 
-/// The end of a run whose first line is too long to have words: status 2, and a line that shows what can be shown of it; or for want of
-/// memory for it.
+/// Returns the end of a run whose first line is too long to have words: status 2, and a line that shows what can be shown of it; status 3
+/// if an allocation for it fails.
 pub fn stop_of_long_line(alloc: Global, text: &str) -> Stop
     ensures { EndsShown no_command result }
 {

@@ -28,17 +28,17 @@ use std::alloc::{AllocError, Global};
 /// The form of a configuration.
 #[derive(Clone, Debug, Drop, PartialEq, Eq)]
 pub enum Format {
-    /// Its gate lists and stream gates, line by line.
+    /// The gate lists and stream gates, line by line.
     List,
-    /// A shell script that sets them in Linux by `tc`, in hardware, or in software where that is asked for.
+    /// A shell script that sets them in Linux by `tc`, in hardware, or in software if that is requested.
     Tc { is_software: bool },
-    /// The variables that the script reads at one bridge, by its name.
+    /// The variables that the script reads at one bridge, by the bridge's name.
     Env { bridge: Name },
-    /// All of it, for programs, as JSON.
+    /// The whole configuration, for programs, as JSON.
     Json,
 }
 
-/// What the program is asked to do.
+/// What the program has to do.
 #[derive(Clone, Debug, Drop, PartialEq, Eq)]
 pub enum Job {
     /// The starts of one port before an instant.
@@ -56,7 +56,7 @@ pub enum Job {
     },
     /// What each link holds and has left.
     Load,
-    /// How long the frames of each stream take to each listener; strict where a deadline that isn't kept for sure ends the run.
+    /// How long the frames of each stream take to each listener. If strict, a deadline that isn't surely kept ends the run.
     Latency {
         strict: bool,
     },
@@ -69,30 +69,30 @@ pub enum Job {
     Report {
         cycles: u32,
     },
-    /// What becomes of each offered frame of a scenario at each listener.
+    /// The fate of each offered frame of a scenario at each listener.
     Deliveries {
         cycles: u32,
     },
-    /// Whether all offered frames of a scenario come to their listeners, in time.
+    /// Whether all offered frames of a scenario reach their listeners in time.
     Check {
         cycles: u32,
     },
-    /// How the frames of each stream of a scenario fare to each of its listeners, counted.
+    /// The fates of the frames of each stream of a scenario at each of its listeners, counted.
     Summary {
         cycles: u32,
     },
-    /// What the streams of a plant offer, each block late by chance where there is a seed.
+    /// What the streams of a plan offer; with a seed, each block is late by chance.
     Offers {
         cycles: u32,
         seed: Option<u32>,
     },
-    /// A scenario's book by frame, of the frames of a stream or of one frame alone where these are named.
+    /// A scenario's book by frame; only the frames of a stream, or one frame, if these are named.
     Hops {
         cycles: u32,
         stream: Option<String>,
         frame: Option<u32>,
     },
-    /// A plant for the first good candidate of a sketch, or the table of all of its candidates; these may be given.
+    /// A plan for the first good candidate of a network file, or the table of all of its candidates. Candidates may be given.
     Plan {
         table: bool,
         given: Option<Candidates>,
@@ -100,7 +100,7 @@ pub enum Job {
 }
 
 impl Job {
-    /// Whether the input begins with a domain, behind which its streams stand.
+    /// Returns whether the input begins with a domain, followed by its streams.
     pub fn takes_domain(&self) -> bool
         ensures { result ≡ takes_domain self.now }
     {
@@ -121,7 +121,7 @@ impl Job {
     }
 }
 
-/// The number that the text writes, if it writes one from `least` to `most`: a plus may stand first.
+/// Returns the number that the text writes, if it writes one from `least` to `most`, possibly after a plus.
 fn number_in(text: Option<&str>, least: u64, most: u64) -> Option<u64>
     ensures { MatchOption result ((number : ℕ) → ¬ IsNumberIn least most number (option_map (λ text. text.now) text.entry))
         (λ number. IsNumberIn least most number (option_map (λ text. text.now) text.entry)) }
@@ -132,7 +132,7 @@ fn number_in(text: Option<&str>, least: u64, most: u64) -> Option<u64>
     }
 }
 
-/// The rate of the text, if it is one of the nine.
+/// Returns the rate of the text, if it is one of the nine.
 fn rate_of(text: Option<&str>) -> Option<Rate>
     ensures { MatchOption result ((rate : Rate) → ¬ (option_map (λ text. text.now) text.entry ≡ Some (rate_text rate)))
         (λ rate. option_map (λ text. text.now) text.entry ≡ Some (rate_text rate)) }
@@ -151,7 +151,7 @@ fn rate_of(text: Option<&str>) -> Option<Rate>
     }
 }
 
-/// The format of the text, where no bridge is named and software isn't asked for.
+/// Returns the format of the text, if no bridge is named and software isn't requested.
 fn plain_format(text: Option<&str>) -> Option<Format>
     ensures { (software : Option Text) → IsFlagGiven false software →
         MatchOption result ((format : Format) → ¬ IsFormat format (option_map (λ text. text.now) text.entry) None software)
@@ -165,7 +165,7 @@ fn plain_format(text: Option<&str>) -> Option<Format>
     }
 }
 
-/// The format of the text, where no bridge is named and software is asked for.
+/// Returns the format of the text, if no bridge is named and software is requested.
 fn software_format(text: Option<&str>) -> Option<Format>
     ensures { (software : Option Text) → IsFlagGiven true software →
         MatchOption result ((format : Format) → ¬ IsFormat format (option_map (λ text. text.now) text.entry) None software)
@@ -177,7 +177,7 @@ fn software_format(text: Option<&str>) -> Option<Format>
     }
 }
 
-/// The format of the text, where no bridge is named.
+/// Returns the format of the text, if no bridge is named.
 fn format_alone(text: Option<&str>, is_software: bool) -> Option<Format>
     ensures { (software : Option Text) → IsFlagGiven is_software software →
         MatchOption result ((format : Format) → ¬ IsFormat format (option_map (λ text. text.now) text.entry) None software)
@@ -190,7 +190,7 @@ fn format_alone(text: Option<&str>, is_software: bool) -> Option<Format>
     }
 }
 
-/// Whether the text is the format that is of one bridge.
+/// Returns whether the text is the format for one bridge.
 fn is_of_bridge(text: Option<&str>) -> bool
     ensures { result ≡ is_of_bridge (option_map (λ text. text.now) text.entry) }
 {
@@ -200,7 +200,7 @@ fn is_of_bridge(text: Option<&str>) -> bool
     }
 }
 
-/// The format of the text, where this bridge is named.
+/// Returns the format of the text, if this bridge is named.
 fn format_of_bridge(text: Option<&str>, bridge: &str, is_software: bool) -> Option<Format>
     ensures { (software : Option Text) → IsFlagGiven is_software software →
         MatchOption result ((format : Format) → ¬ IsFormat format (option_map (λ text. text.now) text.entry) (Some bridge.now) software)
@@ -218,7 +218,7 @@ fn format_of_bridge(text: Option<&str>, bridge: &str, is_software: bool) -> Opti
     }
 }
 
-/// The format of the command with these values.
+/// Returns the format of the command with these values.
 fn format_of(values: &ArgMatches<'_>) -> Option<Format>
     ensures { MatchOption result ((format : Format) → ¬ IsFormatOf format (rows_of (found_of values.now)))
         (λ format. IsFormatOf format (rows_of (found_of values.now))) }
@@ -231,14 +231,14 @@ fn format_of(values: &ArgMatches<'_>) -> Option<Format>
     }
 }
 
-/// The text of the value, if it has one.
+/// Returns the text of the value, if it has one.
 pub(crate) fn text_of<'a>(values: &ArgMatches<'a>, id: &str) -> Option<&'a str>
     ensures { option_map (λ text. text.now) result ≡ first_of id.now (rows_of (found_of values.now)) }
 {
     values.get_str(id)
 }
 
-/// The job of the command `port` with its values.
+/// Returns the job of the command `port` with its values.
 fn port_job(values: &ArgMatches<'_>) -> Option<Job>
     ensures { MatchOption result ((job : Job) → ¬ IsJobOf job (codes "port") (rows_of (found_of values.now)))
         (λ job. IsJobOf job (codes "port") (rows_of (found_of values.now))) }
@@ -252,7 +252,7 @@ fn port_job(values: &ArgMatches<'_>) -> Option<Job>
     Some(Job::Port { until, rate })
 }
 
-/// The job of the command `compile` with its values.
+/// Returns the job of the command `compile` with its values.
 fn compile_job(values: &ArgMatches<'_>) -> Option<Job>
     ensures { MatchOption result ((job : Job) → ¬ IsJobOf job (codes "compile") (rows_of (found_of values.now)))
         (λ job. IsJobOf job (codes "compile") (rows_of (found_of values.now))) }
@@ -263,7 +263,7 @@ fn compile_job(values: &ArgMatches<'_>) -> Option<Job>
     Some(Job::Compile { format })
 }
 
-/// The number of cycles of the command with these values.
+/// Returns the number of cycles of the command with these values.
 fn cycles_of(values: &ArgMatches<'_>) -> Option<u32>
     ensures { MatchOption result ((cycles : ℕ) → ¬ IsNumberIn 1 most_cycles cycles (first_of (codes "cycles") (rows_of (found_of values.now))))
         (λ cycles. IsNumberIn 1 most_cycles cycles (first_of (codes "cycles") (rows_of (found_of values.now)))) }
@@ -274,7 +274,7 @@ fn cycles_of(values: &ArgMatches<'_>) -> Option<u32>
     }
 }
 
-/// The number that the text writes from `least` to `most`, if there is a text; `None` where it writes something else.
+/// Returns the number from `least` to `most` that the text writes, if there is a text; `None` if it writes something else.
 fn free_number_in(text: Option<&str>, least: u64, most: u64) -> Option<Option<u32>>
     requires { most < 2 ^ 32 }
     ensures { MatchOption result ((number : Option ℕ) → ¬ IsFreeIn least most number (option_map (λ text. text.now) text.entry))
@@ -289,7 +289,7 @@ fn free_number_in(text: Option<&str>, least: u64, most: u64) -> Option<Option<u3
     }
 }
 
-/// The seed of the command with these values, which may have none; `None` where something else is given.
+/// Returns the seed of the command with these values, which may have none; `None` if something else is given.
 fn seed_of(values: &ArgMatches<'_>) -> Option<Option<u32>>
     ensures { MatchOption result ((seed : Option ℕ) → ¬ IsFreeIn 0 4294967295 seed (first_of (codes "seed") (rows_of (found_of values.now))))
         (λ seed. IsFreeIn 0 4294967295 seed (first_of (codes "seed") (rows_of (found_of values.now)))) }
@@ -297,7 +297,7 @@ fn seed_of(values: &ArgMatches<'_>) -> Option<Option<u32>>
     free_number_in(text_of(values, "seed"), 0, LAST_SEED)
 }
 
-/// The job of the command `offers` with its values.
+/// Returns the job of the command `offers` with its values.
 fn offers_job(values: &ArgMatches<'_>) -> Option<Job>
     ensures { MatchOption result ((job : Job) → ¬ IsJobOf job (codes "offers") (rows_of (found_of values.now)))
         (λ job. IsJobOf job (codes "offers") (rows_of (found_of values.now))) }
@@ -311,7 +311,7 @@ fn offers_job(values: &ArgMatches<'_>) -> Option<Job>
     Some(Job::Offers { cycles, seed })
 }
 
-/// The name of a stream of the command with these values, which may have none. The error is want of memory.
+/// Returns the name of a stream of the command with these values, which may have none. Returns an error if an allocation fails.
 fn stream_of(alloc: Global, values: &ArgMatches<'_>) -> Result<Option<String>, AllocError>
     ensures { IfOk result (λ stream. option_map string_bytes stream ≡ first_of (codes "stream") (rows_of (found_of values.now))) }
 {
@@ -324,7 +324,7 @@ fn stream_of(alloc: Global, values: &ArgMatches<'_>) -> Result<Option<String>, A
     }
 }
 
-/// The number of a frame of the command with these values, which may have none; `None` where something else is given.
+/// Returns the number of a frame of the command with these values, which may have none; `None` if something else is given.
 fn frame_of(values: &ArgMatches<'_>) -> Option<Option<u32>>
     ensures { MatchOption result ((frame : Option ℕ) → ¬ IsFreeIn 1 large.rows frame (first_of (codes "frame") (rows_of (found_of values.now))))
         (λ frame. IsFreeIn 1 large.rows frame (first_of (codes "frame") (rows_of (found_of values.now)))) }
@@ -332,7 +332,7 @@ fn frame_of(values: &ArgMatches<'_>) -> Option<Option<u32>>
     free_number_in(text_of(values, "frame"), 1, u64::from(LARGE.rows))
 }
 
-/// The job of the command `hops` with its values. The error is want of memory.
+/// Returns the job of the command `hops` with its values. Returns an error if an allocation fails.
 fn hops_job(alloc: Global, values: &ArgMatches<'_>) -> Result<Option<Job>, AllocError>
     ensures { IfOk result (λ found. MatchOption found ((job : Job) → ¬ IsJobOf job (codes "hops") (rows_of (found_of values.now)))
         (λ job. IsJobOf job (codes "hops") (rows_of (found_of values.now)))) }
@@ -351,7 +351,7 @@ fn hops_job(alloc: Global, values: &ArgMatches<'_>) -> Result<Option<Job>, Alloc
     }))
 }
 
-/// The candidates of the command with these values, which may have none; `None` where something else is given.
+/// Returns the candidates of the command with these values, which may have none; `None` if something else is given.
 fn given_of(values: &ArgMatches<'_>) -> Option<Option<Candidates>>
     ensures { MatchOption result ((given : Option Candidates) → ¬ AreGiven given (first_of (codes "cycle") (rows_of (found_of values.now))))
         (λ given. AreGiven given (first_of (codes "cycle") (rows_of (found_of values.now)))) }
@@ -365,7 +365,7 @@ fn given_of(values: &ArgMatches<'_>) -> Option<Option<Candidates>>
     }
 }
 
-/// The job of the command `plan` with its values.
+/// Returns the job of the command `plan` with its values.
 fn plan_job(values: &ArgMatches<'_>) -> Option<Job>
     ensures { MatchOption result ((job : Job) → ¬ IsJobOf job (codes "plan") (rows_of (found_of values.now)))
         (λ job. IsJobOf job (codes "plan") (rows_of (found_of values.now))) }
@@ -379,7 +379,7 @@ fn plan_job(values: &ArgMatches<'_>) -> Option<Job>
     })
 }
 
-/// Whether the flag is given.
+/// Returns whether the flag is given.
 fn is_given(values: &ArgMatches<'_>, id: &str) -> bool
     ensures { IsFlagGiven result (first_of id.now (rows_of (found_of values.now))) }
 {
@@ -389,7 +389,7 @@ fn is_given(values: &ArgMatches<'_>, id: &str) -> bool
     }
 }
 
-/// The job of a command that takes a number of cycles, by its name and its values.
+/// Returns the job of a command that takes a number of cycles, by its name and its values.
 fn cycles_job(name: &str, values: &ArgMatches<'_>) -> Option<Job>
     requires not_port { name.now ≢ codes "port" }
     requires not_compile { name.now ≢ codes "compile" }
@@ -418,7 +418,7 @@ fn cycles_job(name: &str, values: &ArgMatches<'_>) -> Option<Job>
     }
 }
 
-/// The job of the command that was named, where it isn't `hops`.
+/// Returns the job of the command that was named, if it isn't `hops`.
 fn job_by_name(name: &str, values: &ArgMatches<'_>) -> Option<Job>
     requires { name.now ≢ codes "hops" }
     ensures { MatchOption result ((job : Job) → ¬ IsJobOf job name.now (rows_of (found_of values.now)))
@@ -437,7 +437,7 @@ fn job_by_name(name: &str, values: &ArgMatches<'_>) -> Option<Job>
     }
 }
 
-/// The job of the command that was named. The error is want of memory.
+/// Returns the job of the command that was named. Returns an error if an allocation fails.
 fn job_of(alloc: Global, matches: &ArgMatches<'_>) -> Result<Option<Job>, AllocError>
     ensures { IfOk result (λ found. MatchOption found ((job : Job) → ¬ IsJob job (subcommand_rows_of matches.now))
         (λ job. IsJob job (subcommand_rows_of matches.now))) }
@@ -451,35 +451,36 @@ fn job_of(alloc: Global, matches: &ArgMatches<'_>) -> Result<Option<Job>, AllocE
     }
 }
 
-/// Whether the word asks for large plants.
+/// Returns whether the word requests large plans.
 fn is_large_word(word: &str) -> bool
     ensures { result ≡ is_large_word word.now }
 {
     word == "--large"
 }
 
-/// The same of some words: whether one of them does.
+/// Returns whether one of some words requests large plans.
 fn is_one_large(words: &[&str]) -> bool
     ensures { result ≡ list_any (λ word. is_large_word word.now) words.now }
 {
     words.iter().any(|word| is_large_word(word))
 }
 
-/// Whether the words ask for large plants: one of them is `--large`.
+/// Returns whether the words request large plans: one of them is `--large`.
 pub fn ask_for_large(words: &[&str]) -> bool
     ensures { result ≡ ask_for_large (map (λ word. word.now) words.now) }
 {
     is_one_large(words)
 }
 
-/// The limits within which the plants of the words are read: those of large plants where the words ask for them, else those of the profile.
+/// Returns the limits within which the plans of the words are read: `large` if the words request large plans, else `profile`.
 pub fn limits_of(words: &[&str]) -> Limits
     ensures { result ≡ limits_of (map (λ word. word.now) words.now) }
 {
     Limits::where_large(ask_for_large(words))
 }
 
-/// The job that the words mean. `Err` as [`read_words`] has it, but with clap's text also where that echoes unprintable characters.
+/// Returns the job that the words mean. Returns `Err` as [`read_words`] does, but with clap's text even if that echoes unprintable
+/// characters.
 fn read_plainly<'a>(alloc: Global, words: &'a [&'a str]) -> Result<Job, Stop>
     ensures ok { IfOk result (Mean (map (λ word. word.now) words.now)) }
     ensures err { IfErr result (EndsWords (map (λ word. word.now) words.now)) }
@@ -498,10 +499,12 @@ fn read_plainly<'a>(alloc: Global, words: &'a [&'a str]) -> Result<Job, Stop>
     }
 }
 
-/// The job that the words mean, which come without the program's name. `Err` with status 2 and clap's text where clap refuses them, with
-/// a line that begins with `cqf: words: ` where clap takes them and a value is none that its command takes, or where one has a character
-/// that a terminal would not print, a line that shows them escaped; with status 0 and clap's text where they ask for help, and with status 3
-/// for want of memory. Of one empty word clap's text is its help.
+/// Returns the job that the words mean. The words don't include the program's name.
+///
+/// Returns `Err` with status 2 and clap's text if clap refuses the words; with status 2 and a line that begins with `cqf: words: ` if clap
+/// takes them and a value isn't one that its command takes; or, if a word has a character that a terminal would not print, with a line that
+/// shows the words escaped. Returns `Err` with status 0 and clap's text if they request help, and with status 3 if an allocation fails. For
+/// a single empty word, clap's text is its help.
 pub fn read_words<'a>(alloc: Global, words: &'a [&'a str]) -> Result<Job, Stop>
     ensures ok { IfOk result (Mean (map (λ word. word.now) words.now)) }
     ensures err { IfErr result (EndsWords (map (λ word. word.now) words.now)) }

@@ -1,4 +1,4 @@
-//! Bounds of access links, and what is of a word at the edge bridge, worked out by hand.
+//! Bounds of access links, and what is left of a talker's word at the edge bridge, computed by hand.
 use cqf_access::{Delays, access_bound, edge_jitter, edge_offset, grid_jitter};
 use cqf_traffic::{Traffic, read_flows};
 use cqf_units::{Nanos, Octets, Rate};
@@ -7,7 +7,8 @@ use std::alloc::Global;
 /// What a talker promises: its interval, its frames in each, their size and their jitter.
 type Promise = (u32, u32, u32, u32);
 
-/// A link with the largest frame of no stream, what its talkers promise, and the least bound up to so much, in nanoseconds.
+/// A link with the largest frame of no stream, what its talkers promise, and its least bound, if that is at most the given limit, in
+/// nanoseconds.
 struct Case {
     rate: Rate,
     other: Option<u32>,
@@ -16,7 +17,7 @@ struct Case {
     bound: Option<u64>,
 }
 
-/// The promise as a stream's text has it.
+/// Returns the promise as a stream's text has it.
 fn traffic_of(alloc: Global, promise: Promise) -> Option<Traffic> {
     let (interval, frames, size, jitter) = promise;
     let text = format!(in alloc;
@@ -27,7 +28,7 @@ fn traffic_of(alloc: Global, promise: Promise) -> Option<Traffic> {
     flow.traffic
 }
 
-/// Whether the bound is the wanted one.
+/// Returns whether the bound is the expected one.
 fn is_found(alloc: Global, case: &Case) -> bool {
     let mut promises = Vec::new(alloc);
     for promise in case.promises {
@@ -48,9 +49,9 @@ fn is_found(alloc: Global, case: &Case) -> bool {
     found == case.bound.map(Nanos)
 }
 
-/// Up to 1 Gb/s an octet takes whole nanoseconds: 800, 80 or 8. A frame takes those of its octets and 20 more.
+/// Up to 1 Gb/s an octet takes whole nanoseconds: 800, 80 or 8. A frame takes the time of its octets and of 20 more.
 const WHOLE: &[Case] = &[
-    // three of 200 octets of the wire, 16,000 ns each
+    // three of 200 octets on the wire, 16,000 ns each
     Case {
         rate: Rate::Mb100,
         other: None,
@@ -62,7 +63,7 @@ const WHOLE: &[Case] = &[
         most: 1_000_000,
         bound: Some(48_000),
     },
-    // one of no stream, 12,336 ns, and two of 672 ns: the second comes 5,000 ns behind the first, which is so late
+    // one of no stream, 12,336 ns, and two of 672 ns: the second arrives 5,000 ns after the first, which is that late
     Case {
         rate: Rate::Mb1000,
         other: Some(1522),
@@ -70,7 +71,7 @@ const WHOLE: &[Case] = &[
         most: 13_680,
         bound: Some(13_680),
     },
-    // the same, with less allowed
+    // the same, with a lower limit
     Case {
         rate: Rate::Mb1000,
         other: Some(1522),
@@ -86,7 +87,7 @@ const WHOLE: &[Case] = &[
         most: 1_000_000,
         bound: Some(4224),
     },
-    // a link that one stream fills, and one that it would more than fill
+    // a link that one stream fills, and one that a stream would more than fill
     Case {
         rate: Rate::Mb1000,
         other: None,
@@ -101,7 +102,7 @@ const WHOLE: &[Case] = &[
         most: 100_000,
         bound: None,
     },
-    // no stream, with a frame of none and without
+    // no stream, with a frame of no stream and without
     Case {
         rate: Rate::Mb10,
         other: Some(1522),
@@ -118,7 +119,7 @@ const WHOLE: &[Case] = &[
     },
 ];
 
-/// Above, each frame is rounded up by itself: 88 octets of the wire take 7.04 ns at 100 Gb/s, and 1,542 take 4,934.4 ns at 2.5 Gb/s.
+/// Above 1 Gb/s, each frame is rounded up by itself: 88 octets on the wire take 7.04 ns at 100 Gb/s, and 1,542 take 4,934.4 ns at 2.5 Gb/s.
 const ROUNDED: &[Case] = &[
     Case {
         rate: Rate::Mb100000,
@@ -150,8 +151,8 @@ fn each_frame_is_rounded_up(rt: HostRuntime) {
     }
 }
 
-/// Whether a stream has this jitter at the edge bridge, and its grid this one and begins there at this instant, by a bound of its link and the
-/// delays of that, where its shortest frame has so many octets.
+/// Returns whether a stream has this jitter at the edge bridge, and its grid has this jitter and this offset there, by a bound of its link
+/// and that link's delays, if its shortest frame has `shortest` octets.
 fn is_at_edge(
     alloc: Global,
     promise: Promise,
@@ -177,7 +178,7 @@ fn is_at_edge(
     (jitter.0, late.0, offset.0) == wanted
 }
 
-/// A frame waits for 32,000 of 48,000 ns, and its delay varies by 200; its way takes 188 octets of 80 ns.
+/// A frame waits for 32,000 of 48,000 ns, and its delay varies by 200; its path takes 188 octets of 80 ns.
 #[test]
 fn frames_of_one_size_are_as_late_as_they_wait(rt: HostRuntime) {
     let promise = (125_000, 1, 180, 0);
@@ -194,8 +195,8 @@ fn frames_of_one_size_are_as_late_as_they_wait(rt: HostRuntime) {
     );
 }
 
-/// One waits for 5,000 ns less the 1,234 that it takes. Its way is 1,924 ns at most, and that of a shortest one, of 72 octets with the preamble, 558
-/// ns at least.
+/// One waits for 5,000 ns less the 1,234 that it takes. Its path is 1,924 ns at most. The path of a shortest frame, of 72 octets with the
+/// preamble, is 558 ns at least.
 #[test]
 fn short_frames_are_early(rt: HostRuntime) {
     let promise = (125_000, 1, 1522, 1000);
@@ -212,7 +213,7 @@ fn short_frames_are_early(rt: HostRuntime) {
     );
 }
 
-/// Three frames of 16,000 ns that come together wait for one another in each interval, for up to 32,000 ns.
+/// Three frames of 16,000 ns that arrive together wait for one another in each interval, for up to 32,000 ns.
 #[test]
 fn a_burst_is_no_later_for_itself(rt: HostRuntime) {
     let promise = (125_000, 3, 180, 0);
@@ -229,7 +230,7 @@ fn a_burst_is_no_later_for_itself(rt: HostRuntime) {
     );
 }
 
-/// Where they may be as short as 64 octets, two of these take 13,440 ns less, and their way is 9,280 ns shorter. Others take 52,000 ns.
+/// If they may be as short as 64 octets, two of these take 13,440 ns less, and their path is 9,280 ns shorter. Others take 52,000 ns.
 #[test]
 fn a_burst_of_short_frames_is_early(rt: HostRuntime) {
     let promise = (125_000, 3, 180, 0);

@@ -7,7 +7,7 @@ use cqf_model::Limits;
 use cqf_press::{Press, Sheet, Told, told_text};
 use std::alloc::Global;
 
-/// Three streams, the second of which has no key of addressing.
+/// Three streams, the second without any key of addressing.
 const STREAMS: &str = "[[streams]]
 mac = \"01:00:5E:7f:00:0A\"
 vlan = 4094
@@ -30,7 +30,7 @@ far-interface = \"0123456789abcde\"
 interface = \"Eth-0_1@x\"
 ";
 
-/// Whether a fault prints so.
+/// Returns whether a fault prints as this text.
 fn prints(alloc: Global, fault: AddressingFault, wanted: &str) -> bool {
     match format!(in alloc; "{fault}") {
         Ok(text) => text.as_str() == wanted,
@@ -38,7 +38,8 @@ fn prints(alloc: Global, fault: AddressingFault, wanted: &str) -> bool {
     }
 }
 
-/// Whether the streams, with another text in the place of a part of it, are answered so within the limits of plants that are large, or aren't.
+/// Returns whether the streams, with a part of their text replaced, get this answer within the `large` limits, or within those of
+/// `profile`.
 fn answers(alloc: Global, is_large: bool, old: &str, new: &str, wanted: &str) -> bool {
     let Ok(changed) = STREAMS.replacen(alloc, old, new, 1) else {
         return false;
@@ -49,7 +50,7 @@ fn answers(alloc: Global, is_large: bool, old: &str, new: &str, wanted: &str) ->
     }
 }
 
-/// Whether the links are, likewise.
+/// Returns whether the links get this answer, likewise.
 fn answers_of_links(alloc: Global, old: &str, new: &str, wanted: &str) -> bool {
     let Ok(changed) = LINKS.replacen(alloc, old, new, 1) else {
         return false;
@@ -60,7 +61,7 @@ fn answers_of_links(alloc: Global, old: &str, new: &str, wanted: &str) -> bool {
     }
 }
 
-/// A part of the text of streams, another in its place, and the answer.
+/// A part of the text of streams, its replacement, and the answer.
 const CHANGES: &[(&str, &str, &str)] = &[
     ("", "", "read"),
     ("01:00:5E:7f:00:0A", "01:80:C2:00:00:10", "read"),
@@ -82,7 +83,7 @@ const CHANGES: &[(&str, &str, &str)] = &[
     ("x-gate = 1\n", "vlan = -1\n", "BadValue vlan"),
 ];
 
-/// The same of the text of links.
+/// The same for the text of links.
 const CHANGES_OF_LINKS: &[(&str, &str, &str)] = &[
     ("", "", "read"),
     ("swp1.10", "", "BadValue interface"),
@@ -150,7 +151,7 @@ fn a_link_has_this_interface(rt: HostRuntime) {
     assert!(rt; name.as_bytes() == b"Eth-0_1@x".as_slice());
 }
 
-/// The text of the first stream's address.
+/// Returns the text of the first stream's address.
 fn mac_text(alloc: Global) -> Option<Vec<u8>> {
     let Ok(addresses) = read_stream_addresses(alloc, Limits::of_profile(), STREAMS.as_bytes())
     else {

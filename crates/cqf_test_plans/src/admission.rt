@@ -5,40 +5,40 @@ use cqf_topology::Domain;
 use cqf_units::{Cycle, Name};
 use std::alloc::Global;
 
-/// The answer to a call: the number of its stream and from which cycle on it holds, or why it is refused.
+/// The answer to a call: the number of its stream and the first cycle for which it holds, or why it is refused.
 type Answer = Result<(u32, u32), Refused>;
 
-/// A call or a look at an admission, and what comes of it.
+/// A call or a query to an admission, and its result.
 enum Step {
     Admit(Asked, Answer),
     Withdraw(&'static str, Answer),
-    /// A name that isn't held is withdrawn so often, and refused for that each time.
+    /// A name that isn't held is withdrawn this many times, and refused for that each time.
     WithdrawOften(u32),
-    /// So many cycles are closed, in turn.
+    /// This many cycles are closed, in turn.
     Seal(u32),
-    /// No further cycle is.
+    /// No further cycle can be closed.
     SealFails(SealFault),
-    /// The cycle of this number is closed, and this is seen in its table.
+    /// The cycle of this number is closed, and these are the results of queries to its table.
     Table(u32, &'static [Look]),
     /// What is held on each link.
     Held(&'static [u32]),
-    /// How many entries the history has, the last reply, and the cycle that is closed next.
+    /// How many entries the history has, the last reply, and the next cycle to close.
     History(usize, Reply, u32),
-    /// The history is full: of withdrawals of a name that isn't held, and then of Seals.
+    /// The history is filled: with withdrawals of a name that isn't held, and then with Seals.
     Full,
 }
 
-/// What is seen in a table.
+/// A query to a table.
 enum Look {
     /// How many rows it has.
     Rows(usize),
     /// Whether the stream of this name is live in this cycle.
     Named(&'static str, u32, bool),
-    /// Whether the stream of this number is.
+    /// Whether the stream of this number is live in this cycle.
     Numbered(u32, u32, bool),
 }
 
-/// What an admission is asked where nothing is held, and what it and a copy of it are then asked, one after the other.
+/// The steps of an admission that holds nothing, and then the steps of it and of a copy of it, one after the other.
 type Case = (&'static [Step], &'static [Step]);
 
 /// The path of the line.
@@ -66,7 +66,7 @@ const OVER_LINE: &[Case] = &[
             Step::Held(&[15_000, 15_000, 15_000]),
         ],
     ),
-    // a withdrawn stream lets go when its last frame has left
+    // a withdrawn stream is held until its last frame has left
     (
         FULL,
         &[
@@ -94,7 +94,7 @@ const OVER_LINE: &[Case] = &[
             ),
         ],
     ),
-    // a request of bad form is refused, and what is no path at its place
+    // a request of bad form is refused, and so is one whose branches aren't paths, at the right position
     (
         &[],
         &[
@@ -121,8 +121,8 @@ const OVER_LINE: &[Case] = &[
     ),
 ];
 
-/// A history takes 100,000 calls, and as many Seals. What is called for behind these isn't entered: a withdrawal, and a request, whether it
-/// has the form of one or not.
+/// A history takes 100,000 calls, and as many Seals. Further calls aren't entered: a withdrawal, and a request, whether or not it has the
+/// form of one.
 const OVER_THE_LIMIT: &[Case] = &[(
     &[
         Step::WithdrawOften(100_000),
@@ -161,16 +161,16 @@ const FULL: &[Step] = &[
     Step::Seal(5),
 ];
 
-/// Streams over the ring, none of which is a tree.
+/// Streams over the ring, none a tree.
 const OVER_RING: &[Case] = &[(
     &[],
     &[
-        // a path that comes back to a bridge
+        // a path that returns to a bridge
         Step::Admit(
             ("x", 64, &[&["a", "b", "c", "a", "c", "s"]]),
             Err(Refused::LoopingPath(3)),
         ),
-        // a branch that joins, is there again, or begins elsewhere, and one with an unknown node
+        // a branch that joins another, is there twice, or begins elsewhere, and one with an unknown node
         Step::Admit(
             ("x", 1500, &[&["a", "b", "c", "s"], &["a", "c", "s"]]),
             Err(Refused::NotATree(1)),
@@ -261,7 +261,7 @@ const OVER_CHAIN: &[Case] = &[(
     ],
 )];
 
-/// Whether a call is answered so.
+/// Returns whether a call gets this answer.
 fn is_answer(answer: Result<Receipt, Refused>, wanted: Answer) -> bool {
     match answer {
         Ok(receipt) => wanted == Ok((receipt.no, receipt.effect.0)),
@@ -269,7 +269,7 @@ fn is_answer(answer: Result<Receipt, Refused>, wanted: Answer) -> bool {
     }
 }
 
-/// Whether a request is.
+/// Returns whether a request gets this answer.
 fn admits(alloc: Global, asked: &mut Admission, stream: &Asked, wanted: Answer) -> bool {
     match request(alloc, stream) {
         Ok(request) => is_answer(asked.admit(0, &request), wanted),
@@ -277,7 +277,7 @@ fn admits(alloc: Global, asked: &mut Admission, stream: &Asked, wanted: Answer) 
     }
 }
 
-/// Withdraws a name that isn't held, so often.
+/// Withdraws a name that isn't held, `count` times.
 fn withdraw_often(asked: &mut Admission, count: u32) -> bool {
     for _time in 0..count {
         if !is_answer(asked.withdraw(0, "q"), Err(Refused::NotHeld)) {
@@ -287,7 +287,7 @@ fn withdraw_often(asked: &mut Admission, count: u32) -> bool {
     true
 }
 
-/// Closes the next cycle, whose table is of it.
+/// Closes the next cycle. Returns whether the table is that cycle's.
 fn seals_next(asked: &mut Admission) -> bool {
     let next = asked.next_cycle();
     match asked.seal(0) {
@@ -296,7 +296,7 @@ fn seals_next(asked: &mut Admission) -> bool {
     }
 }
 
-/// Closes so many cycles.
+/// Closes `count` cycles. Returns whether each table is its cycle's.
 fn seal_often(asked: &mut Admission, count: u32) -> bool {
     for _time in 0..count {
         if !seals_next(asked) {
@@ -306,7 +306,7 @@ fn seal_often(asked: &mut Admission, count: u32) -> bool {
     true
 }
 
-/// Whether the stream of a name is live in a cycle, or isn't, where the table has it.
+/// Returns whether the stream of a name is in the table, and is live or not in a cycle.
 fn is_named(table: &Table, name: &str, cycle: u32, live: bool) -> bool {
     match Name::new(name.as_bytes()) {
         Some(name) => match table.row_named(&name) {
@@ -317,7 +317,7 @@ fn is_named(table: &Table, name: &str, cycle: u32, live: bool) -> bool {
     }
 }
 
-/// Whether this is seen in a table.
+/// Returns whether a query to a table has this result.
 fn is_seen(table: &Table, look: &Look) -> bool {
     match *look {
         Look::Rows(count) => table.rows().len() == count,
@@ -329,12 +329,12 @@ fn is_seen(table: &Table, look: &Look) -> bool {
     }
 }
 
-/// Whether a table is of this cycle, and all this is seen in it.
+/// Returns whether a table is of this cycle, and all queries have these results.
 fn is_table(table: &Table, cycle: u32, looks: &[Look]) -> bool {
     table.cycle() == Cycle(cycle) && looks.iter().all(|look| is_seen(table, look))
 }
 
-/// Whether a copy of a table is such.
+/// Returns whether a copy of a table is such.
 fn is_copied(alloc: Global, table: &Table, cycle: u32, looks: &[Look]) -> bool {
     match table.try_copy(alloc) {
         Ok(copy) => is_table(&copy, cycle, looks),
@@ -342,7 +342,7 @@ fn is_copied(alloc: Global, table: &Table, cycle: u32, looks: &[Look]) -> bool {
     }
 }
 
-/// Whether a cycle is closed with such a table.
+/// Returns whether a cycle is closed with such a table.
 fn seals(alloc: Global, asked: &mut Admission, cycle: u32, looks: &[Look]) -> bool {
     match asked.seal(9) {
         Ok(table) => is_table(&table, cycle, looks) && is_copied(alloc, &table, cycle, looks),
@@ -350,7 +350,7 @@ fn seals(alloc: Global, asked: &mut Admission, cycle: u32, looks: &[Look]) -> bo
     }
 }
 
-/// Whether a cycle isn't closed, for this cause.
+/// Returns whether a cycle isn't closed, for this cause.
 fn seal_fails(asked: &mut Admission, fault: SealFault) -> bool {
     match asked.seal(0) {
         Ok(_) => false,
@@ -358,7 +358,7 @@ fn seal_fails(asked: &mut Admission, fault: SealFault) -> bool {
     }
 }
 
-/// Whether this is held on the links.
+/// Returns whether this is held on the links.
 fn holds(asked: &Admission, costs: &[u32]) -> bool {
     let links = asked.domain().links();
     if usize::from(links) != costs.len() {
@@ -372,7 +372,8 @@ fn holds(asked: &Admission, costs: &[u32]) -> bool {
     true
 }
 
-/// Whether the history has so many entries, and the last one has this reply and is a Seal exactly where that is.
+/// Returns whether the history has this many entries, and the last one has this reply and is a Seal if and only if the reply is that of
+/// one.
 fn ends_in(asked: &Admission, entries: usize, reply: Reply) -> bool {
     match asked.history().last() {
         Some(entry) => {
@@ -384,7 +385,7 @@ fn ends_in(asked: &Admission, entries: usize, reply: Reply) -> bool {
     }
 }
 
-/// Whether an entry stands at this place of a full history.
+/// Returns whether an entry is at this index of a full history.
 fn is_of_full(place: usize, entry: &Entry) -> bool {
     match &entry.call {
         Call::Admit(_) | Call::AdmitPaced(_) => false,
@@ -396,7 +397,7 @@ fn is_of_full(place: usize, entry: &Entry) -> bool {
     }
 }
 
-/// Whether the history is full.
+/// Returns whether the history is full.
 fn is_full(asked: &Admission) -> bool {
     let entries = asked.history();
     entries.len() == 200_000
@@ -406,7 +407,7 @@ fn is_full(asked: &Admission) -> bool {
             .all(|(place, entry)| is_of_full(place, entry))
 }
 
-/// Whether this comes of a step.
+/// Returns whether a step has its result.
 fn goes_so(alloc: Global, asked: &mut Admission, step: &Step) -> bool {
     match *step {
         Step::Admit(stream, answer) => admits(alloc, asked, &stream, answer),
@@ -423,7 +424,7 @@ fn goes_so(alloc: Global, asked: &mut Admission, step: &Step) -> bool {
     }
 }
 
-/// Whether it does of all steps.
+/// Returns whether all steps have their results.
 fn all_go_so(alloc: Global, asked: &mut Admission, steps: &[Step]) -> bool {
     for step in steps {
         if !goes_so(alloc, asked, step) {
@@ -433,7 +434,7 @@ fn all_go_so(alloc: Global, asked: &mut Admission, steps: &[Step]) -> bool {
     true
 }
 
-/// Whether it does of an admission, and then of a copy from before.
+/// Returns whether the steps have their results with an admission, and then with a copy from before.
 fn both_go_so(alloc: Global, asked: &mut Admission, steps: &[Step]) -> bool {
     match asked.try_copy(alloc) {
         Ok(mut copy) => all_go_so(alloc, asked, steps) && all_go_so(alloc, &mut copy, steps),
@@ -441,7 +442,7 @@ fn both_go_so(alloc: Global, asked: &mut Admission, steps: &[Step]) -> bool {
     }
 }
 
-/// Whether a case over a domain comes out.
+/// Returns whether a case over a domain has its results.
 fn comes_out(alloc: Global, domain: &Domain, case: &Case) -> bool {
     match Admission::new(alloc, domain) {
         Ok(mut asked) => {
@@ -451,7 +452,7 @@ fn comes_out(alloc: Global, domain: &Domain, case: &Case) -> bool {
     }
 }
 
-/// The first case over the domain of a text that doesn't come out, where there is one.
+/// Returns the first case over the domain of a text that doesn't have its results, if there is one.
 fn first_wrong(alloc: Global, text: &str, cases: &[Case]) -> Option<usize> {
     let Ok(domain) = Domain::read(alloc, text.as_bytes()) else {
         return Some(0);
@@ -490,7 +491,7 @@ fn a_shared_link_is_charged_once_until_the_deepest_branch_is_empty(rt: HostRunti
     assert_eq!(rt; first_wrong(rt.alloc(), fork(), OVER_FORK), None);
 }
 
-/// What is seen in the table of cycle 0, in which x is held and not yet withdrawn.
+/// The queries to the table of cycle 0, in which x is held and not yet withdrawn.
 const BEFORE: &[Look] = &[
     Look::Rows(1),
     Look::Named("x", 0, true),
@@ -498,7 +499,7 @@ const BEFORE: &[Look] = &[
     Look::Numbered(0, 1, true),
 ];
 
-/// And in that of cycle 1, from which on it is withdrawn, and y is held.
+/// The queries to that of cycle 1, from which on x is withdrawn, and y is held.
 const BEHIND: &[Look] = &[
     Look::Rows(2),
     Look::Named("x", 0, true),
@@ -506,8 +507,8 @@ const BEHIND: &[Look] = &[
     Look::Numbered(1, 1, true),
 ];
 
-/// Whether a table and its copy stay as they are while the admission that gave the table goes on, and the copy when the table is let go
-/// of.
+/// Returns whether a table and its copy stay unchanged while the admission that gave the table goes on, and the copy when the table is
+/// dropped.
 fn stay(alloc: Global, asked: &mut Admission, table: Table) -> bool {
     let Ok(copy) = table.try_copy(alloc) else {
         return false;
@@ -520,7 +521,7 @@ fn stay(alloc: Global, asked: &mut Admission, table: Table) -> bool {
     goes_on && kept && is_table(&copy, 0, BEFORE)
 }
 
-/// Whether they do of an admission over the domain.
+/// Returns whether they do with an admission over the domain.
 fn tables_stay(alloc: Global, domain: &Domain) -> bool {
     let Ok(mut asked) = Admission::new(alloc, domain) else {
         return false;
@@ -534,7 +535,7 @@ fn tables_stay(alloc: Global, domain: &Domain) -> bool {
     }
 }
 
-/// Whether they do over the line.
+/// Returns whether they do over the line.
 fn tables_stay_on_line(alloc: Global) -> bool {
     match Domain::read(alloc, line().as_bytes()) {
         Ok(domain) => tables_stay(alloc, &domain),

@@ -1,4 +1,4 @@
-//! Domains of sketches read, or refused.
+//! Domains of network files, read or refused.
 use cqf_model::PROFILE;
 use cqf_sketch::{SketchDomain, SketchFault};
 use std::alloc::Global;
@@ -15,7 +15,7 @@ links = [
 ]
 ";
 
-/// Whether a fault prints so.
+/// Returns whether a fault prints as this text.
 fn prints(alloc: Global, fault: SketchFault, wanted: &str) -> bool {
     match format!(in alloc; "{fault}") {
         Ok(text) => text.as_str() == wanted,
@@ -23,7 +23,7 @@ fn prints(alloc: Global, fault: SketchFault, wanted: &str) -> bool {
     }
 }
 
-/// Whether the sketch with another text in the place of a part of it is answered so.
+/// Returns whether the network file with a part of its text replaced gets this answer.
 fn answers(alloc: Global, old: &str, new: &str, wanted: &str) -> bool {
     let Ok(changed) = SKETCH.replacen(alloc, old, new, 1) else {
         return false;
@@ -34,7 +34,7 @@ fn answers(alloc: Global, old: &str, new: &str, wanted: &str) -> bool {
     }
 }
 
-/// A part of the sketch, another text in its place, and the answer.
+/// A part of the network file, its replacement, and the answer.
 const CHANGES: &[(&str, &str, &str)] = &[
     ("", "", "read"),
     ("cycle = [250000, 125000]", "cycle = 125000", "read"),
@@ -94,7 +94,7 @@ fn a_changed_sketch_is_refused_by_its_first_fault(rt: HostRuntime) {
     }
 }
 
-/// Of a link both ways the plant has each that leaves a bridge, and the others are talkers' links.
+/// Of a link in both directions, the domain has each that leaves a bridge; the others are talkers' links.
 #[test]
 fn links_are_numbered_there_before_back(rt: HostRuntime) {
     match SketchDomain::read(rt.alloc(), SKETCH.as_bytes(), PROFILE, None) {
@@ -110,7 +110,7 @@ fn links_are_numbered_there_before_back(rt: HostRuntime) {
     }
 }
 
-/// Whether the plant of a sketch with the first cycle time that is open has this one.
+/// Returns whether the domain of a network file at its first open cycle time has this cycle time and three links.
 fn opens_at(alloc: Global, text: &str, cycle: u64) -> bool {
     let Ok(sketch) = SketchDomain::read(alloc, text.as_bytes(), PROFILE, None) else {
         return false;
@@ -121,8 +121,8 @@ fn opens_at(alloc: Global, text: &str, cycle: u64) -> bool {
     }
 }
 
-/// Whether the sketch, its candidates the other way round and another text in the place of a part of it, has the plant with this cycle
-/// time.
+/// Returns whether the network file, with its candidates in the opposite order and a part of its text replaced, has a domain with this
+/// cycle time.
 fn turned_opens_at(alloc: Global, old: &str, new: &str, cycle: u64) -> bool {
     let Ok(turned) = SKETCH.replacen(alloc, "[250000, 125000]", "[125000, 250000]", 1) else {
         return false;
@@ -133,7 +133,7 @@ fn turned_opens_at(alloc: Global, old: &str, new: &str, cycle: u64) -> bool {
     }
 }
 
-/// A candidate that a guard time reaches isn't open.
+/// A candidate that isn't longer than a guard band isn't open.
 #[test]
 fn the_plant_has_the_first_open_cycle(rt: HostRuntime) {
     assert!(rt; opens_at(rt.alloc(), SKETCH, 250_000));

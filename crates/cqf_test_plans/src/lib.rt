@@ -1,5 +1,6 @@
-//! Tests of domains and streams read, with their addressing, of admission and its scripts, of pages and the order of drops, of sketches read,
-//! ways found and plants told, and of bounds of access links, with values from outside. A crate that has tests is proved twice, so these stand in one of their own.
+//! Tests with external values: domains and streams read, with their addressing; admission and its scripts; pages and the order of drops;
+//! network files read, paths found and plans written; and bounds of access links. A crate with tests is proved twice, so these are in a
+//! crate of their own.
 #![tactic(auto)]
 
 #[cfg(test)]

@@ -8,7 +8,7 @@ use std::alloc::Global;
 /// Why all are dropped.
 const OCTETS: Reason = Reason::Octets;
 
-/// Drops as they come.
+/// Drops in the order in which they occur.
 const COME: &[Fell] = &[
     (1, 0, 4, 64, OCTETS),
     (0, 2, 3, 64, OCTETS),
@@ -17,7 +17,7 @@ const COME: &[Fell] = &[
     (0, 1, 2, 64, OCTETS),
 ];
 
-/// The same as they stand in a book.
+/// The same in the order of a book.
 const STAND: &[Fell] = &[
     (0, 1, 2, 64, OCTETS),
     (0, 1, 5, 64, OCTETS),
@@ -26,7 +26,7 @@ const STAND: &[Fell] = &[
     (1, 0, 4, 64, OCTETS),
 ];
 
-/// Appends drops.
+/// Appends drops. Returns whether that succeeds.
 fn add_drops(rows: &[Fell], drops: &mut Vec<Dropped>) -> bool {
     for (cycle, bridge, frame, octets, reason) in rows {
         let dropped = Dropped {
@@ -43,7 +43,7 @@ fn add_drops(rows: &[Fell], drops: &mut Vec<Dropped>) -> bool {
     true
 }
 
-/// Whether drops that come so are sorted into these.
+/// Returns whether drops in this order are sorted into that one.
 fn are_sorted(alloc: Global, come: &[Fell], stand: &[Fell]) -> bool {
     let mut drops = Vec::new(alloc);
     add_drops(come, &mut drops)

@@ -4,7 +4,7 @@ use cqf_model::Started;
 use cqf_units::{Cycle, Memory, Nanos};
 use std::alloc::Global;
 
-/// A transmission on link 1.
+/// Returns a transmission on link 1.
 fn started(cycle: u32, octets: u32) -> Started {
     Started {
         cycle: Cycle(cycle),
@@ -15,7 +15,7 @@ fn started(cycle: u32, octets: u32) -> Started {
     }
 }
 
-/// A page with one start of a stream's frame on link 1, of 100 octets, and a background frame of 1522 octets there.
+/// Returns a page with one start of a stream's frame on link 1, of 100 octets, and a background frame of 1,522 octets there.
 fn page_of(alloc: Global, bridge: u16, cycle: u32) -> Result<Page, Memory> {
     Ok(Page {
         bridge,
@@ -26,7 +26,7 @@ fn page_of(alloc: Global, bridge: u16, cycle: u32) -> Result<Page, Memory> {
     })
 }
 
-/// A page by its bridge and cycle, the answer to it, and how many cycles are whole then.
+/// A page by its bridge and cycle, the answer to it, and how many cycles are whole afterwards.
 type Post = (u16, u32, Option<PageFault>, u32);
 
 /// A page is taken once and in order of cycle.
@@ -59,14 +59,14 @@ const FILLED: &[Post] = &[
     (2, 4, None, 5),
 ];
 
-/// Whether a page is that of the bridge and cycle.
+/// Returns whether a page is that of the bridge and cycle.
 fn is_page(page: &Page, bridge: u16, cycle: u32) -> bool {
     page.bridge == bridge
         && page.cycle == Cycle(cycle)
         && page.starts.as_slice() == [started(cycle, 100)].as_slice()
 }
 
-/// Whether the pages have that of the bridge and cycle.
+/// Returns whether the pages have that of the bridge and cycle.
 fn has_page(pages: &Pages, bridge: u16, cycle: u32) -> bool {
     match pages.page(bridge, Cycle(cycle)) {
         Some(page) => is_page(page, bridge, cycle),
@@ -74,7 +74,7 @@ fn has_page(pages: &Pages, bridge: u16, cycle: u32) -> bool {
     }
 }
 
-/// Whether the pages answer so to a page: it stands there only from when it is taken on, and else comes back.
+/// Returns whether the pages give this answer to a page: it is there only after it is taken, and otherwise returned.
 fn answers(
     pages: &mut Pages,
     page: Page,
@@ -88,7 +88,7 @@ fn answers(
     }
 }
 
-/// Whether the pages answer so to a post.
+/// Returns whether the pages give this answer to a post.
 fn posts(alloc: Global, pages: &mut Pages, post: &Post) -> bool {
     let (bridge, cycle, fault, whole) = *post;
     if fault.is_none() && pages.page(bridge, Cycle(cycle)).is_some() {
@@ -106,7 +106,7 @@ const NONE: Totals = Totals {
     octets: 0,
 };
 
-/// Whether the pages answer so to all posts, and then have sent so many frames and octets on link 1, and none on link 0.
+/// Returns whether the pages give these answers to all posts, and then have sent this many frames and octets on link 1, and none on link 0.
 fn posts_all(alloc: Global, pages: &mut Pages, all: &[Post], sent: (u128, u128)) -> bool {
     for post in all {
         if !posts(alloc, pages, post) {
@@ -117,7 +117,7 @@ fn posts_all(alloc: Global, pages: &mut Pages, all: &[Post], sent: (u128, u128))
     pages.totals(1) == Totals { frames, octets } && pages.totals(0) == NONE
 }
 
-/// Whether pages of three bridges and five cycles do so.
+/// Returns whether pages of three bridges and five cycles do so.
 fn are_posted(alloc: Global, all: &[Post], sent: (u128, u128)) -> bool {
     match Pages::new(alloc, 3, 5) {
         Ok(mut pages) => posts_all(alloc, &mut pages, all, sent),
@@ -140,7 +140,7 @@ const TEXTS: &[(PageFault, &str)] = &[
     (PageFault::Memory, "Memory"),
 ];
 
-/// Whether the fault prints so.
+/// Returns whether the fault prints as this text.
 fn prints(alloc: Global, fault: PageFault, wanted: &str) -> bool {
     match format!(in alloc; "{fault}") {
         Ok(text) => text.as_str() == wanted,

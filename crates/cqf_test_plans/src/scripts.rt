@@ -4,7 +4,7 @@ use cqf_test_fixtures::{Asked, request};
 use cqf_topology::Request;
 use std::alloc::Global;
 
-/// A call by its seat, what it calls for, and the name of its stream.
+/// A call by its seat, its kind, and the name of its stream.
 type Wanted = (u16, &'static str, &'static str);
 
 /// A script, its cycles, and its calls, or the fault of the first line that has one.
@@ -12,7 +12,7 @@ type Case = (&'static str, u32, Result<&'static [Wanted], &'static str>);
 
 /// The stream `x` may be admitted.
 const CASES: &[Case] = &[
-    // a stream admitted; and withdrawn behind a Seal, which the administrator behind the last makes
+    // a stream admitted; and withdrawn after a Seal, which the administrator after the last makes
     ("0 admit x\n", 5, Ok(&[(0, "admit", "x")])),
     (
         "0 admit x\nseal\n0 withdraw x\n",
@@ -23,7 +23,7 @@ const CASES: &[Case] = &[
     ("", 0, Ok(&[])),
     ("1 admit x", 0, Ok(&[(1, "admit", "x")])),
     ("seal\nseal\n", 2, Ok(&[(0, "seal", ""), (0, "seal", "")])),
-    // the greatest administrator, also behind the Seal; any word may be withdrawn
+    // the greatest administrator, also after the Seal; any word may be withdrawn
     (
         "3 withdraw !~\nseal\n7 withdraw y\nseal",
         2,
@@ -65,7 +65,7 @@ const CASES: &[Case] = &[
         1,
         Err("BadLine 1"),
     ),
-    // a stream that isn't asked for
+    // a stream that isn't requested
     ("seal\n0 admit y\n", 1, Err("UnknownStream 2")),
     ("0 admit xx\n", 1, Err("UnknownStream 1")),
     // more Seals than cycles
@@ -80,14 +80,14 @@ const CASES: &[Case] = &[
 /// Two requests for `x`: a script means the first.
 const REQUESTS: &[Asked] = &[("x", 1500, &[]), ("x", 64, &[])];
 
-/// Whether the call is the wanted one.
+/// Returns whether the call is the expected one.
 fn is_call(call: &(u16, Call), wanted: &Wanted) -> bool {
     let (seat, what, name) = *wanted;
     let same = match &call.1 {
         Call::Admit(request) => {
             what == "admit" && request.name.as_str() == name && request.octets == 1500
         }
-        // a script of requests without paces asks for no other
+        // a script of requests without paces requests no other
         Call::AdmitPaced(_) => false,
         Call::Withdraw(stream) => what == "withdraw" && stream.as_str() == name,
         Call::Seal => what == "seal",
@@ -95,7 +95,7 @@ fn is_call(call: &(u16, Call), wanted: &Wanted) -> bool {
     same && call.0 == seat
 }
 
-/// Whether the calls are the wanted ones.
+/// Returns whether the calls are the expected ones.
 fn are_calls(calls: &[(u16, Call)], wanted: &[Wanted]) -> bool {
     calls.len() == wanted.len()
         && calls
@@ -104,7 +104,7 @@ fn are_calls(calls: &[(u16, Call)], wanted: &[Wanted]) -> bool {
             .all(|(call, other)| is_call(call, other))
 }
 
-/// Whether the fault prints so.
+/// Returns whether the fault prints as this text.
 fn prints(alloc: Global, fault: ScriptFault, wanted: &str) -> bool {
     match format!(in alloc; "{fault}") {
         Ok(text) => text.as_str() == wanted,
@@ -112,7 +112,7 @@ fn prints(alloc: Global, fault: ScriptFault, wanted: &str) -> bool {
     }
 }
 
-/// Whether the script of a case is read or refused so.
+/// Returns whether the script of a case gets its answer.
 fn is_answered(alloc: Global, requests: &[Request], case: &Case) -> bool {
     let (script, cycles, wanted) = *case;
     match read_script(alloc, script.as_bytes(), requests, cycles) {
@@ -121,7 +121,7 @@ fn is_answered(alloc: Global, requests: &[Request], case: &Case) -> bool {
     }
 }
 
-/// Appends the requests.
+/// Appends the requests. Returns whether that succeeds.
 fn add_requests(alloc: Global, requests: &mut Vec<Request>) -> bool {
     for asked in REQUESTS {
         match request(alloc, asked) {
@@ -136,7 +136,7 @@ fn add_requests(alloc: Global, requests: &mut Vec<Request>) -> bool {
     true
 }
 
-/// The first case that is answered otherwise, where there is one.
+/// Returns the first case that gets another answer, if there is one.
 fn first_wrong(alloc: Global) -> Option<usize> {
     let mut requests = Vec::new(alloc);
     if !add_requests(alloc, &mut requests) {

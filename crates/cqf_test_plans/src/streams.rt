@@ -1,4 +1,4 @@
-//! Streams of sketches read, or refused.
+//! Streams of network files, read or refused.
 use cqf_sketch::{FlowsFault, read_sketch_streams};
 use std::alloc::Global;
 
@@ -17,7 +17,7 @@ path = [\"a\", \"desk\"]
 deadline = 500000
 ";
 
-/// Whether a fault prints so.
+/// Returns whether a fault prints as this text.
 fn prints(alloc: Global, fault: FlowsFault, wanted: &str) -> bool {
     match format!(in alloc; "{fault}") {
         Ok(text) => text.as_str() == wanted,
@@ -25,7 +25,7 @@ fn prints(alloc: Global, fault: FlowsFault, wanted: &str) -> bool {
     }
 }
 
-/// Whether the streams with another text in the place of a part of it are answered so.
+/// Returns whether the streams with a part of their text replaced get this answer.
 fn answers(alloc: Global, old: &str, new: &str, wanted: &str) -> bool {
     let Ok(changed) = STREAMS.replacen(alloc, old, new, 1) else {
         return false;
@@ -36,7 +36,7 @@ fn answers(alloc: Global, old: &str, new: &str, wanted: &str) -> bool {
     }
 }
 
-/// A part of the text, another in its place, and the answer.
+/// A part of the text, its replacement, and the answer.
 const CHANGES: &[(&str, &str, &str)] = &[
     ("", "", "read"),
     ("octets = 512\n", "", "Missing octets"),

@@ -1,4 +1,4 @@
-//! Plants told.
+//! Plans that are written.
 use cqf_plants::write_plant;
 use cqf_topology::Domain;
 use cqf_traffic::read_flows;
@@ -100,7 +100,7 @@ path = [\"floor\", \"stage\", \"cam\"]
 size = 128
 ";
 
-/// A plant of one bridge alone.
+/// A plan with a single bridge.
 const ALONE: &str = "bridges = [\"a\"]
 cycle = 10000
 guard = 1
@@ -109,8 +109,8 @@ stations = []
 streams = []
 ";
 
-/// Streams that aren't offered in each cycle: with traffic and with none, in the first of their cycles and in a later one, and one whose
-/// phase is none of its cycles.
+/// Streams that aren't offered in each cycle: with traffic and without, in the first of their cycles and in a later one, and one whose
+/// phase isn't below its number of cycles.
 const PACED: &str = "bridges = [\"a\"]
 cycle = 125000
 guard = 4000
@@ -156,7 +156,7 @@ path = [\"a\", \"t\"]
 phase = 2
 ";
 
-/// A plant whose stream is offered in each cycle, and says so.
+/// A plan whose stream is offered in each cycle, and says so.
 const EACH_CYCLE: &str = "bridges = [\"a\"]
 cycle = 125000
 guard = 4000
@@ -165,7 +165,7 @@ links = [{ from = \"a\", to = \"s\", rate = 1000, delay = 500 }]
 streams = [{ name = \"x\", octets = 64, every = 1, phase = 0, path = [\"a\", \"s\"] }]
 ";
 
-/// The same plant, told.
+/// The same plan, written.
 const EACH_CYCLE_TOLD: &str = "bridges = [\"a\"]
 cycle = 125000
 guard = 4000
@@ -183,7 +183,7 @@ octets = 64
 path = [\"a\", \"s\"]
 ";
 
-/// Clocks that may be apart, a link whose delay varies, with a guard time of its own, and one at another rate.
+/// Clocks that may differ, a link whose delay varies, with a guard band of its own, and one at another rate.
 const LOOSE: &str = "bridges = [\"a\"]
 cycle = 125000
 guard = 5000
@@ -205,8 +205,7 @@ rate = 100000
 to = \"t\"
 ";
 
-/// A plant that says of its clocks and of a link's delay what stands where nothing is said, and a guard time of a link's own that is the
-/// domain's.
+/// A plan that states the defaults for its clocks and for a link's delay, and for a link a guard band that is the domain's.
 const EXACT: &str = "bridges = [\"a\"]
 cycle = 125000
 guard = 5000
@@ -216,7 +215,7 @@ links = [{ from = \"a\", to = \"s\", rate = 40000, delay = [500, 500], guard = 5
 streams = []
 ";
 
-/// The same plant, told.
+/// The same plan, written.
 const EXACT_TOLD: &str = "bridges = [\"a\"]
 cycle = 125000
 guard = 5000
@@ -231,7 +230,7 @@ rate = 40000
 to = \"s\"
 ";
 
-/// Whether a plant that is read and told again is another text.
+/// Returns whether a plan that is read and written again is this text.
 fn is_told_as(alloc: Global, text: &str, wanted: &str) -> bool {
     let Ok(domain) = Domain::read(alloc, text.as_bytes()) else {
         return false;

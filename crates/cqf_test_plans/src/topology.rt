@@ -8,7 +8,7 @@ use cqf_topology::{
 use cqf_units::{Nanos, Rate};
 use std::alloc::{AllocError, Global};
 
-/// Whether a fault of a domain's text prints so.
+/// Returns whether a fault of a domain's text prints as this text.
 fn domain_prints(alloc: Global, fault: DomainFault, wanted: &str) -> bool {
     match format!(in alloc; "{fault}") {
         Ok(text) => text.as_str() == wanted,
@@ -16,7 +16,7 @@ fn domain_prints(alloc: Global, fault: DomainFault, wanted: &str) -> bool {
     }
 }
 
-/// Whether a domain's text is read, where that is the answer, or refused with a fault that prints so.
+/// Returns whether a domain's text is read, if that is the answer, or refused with a fault that prints as the answer.
 fn answers(alloc: Global, text: &[u8], wanted: &str) -> bool {
     match Domain::read(alloc, text) {
         Ok(_domain) => wanted == "read",
@@ -24,7 +24,7 @@ fn answers(alloc: Global, text: &[u8], wanted: &str) -> bool {
     }
 }
 
-/// Whether a text with another in the place of a part of it is answered so.
+/// Returns whether a text with a part of it replaced gets this answer.
 fn changed_answers(alloc: Global, text: &str, old: &str, new: &str, wanted: &str) -> bool {
     match text.replacen(alloc, old, new, 1) {
         Ok(changed) => answers(alloc, changed.as_bytes(), wanted),
@@ -32,7 +32,7 @@ fn changed_answers(alloc: Global, text: &str, old: &str, new: &str, wanted: &str
     }
 }
 
-/// A part of the line's text, another in its place, and the answer.
+/// A part of the line's text, its replacement, and the answer.
 const CHANGES: &[(&str, &str, &str)] = &[
     ("", "", "read"),
     ("delay = 500", "delay = 4999", "read"),
@@ -61,7 +61,7 @@ const CHANGES: &[(&str, &str, &str)] = &[
     ("cycle = 125000", "cycle =", "NotToml"),
     ("[\"a\", \"b\", \"c\"]", "[]", "BadValue bridges"),
     ("rate = 1000", "rate = 100", "read"),
-    // one link more, behind the last
+    // one more link, after the last
     (
         LAST_LINK,
         "to = \"s\"\nrate = 1000\ndelay = 500\n[[links]]\nfrom = \"b\"\nto = \"s\"\nrate = 1000\ndelay = 500\n",
@@ -102,7 +102,7 @@ fn a_changed_line_is_refused_by_its_first_fault(rt: HostRuntime) {
     }
 }
 
-/// Two bridges in a row, whose clocks may be apart and whose links' delays vary.
+/// Two bridges in a row, whose clocks may differ and whose links' delays vary.
 const LOOSE: &str = "cycle = 125000
 guard = 5000
 sync = 500
@@ -114,7 +114,7 @@ links = [
 ]
 ";
 
-/// A part of that text, another in its place, and the answer. A shortest frame takes 576 ns of a link.
+/// A part of that text, its replacement, and the answer. A shortest frame takes 576 ns on a link.
 const LOOSE_CHANGES: &[(&str, &str, &str)] = &[
     ("", "", "read"),
     ("sync = 500", "sync = 976", "read"),
@@ -205,7 +205,7 @@ fn a_changed_loose_domain_is_refused_by_its_first_fault(rt: HostRuntime) {
     }
 }
 
-/// Whether a domain is that one.
+/// Returns whether a domain is that one.
 fn is_loose(domain: &Domain) -> bool {
     let first = Link {
         from: 0,
@@ -218,7 +218,7 @@ fn is_loose(domain: &Domain) -> bool {
     domain.sync() == Nanos(500) && domain.links() == 2 && domain.link(0) == first
 }
 
-/// Whether that domain, the first link with a guard time of its own, is read and copied.
+/// Returns whether that domain, with a guard band of its own for the first link, is read and copied.
 fn is_loose_read(alloc: Global) -> bool {
     let Ok(text) = LOOSE.replacen(alloc, "600]", "600], guard = 2000", 1) else {
         return false;
@@ -237,7 +237,7 @@ fn clocks_and_links_own_times_are_read_and_copied(rt: HostRuntime) {
     assert!(rt; is_loose_read(rt.alloc()));
 }
 
-/// Each rate in Mb/s; the nanoseconds of the gap behind a frame, and of a shortest frame with its preamble.
+/// Each rate in Mb/s; the nanoseconds of the gap after a frame, and of a shortest frame with its preamble.
 const RATES: &[(u32, u32, u32)] = &[
     (10, 9600, 57600),
     (100, 960, 5760),
@@ -250,7 +250,7 @@ const RATES: &[(u32, u32, u32)] = &[
     (100_000, 1, 6),
 ];
 
-/// Whether a domain of one link at a rate, with no delay, is answered so.
+/// Returns whether a domain of one link at a rate, with no delay, gets this answer.
 fn rate_answers(alloc: Global, guard: u32, sync: u32, rate: u32, wanted: &str) -> bool {
     let text = format!(in alloc;
         "cycle = 125000\nguard = {guard}\nsync = {sync}\nbridges = [\"a\"]\nstations = [\"s\"]\nlinks = [{{ from = \"a\", to = \"s\", rate = {rate}, delay = 0 }}]\n"
@@ -283,7 +283,7 @@ fn each_rate_has_its_gap_and_its_shortest_frame(rt: HostRuntime) {
     assert!(rt; rate_answers(rt.alloc(), 100_000, 0, 2501, "BadValue rate"));
 }
 
-/// The guard time and the rate of the one link, others in their places, and the answer: a gap is within the guard time.
+/// The guard band and the rate of the one link, others in their places, and the answer: a gap is within the guard band.
 const GAPS: &[(&str, &str)] = &[
     (
         "guard = 9600\nbridges = [\"a\"]\nstations = [\"s\"]\n\n[[links]]\nfrom = \"a\"\nto = \"s\"\nrate = 10\n",
@@ -299,7 +299,7 @@ const GAPS: &[(&str, &str)] = &[
     ),
 ];
 
-/// What they stand in place of.
+/// The text that they replace.
 const NO_GAP: &str =
     "guard = 5000\nbridges = [\"a\"]\nstations = [\"s\"]\n\n[[links]]\nfrom = \"a\"\nto = \"s\"\nrate = 1000\n";
 
@@ -351,7 +351,7 @@ const LAST: Link = Link {
     guard: None,
 };
 
-/// Whether a domain has the times, names, nodes and the last link of the line.
+/// Returns whether a domain has the times, names, nodes and the last link of the line.
 fn is_line(domain: &Domain) -> bool {
     if domain.bridges() != 3 || domain.stations() != 1 || domain.links() != 3 {
         return false;
@@ -368,12 +368,12 @@ fn is_line(domain: &Domain) -> bool {
 /// A stream along the line.
 const X: Asked = ("x", 1500, &[&["a", "b", "c", "s"]]);
 
-/// Whether a stream of 1,500 octets is held on the last of three links.
+/// Returns whether a stream of 1,500 octets is held on the last of three links.
 fn is_held(asked: &Admission) -> bool {
     asked.domain().links() == 3 && asked.held_on(2).0 == 1960
 }
 
-/// Whether a domain serves as the line: an admission over it grants a stream along it.
+/// Returns whether a domain serves as the line: an admission over it grants a stream along it.
 fn serves(alloc: Global, domain: &Domain) -> bool {
     match (Admission::new(alloc, domain), request(alloc, &X)) {
         (Ok(mut asked), Ok(x)) => asked.admit(0, &x).is_ok() && is_held(&asked),
@@ -381,7 +381,7 @@ fn serves(alloc: Global, domain: &Domain) -> bool {
     }
 }
 
-/// Whether a copy serves as the line, and the domain from which it was made is still the line when it is let go of.
+/// Returns whether a copy serves as the line, and the domain from which it was made is still the line after the copy is dropped.
 fn is_copied(alloc: Global, domain: &Domain) -> bool {
     let serves = match domain.try_copy(alloc) {
         Ok(copy) => is_line(&copy) && serves(alloc, &copy) && is_line(domain),
@@ -390,7 +390,7 @@ fn is_copied(alloc: Global, domain: &Domain) -> bool {
     serves && is_line(domain)
 }
 
-/// Whether that holds of a domain, and a copy is still the line when the domain is let go of.
+/// Returns whether that holds for a domain, and a copy is still the line after the domain is dropped.
 fn are_line(alloc: Global, domain: Domain) -> bool {
     let is_right = is_copied(alloc, &domain);
     match domain.try_copy(alloc) {
@@ -411,13 +411,13 @@ const LINKS_OF_RING: &[(u16, Node, Option<u16>)] = &[
     (1, Node::Bridge(0), None),
 ];
 
-/// Whether a domain's links have the numbers of the ring's.
+/// Returns whether a domain's links have the numbers of the ring's.
 fn is_ring(domain: &Domain) -> bool {
     domain.links() == 5
         && LINKS_OF_RING.iter().all(|(from, to, number)| domain.find_link(*from, *to) == *number)
 }
 
-/// Whether the line's text is read and copied, and the ring's read.
+/// Returns whether the line's text is read and copied, and the ring's read.
 fn are_read(alloc: Global) -> bool {
     let is_line = match Domain::read(alloc, line().as_bytes()) {
         Ok(domain) => are_line(alloc, domain),
@@ -438,7 +438,7 @@ fn domains_are_read_and_copied_and_links_numbered_in_their_order(rt: HostRuntime
 /// The stream of a text of one branch, and of one of two.
 const BRANCHING_X: Asked = ("x", 1500, &[&["a", "b", "c", "s"], &["a", "b", "t"]]);
 
-/// Changes the name, the octets, and the first node of the first branch of a request, and lets go of its other branches.
+/// Changes the name, the octets, and the first node of the first branch of a request, and drops its other branches.
 fn is_changed(alloc: Global, request: &mut Request) -> bool {
     let (Ok(name), Ok(node)) = (String::from_str(alloc, "y"), String::from_str(alloc, "q")) else {
         return false;
@@ -458,10 +458,10 @@ fn is_changed(alloc: Global, request: &mut Request) -> bool {
     }
 }
 
-/// What either stream is then.
+/// What either stream is afterwards.
 const CHANGED: Asked = ("y", 64, &[&["q", "b", "c", "s"]]);
 
-/// Whether a request and a copy are as asked for, the request still when the copy is changed, and another copy when the request is.
+/// Returns whether a request and a copy are as expected, the request still when the copy is changed, and another copy when the request is.
 fn is_asked(alloc: Global, asked: &Asked, own: &mut Request) -> bool {
     let (Ok(mut copy), Ok(other)) = (own.try_copy(alloc), own.try_copy(alloc)) else {
         return false;
@@ -476,7 +476,7 @@ fn is_asked(alloc: Global, asked: &Asked, own: &mut Request) -> bool {
         && is_request(&other, asked)
 }
 
-/// Whether the text's only request is.
+/// Returns whether the text's only request is as expected.
 fn asks_for(alloc: Global, text: &str, asked: &Asked) -> bool {
     let Ok(mut requests) = read_streams(alloc, text.as_bytes()) else {
         return false;
@@ -496,7 +496,7 @@ fn streams_have_one_branch_or_several(rt: HostRuntime) {
     assert!(rt; asks_for(rt.alloc(), two, &BRANCHING_X));
 }
 
-/// Whether a fault of a streams text prints so.
+/// Returns whether a fault of a streams text prints as this text.
 fn streams_print(alloc: Global, fault: StreamsFault, wanted: &str) -> bool {
     match format!(in alloc; "{fault}") {
         Ok(text) => text.as_str() == wanted,
@@ -504,7 +504,7 @@ fn streams_print(alloc: Global, fault: StreamsFault, wanted: &str) -> bool {
     }
 }
 
-/// Whether a streams text is answered with this.
+/// Returns whether a streams text gets this answer.
 fn streams_answer(alloc: Global, text: &str, wanted: &str) -> bool {
     match read_streams(alloc, text.as_bytes()) {
         Ok(_requests) => wanted == "read",
@@ -546,7 +546,7 @@ fn streams_texts_are_refused_by_their_first_fault(rt: HostRuntime) {
     }
 }
 
-/// Whether a request is for a stream that is offered so, and for what else the text asks.
+/// Returns whether a request is for a stream that is offered in these cycles, and for the other values of the text.
 fn is_paced(request: &PacedRequest, every: u32, phase: u32) -> bool {
     request.name.as_str() == "x"
         && request.octets == 64
@@ -555,12 +555,13 @@ fn is_paced(request: &PacedRequest, every: u32, phase: u32) -> bool {
         && request.paths.len() == 1
 }
 
-/// The text of one stream with some keys between the others.
+/// Returns the text of one stream with some keys between the others.
 fn with_keys(alloc: Global, keys: &str) -> Result<String, AllocError> {
     format!(in alloc; "[[streams]]\nname = \"x\"\noctets = 64\n{keys}path = [\"a\", \"s\"]\n")
 }
 
-/// Whether a text's only request, and a copy of it, are for a stream that is offered so, whether or not its deadline is asked for.
+/// Returns whether a text's only request, and a copy of it, are for a stream that is offered in these cycles, whether or not its deadline
+/// is read too.
 fn asks_paced(alloc: Global, text: &str, every: u32, phase: u32) -> bool {
     let Ok(paced) = read_paced_streams(alloc, text.as_bytes()) else {
         return false;
@@ -579,7 +580,7 @@ fn asks_paced(alloc: Global, text: &str, every: u32, phase: u32) -> bool {
         && is_paced(&other.request, every, phase)
 }
 
-/// Keys of a stream, and in which cycles it is offered: how many these are apart, and the first of them.
+/// Keys of a stream, and in which cycles it is offered: how far these are apart, and the first of them.
 const PACES: &[(&str, u32, u32)] = &[
     ("", 1, 0),
     ("every = 16\nphase = 3\n", 16, 3),
@@ -590,7 +591,7 @@ const PACES: &[(&str, u32, u32)] = &[
     ("every = 4294967295\n", 4_294_967_295, 0),
 ];
 
-/// Whether the keys of a stream are read so.
+/// Returns whether the keys of a stream are read as these cycles.
 fn are_read_so(alloc: Global, keys: &str, every: u32, phase: u32) -> bool {
     match with_keys(alloc, keys) {
         Ok(text) => asks_paced(alloc, text.as_str(), every, phase),
@@ -605,7 +606,8 @@ fn streams_are_offered_in_each_cycle_or_in_those_of_a_phase(rt: HostRuntime) {
     }
 }
 
-/// Whether a text is refused so by the readers of requests and of deadlines, and of requests of which nobody asks in which cycles.
+/// Returns whether a text is refused with `wanted` by the readers of requests with cycles and of deadlines, and with `unpaced` by the
+/// reader of requests without cycles.
 fn is_refused_so(alloc: Global, text: &str, wanted: &str, unpaced: &str) -> bool {
     let paced = match read_paced_streams(alloc, text.as_bytes()) {
         Ok(_requests) => wanted == "read",
@@ -618,7 +620,7 @@ fn is_refused_so(alloc: Global, text: &str, wanted: &str, unpaced: &str) -> bool
     paced && planned && streams_answer(alloc, text, unpaced)
 }
 
-/// Texts, the answer where the cycles are asked for, and where they aren't.
+/// Texts, the answer if the cycles are read, and the answer if they aren't.
 const PACED: &[(&str, &str, &str)] = &[
     (
         "[[streams]]\nname = 7\noctets = -1\nevery = -1\nphase = -1\npath = 7",

@@ -1,4 +1,4 @@
-//! The first ways through a small network, by hand.
+//! The first paths through a small network, by hand.
 ghost use Rattle.std.specs.Prelude.{◌≡◌, ◌<◌, All, true};
 ghost use Rattle.cqf_model.specs.Limits.{most_bridges};
 
@@ -7,7 +7,7 @@ use cqf_sketch::{Room, WaysFault, first_short, first_way, first_ways};
 use cqf_units::Rate;
 use std::alloc::Global;
 
-/// A link of a network.
+/// Returns a link of a network.
 const fn link(from: u16, to: Node) -> Link {
     Link {
         from,
@@ -30,7 +30,7 @@ fn links() -> [Link; 5] {
     ]
 }
 
-/// Whether each link leaves a bridge that may be.
+/// Returns whether each link leaves a bridge with a number that is represented.
 fn leave_bridges(links: &[Link]) -> bool
     ensures { result ≡ true → All (λ link. link.from < most_bridges) links.now }
 {
@@ -39,7 +39,7 @@ fn leave_bridges(links: &[Link]) -> bool
         .all(|link| usize::from(link.from) < MOST_BRIDGES)
 }
 
-/// Whether the first way from bridge 0 to station 0 is this, where so much is left.
+/// Returns whether the first path from bridge 0 to station 0 is this one, if this much is left.
 fn goes(left: &[u32], wanted: Option<&[u16]>) -> bool {
     let links = links();
     if !leave_bridges(&links) {
@@ -59,7 +59,7 @@ fn goes(left: &[u32], wanted: Option<&[u16]>) -> bool {
     }
 }
 
-/// The lower numbers count, room as much as the cost is enough, and where none is left there is no way.
+/// The lower numbers count, room equal to the cost is enough, and if none is left there is no path.
 #[test]
 fn the_first_way_has_room(rt: HostRuntime) {
     assert!(rt; goes(&[100, 100, 100, 100, 100], Some(&[0, 2])));
@@ -68,7 +68,7 @@ fn the_first_way_has_room(rt: HostRuntime) {
     assert!(rt; goes(&[99, 100, 100, 100, 100], Some(&[1, 3])));
 }
 
-/// Whether the first ways to stations 0 and 1 are these.
+/// Returns whether the first paths to stations 0 and 1 are these.
 fn goes_to_both(alloc: Global, left: &[u32], first: &[u16], second: &[u16]) -> bool {
     let links = links();
     if !leave_bridges(&links) {
@@ -89,7 +89,7 @@ fn goes_to_both(alloc: Global, left: &[u32], first: &[u16], second: &[u16]) -> b
     }
 }
 
-/// Each station has its way, and the first without one is told.
+/// Each station has its path, and the first without one is reported.
 #[test]
 fn each_station_has_its_way(rt: HostRuntime) {
     assert!(rt; goes_to_both(rt.alloc(), &[100, 100, 100, 100, 100], &[0, 2], &[1, 4]));

@@ -1,4 +1,4 @@
--- The bytes so far stand behind the text.
+-- The bytes so far are appended to the text.
 use Rattle.std.proofs.Common.{◌≡◌, ◌++◌, map, take}
 use Rattle.cqf_program_explanations.specs.Explanations.{printable}
 use Rattle.cqf_program_explanations.proofs.told.put_printable.Given as goal

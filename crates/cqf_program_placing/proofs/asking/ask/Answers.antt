@@ -5,7 +5,7 @@ use Rattle.cqf_program_placing.specs.Placing.{Unplaced}
 use Rattle.cqf_program_placing.proofs.AskLemmas.{granted_answer, refusal_entered, refused_answer, refused_due, short_is_there}
 use Rattle.cqf_program_placing.proofs.asking.ask.Goals as goal
 
--- a refusal for want of room names a link of the domain
+-- a refusal for lack of room names a link of the domain
 pub fault_of_refusal-requires : goal.fault_of_refusal-requires
 fault_of_refusal-requires c = λ link left is.
     let d = c.args.domain.now in
@@ -27,7 +27,7 @@ returns c =
       entered = answer.1;
     }
 
--- it is placed, where it is granted
+-- it is placed if it is granted
 pub returns-in-Ok-clause-answered : goal.returns-in-Ok-clause-answered
 returns-in-Ok-clause-answered c =
     (granted_answer c.args.admission.now c.admit_paced.new.self (asked_paced c.args.request) c.args.domain.now c.requires.domain c.in-Ok.field-0

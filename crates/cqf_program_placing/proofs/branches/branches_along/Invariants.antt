@@ -1,4 +1,4 @@
--- The branches of the ways so far.
+-- The branches of the paths so far.
 use Rattle.std.proofs.Common.{◌≡◌, map, take}
 use Rattle.cqf_admission.specs.Branches.{branches_of}
 use Rattle.cqf_program_placing.specs.Placing.{names_along}

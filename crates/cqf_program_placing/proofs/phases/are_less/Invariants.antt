@@ -1,4 +1,4 @@
--- What is behind the place decides.
+-- What follows the index decides.
 use Rattle.cqf_program_placing.proofs.Loads.{AreAlikeSoFar}
 use Rattle.cqf_program_placing.proofs.phases.are_less.Given as goal
 

@@ -19,7 +19,7 @@ loop-phase-init c =
     least_first loads held c.loads_at-least.result.items
     (c.loads_at-least.ensures ∙ ap (λ (pace : Pace). loads_down (share_at d rows c.args.cost pace) c.args.tree.now) c.pace_by.ensures)
 
--- a phase more is looked at
+-- one more phase is checked
 pub loop-phase-preserved : goal.loop-phase-preserved
 loop-phase-preserved c =
     let d = c.args.domain.now in

@@ -4,7 +4,7 @@ use Rattle.cqf_program_placing.specs.Turns.{hop_at, share_at}
 use Rattle.cqf_program_placing.proofs.Loads.{loads_more}
 use Rattle.cqf_program_placing.proofs.phases.loads_at.Goals as goal
 
--- a hop more
+-- one more hop
 pub loop-hop-preserved : goal.loop-hop-preserved
 loop-hop-preserved c =
     let d = c.args.domain.now in

@@ -16,7 +16,7 @@ least_loaded-requires-clause-inside c =
     let made = subst (MakeTree d paths) c.in-Some.is c.requires.tree in
     subst (λ (hops : List Hop). All (λ (hop : Hop). hop.link < length d.links) hops) (sym (c.as_slice.ensures.value ∙ made.1)) (hops_inside d paths)
 
--- of no tree nothing is chosen
+-- without a tree nothing is chosen
 pub returns-in-None : goal.returns-in-None
 returns-in-None c =
     let d = c.args.domain.now in

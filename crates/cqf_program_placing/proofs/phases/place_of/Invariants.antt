@@ -1,4 +1,4 @@
--- The shares before the place are no less.
+-- The shares before the index are no less.
 use Rattle.cqf_program_placing.proofs.Loads.{AreNoLess}
 use Rattle.cqf_program_placing.proofs.phases.place_of.Given as goal
 

@@ -45,7 +45,7 @@ renew-requires-clause-filled c =
     let entries = c.args.admission.now.entries in
     all_filled d (held_in d entries (seals entries)) c.args.rooms.now c.requires.known
 
--- what links have left beside it is known again
+-- what links have left with it is known again
 pub returns-clause-known : goal.returns-clause-known
 returns-clause-known c =
     let d = c.args.domain.now in

@@ -16,7 +16,7 @@ returns-in-Fault-clause-placed c =
     let routed = subst (IsUnrouted d (held_in d entries (seals entries)) c.args.turns cost (way_value c.args.stream.now.way)) c.in-Fault.is c.in-Err.ensures.err in
     unrouted_so d entries (settled_value c.args.stream.now) c.args.octets cost c.args.turns c.in-Fault.found c.cost.ensures routed
 
--- it is asked for along them
+-- it is requested along them
 pub returns-clause-placed : goal.returns-clause-placed
 returns-clause-placed c =
     routed_so c.args.domain.now c.args.admission.now.entries (settled_value c.args.stream.now) c.args.octets c.cost.result.0 c.args.turns

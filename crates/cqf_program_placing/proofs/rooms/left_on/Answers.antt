@@ -7,7 +7,7 @@ use Rattle.cqf_program_placing.specs.Turns.{hop_at}
 use Rattle.cqf_program_placing.proofs.Emptiest.{emptiest_more}
 use Rattle.cqf_program_placing.proofs.rooms.left_on.Goals as goal
 
--- a phase more is looked at
+-- one more phase is checked
 pub loop-phase-preserved : goal.loop-phase-preserved
 loop-phase-preserved c =
     let d = c.args.domain.now in

@@ -11,7 +11,7 @@ loop-hop-init c =
     let now : ℕ → ℕ = left_emptiest d rows c.args.emptiest.now.every in
     record { every = refl; left = none_renewed now c.args.emptiest.now.left.items }
 
--- the link of one hop more
+-- the link of one more hop
 pub loop-hop-preserved : goal.loop-hop-preserved
 loop-hop-preserved c =
     let d = c.args.domain.now in

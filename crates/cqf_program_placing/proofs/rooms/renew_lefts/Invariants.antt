@@ -1,4 +1,4 @@
--- The links of the hops so far are taken anew.
+-- The links of the hops so far are recomputed.
 use Rattle.std.proofs.Common.{◌≡◌, take}
 use Rattle.cqf_model.specs.History.{held_in, seals}
 use Rattle.cqf_model.specs.Table.{links_in}

@@ -18,7 +18,7 @@ returns-in_ok-paths-in-Ok-clause-ok c =
     (branches_of c.in_ok-paths-in-Ok.paths.items) c.requires.links c.in-Ok.ensures.ways
     (c.in_ok-paths-in-Ok.ensures ∙ ap (map (λ (way : ArrayVec ℕ). names_along d c.args.bridge way.items)) c.as_slice.ensures.value)
 
--- the first station without a way with room
+-- the first station to which no path has room
 pub full_to-full-requires-clause-reached : goal.full_to-full-requires-clause-reached
 full_to-full-requires-clause-reached c =
     let links = c.args.room.links.now in

@@ -7,7 +7,7 @@ use Rattle.cqf_program_placing.proofs.routes.full_to.Goals as goal
 pub first_way-requires : goal.first_way-requires
 first_way-requires c = are_links c.args.domain.now c.args.room.links.now c.requires.links c.know.ensures.accepted
 
--- a way leads there
+-- a path leads there
 pub unreachable-requires : goal.unreachable-requires
 unreachable-requires c =
     must_lead c.args.domain.now c.args.room.links.now c.args.room.left.now c.args.bridge c.args.station c.full_ways_have_a_short_link.ensures.for_nothing

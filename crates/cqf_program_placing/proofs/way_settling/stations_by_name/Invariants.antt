@@ -1,4 +1,4 @@
--- The stations so far stand before those of the other names.
+-- The stations so far come before those of the other names.
 use Rattle.std.proofs.Common.{◌≡◌, drop}
 use Rattle.cqf_topology.specs.DomainText.{with_front}
 use Rattle.cqf_program_placing.specs.Settled.{stations_by_name}

@@ -1,4 +1,4 @@
--- The first name to which no way leads is among the rest.
+-- The first name to which no path leads is among the rest.
 use Rattle.std.proofs.Common.{◌≡◌, drop}
 use Rattle.cqf_program_placing.specs.Settled.{first_apart}
 use Rattle.cqf_program_placing.proofs.ways_there.first_apart.Given as goal

@@ -6,7 +6,7 @@ use Rattle.cqf_program_sketch.specs.Trying.{AreBad, ComesOf}
 use Rattle.cqf_program_sketch.proofs.ChoiceLemmas.{bad_step, good_is_planned, none_best}
 use Rattle.cqf_program_sketch.proofs.choosing.choose.Goals as goal
 
--- the first that is good is taken
+-- the first good one is taken
 pub returns-in-Planned : goal.returns-in-Planned
 returns-in-Planned c =
     let cycles = c.candidates-cycle_time-items.result.now in
@@ -17,7 +17,7 @@ returns-in-Planned c =
     c.loop-cycle_time.best c.in-Planned.tried c.requires.placeable (sym c.candidates-cycle_time-items.ensures.value) c.loop-cycle_time.invariant
     (subst (ComesOf c.args.sketch.now those (get_or cycles k 0)) c.in-Planned.is c.in_ok-tried.ensures)
 
--- one that isn't is kept where it is the best
+-- one that isn't good is kept if it is the best
 pub loop-cycle_time-preserved : goal.loop-cycle_time-preserved
 loop-cycle_time-preserved c =
     let cycles = c.candidates-cycle_time-items.result.now in

@@ -1,4 +1,4 @@
--- The deadlines of those so far stand before those of the rest.
+-- The deadlines of those so far come before those of the rest.
 use Rattle.std.proofs.Common.{◌≡◌, ◌++◌, map}
 use Rattle.cqf_model.specs.History.{Asked}
 use Rattle.cqf_program_placing.specs.Settled.{SettledStream}

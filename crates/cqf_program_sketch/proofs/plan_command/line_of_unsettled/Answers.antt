@@ -2,7 +2,7 @@ use Rattle.std.proofs.Common.{◌∙◌, ◌++◌, ◌∷◌, [], ap, append_ass
 use Rattle.cqf_program_placing.specs.Faults.{plan_fault_text}
 use Rattle.cqf_program_sketch.proofs.plan_command.line_of_unsettled.Goals as goal
 
--- the line feed stands behind the fault
+-- the line feed follows the fault
 pub returns : goal.returns
 returns c =
     c.in_ok-line.ensures.ok

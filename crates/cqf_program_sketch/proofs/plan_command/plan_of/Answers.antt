@@ -4,7 +4,7 @@ use Rattle.cqf_program_placing.specs.Settled.{settled_value}
 use Rattle.cqf_program_sketch.specs.Trying.{ComesOfAll}
 use Rattle.cqf_program_sketch.proofs.plan_command.plan_of.Goals as goal
 
--- something becomes of each stream
+-- each stream has an outcome
 pub plant_of-requires-clause-each : goal.plant_of-requires-clause-each
 plant_of-requires-clause-each c =
     let those = map settled_value c.args.streams.now in

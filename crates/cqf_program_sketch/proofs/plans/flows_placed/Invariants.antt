@@ -1,4 +1,4 @@
--- Those so far stand before those of the rest.
+-- Those so far come before those of the rest.
 use Rattle.std.proofs.Common.{◌≡◌, ◌++◌, map}
 use Rattle.cqf_model.specs.History.{Asked}
 use Rattle.cqf_traffic.specs.FlowsText.{flow_text}

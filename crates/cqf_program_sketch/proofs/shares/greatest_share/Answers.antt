@@ -6,13 +6,13 @@ use Rattle.cqf_admission.specs.Costs.{most_cost}
 use Rattle.cqf_program_sketch.specs.Judging.{greatest_of, share_of}
 use Rattle.cqf_program_sketch.proofs.shares.greatest_share.Goals as goal
 
--- there is a number a link
+-- there is a number for each link
 pub greatest_by-requires : goal.greatest_by-requires
 greatest_by-requires c =
     ap length (c.as_slice.ensures.value ∙ c.in_ok-held.ensures)
     ∙ length-singles (λ l. most_cost c.args.rows.now l) (length c.args.domain.now.links)
 
--- and it is what the rows cost of the link in a cycle at most
+-- and it is the most that the rows cost of the link in a cycle
 pub returns : goal.returns
 returns c =
     let d = c.args.domain.now in

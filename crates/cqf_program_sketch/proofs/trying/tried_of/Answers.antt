@@ -6,7 +6,7 @@ use Rattle.cqf_program_placing.specs.Settled.{settled_value}
 use Rattle.cqf_program_sketch.proofs.TriedLemmas.{length-placed}
 use Rattle.cqf_program_sketch.proofs.trying.tried_of.Goals as goal
 
--- something becomes of each stream
+-- each stream has an outcome
 pub candidate_of-requires-clause-each : goal.candidate_of-requires-clause-each
 candidate_of-requires-clause-each c =
     let placed = c.args.placing in

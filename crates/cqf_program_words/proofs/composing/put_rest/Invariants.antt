@@ -1,4 +1,4 @@
--- The texts so far stand behind the input.
+-- The texts so far are appended to the input.
 use Rattle.std.proofs.Common.{◌≡◌, ◌++◌, map, take}
 use Rattle.std.specs.List.{flat_map}
 use Rattle.cqf_program_words.specs.Composing.{text_behind}

@@ -1,4 +1,4 @@
--- The words so far stand as texts.
+-- The words so far are there as texts.
 use Rattle.std.proofs.Common.{◌≡◌, map, string_bytes, take}
 use Rattle.cqf_program_words.proofs.operands.operands_of.Given as goal
 

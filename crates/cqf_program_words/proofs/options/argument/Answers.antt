@@ -14,7 +14,7 @@ returns-in-Some-clause-rule c =
     c.value_parser.ensures.others told (given.1 ∙ ap (λ (p : ValueParser). Some p) given.2)
     ∙ ap (λ (q : Option ValueParser). with_parser_of q (option_rule c.args.option)) (sym c.in-Some.is ∙ c.numbers.ensures)
 
--- and where it needs to be no number
+-- and if it needn't be a number
 pub returns-in-None-clause-rule : goal.returns-in-None-clause-rule
 returns-in-None-clause-rule c =
     ap rule_of c.help-told.ensures ∙ c.bare_argument.ensures.rule

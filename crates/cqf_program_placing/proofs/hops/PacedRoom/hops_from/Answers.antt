@@ -18,7 +18,7 @@ loop-before-init c =
     let empty : List (Option ℕ) = replicate 1024 None in
     first_alone d.links room c.args.bridge 1024 (slice_set empty c.from.result (Some 0)) low (ap (λ (n : ℕ). slice_set empty n (Some 0)) c.from.ensures)
 
--- a round more
+-- one more round
 pub loop-before-preserved : goal.loop-before-preserved
 loop-before-preserved c =
     let d = c.args.self.domain.now in

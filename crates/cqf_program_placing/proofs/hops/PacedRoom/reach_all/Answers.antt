@@ -4,7 +4,7 @@ use Rattle.cqf_program_placing.specs.Hops.{AreReachedBy, has_room_behind}
 use Rattle.cqf_program_placing.proofs.HopLemmas.{one_more}
 use Rattle.cqf_program_placing.proofs.hops.PacedRoom.reach_all.Goals as goal
 
--- a link more
+-- one more link
 pub loop-link-preserved : goal.loop-link-preserved
 loop-link-preserved c =
     let d = c.args.self.domain.now in

@@ -1,4 +1,4 @@
--- Those so far are taken anew.
+-- Those so far are recomputed.
 use Rattle.cqf_model.specs.History.{held_in, seals}
 use Rattle.cqf_model.specs.Table.{links_in}
 use Rattle.cqf_program_placing.proofs.Known.{AreSoFar}
