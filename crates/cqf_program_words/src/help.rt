@@ -143,7 +143,7 @@ pub(crate) const CHECK_INPUT: &str =
 The status is 0 if no call is refused, at least one frame is offered, each is
 offered in a cycle that is run, none is dropped, and each is received by all its
 listeners within its stream's deadline. The output is then one line:
-  well: frames F, deliveries D, with a deadline W
+  ok: F frames, D deliveries, W with a deadline
 Otherwise the status is 1, and standard error has the first call that is
 refused, with its number among the calls (seals don't count) and its reason:
   cqf: check: call N, admit S by ADMINISTRATOR: refused REASON (or withdraw S)
