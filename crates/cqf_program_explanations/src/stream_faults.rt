@@ -479,7 +479,7 @@ fn stray_words(
     let (first, second) = (first.saturating_add(1), second.saturating_add(1));
     match stray {
         Stray::Begins(name, other) => format!(in alloc;
-            "path {second} begins at {name} and path {first} at {other}: give each a stream of its own of its own"
+            "path {second} begins at {name} and path {first} at {other}: give each a stream of its own"
         ),
         Stray::Same => format!(in alloc; "path {second} repeats path {first}"),
         Stray::Meets(name) => format!(in alloc;
