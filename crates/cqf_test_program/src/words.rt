@@ -386,27 +386,27 @@ const MISTAKES: &[(&[&str], &str)] = &[
     ),
     (
         &["port", "--until", "5", "--rate", "20"],
-        "cqf: words: --rate 20 is no rate: 10, 100, 1000, 2500, 5000, 10000, 25000, 40000 or 100000 (Mb/s)\n",
+        "cqf: words: --rate 20 isn't a rate: 10, 100, 1000, 2500, 5000, 10000, 25000, 40000 or 100000 (Mb/s)\n",
     ),
     (
         &["compile", "--format", "TC"],
-        "cqf: words: --format TC is no format: list, tc, env or json\n",
+        "cqf: words: --format TC isn't a format: list, tc, env or json\n",
     ),
     (
         &["compile", "--format", "env"],
-        "cqf: words: --format env wants its bridge: --bridge NAME\n",
+        "cqf: words: --format env needs a bridge: --bridge NAME\n",
     ),
     (
         &["compile", "--bridge", "a", "--software"],
-        "cqf: words: --bridge goes with --format env alone\n",
+        "cqf: words: --bridge is only for --format env\n",
     ),
     (
         &["compile", "--bridge", "A", "--format", "env"],
-        "cqf: words: --bridge A is no name: 1 to 32 of a to z, 0 to 9, - and _\n",
+        "cqf: words: --bridge A isn't a name: 1 to 32 of a to z, 0 to 9, - and _\n",
     ),
     (
         &["compile", "--bridge", "a", "--software", "--format", "env"],
-        "cqf: words: --software goes with --format tc alone\n",
+        "cqf: words: --software is only for --format tc\n",
     ),
 ];
 
