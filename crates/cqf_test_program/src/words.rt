@@ -519,7 +519,7 @@ const HELP: &[(&[&str], &str)] = &[
     (&["compile", "--help"], "Usage: cqf compile [OPTIONS]\n"),
     (
         &["compile", "--help"],
-        "cqf compile --format tc plant.toml\n",
+        "cqf compile --format tc plan.toml\n",
     ),
     (&["port", "--help"], "a gate list    80 120000\n"),
     (&["run", "--help"], "a script       0 admit x\n"),
@@ -542,7 +542,7 @@ const HELP: &[(&[&str], &str)] = &[
     ),
     (
         &["deliveries", "--help"],
-        "cqf deliveries --cycles 5 plant.toml calls.txt offers.csv\n",
+        "cqf deliveries --cycles 5 plan.toml calls.txt offers.csv\n",
     ),
     (
         &["check", "--help"],
@@ -552,16 +552,16 @@ const HELP: &[(&[&str], &str)] = &[
         &["check", "--help"],
         "cqf: check: unfinished, under way U, not run O\n",
     ),
-    (&["load", "--help"], "cqf load plant.toml\n"),
+    (&["load", "--help"], "cqf load plan.toml\n"),
     (&["latency", "--help"], "Usage: cqf latency [OPTIONS]\n"),
-    (&["latency", "--help"], "cqf latency --strict plant.toml\n"),
+    (&["latency", "--help"], "cqf latency --strict plan.toml\n"),
     (
         &["summary", "--help"],
         "Usage: cqf summary [OPTIONS] --cycles <N>\n",
     ),
     (
         &["summary", "--help"],
-        "cqf summary --cycles 5 plant.toml calls.txt offers.csv\n",
+        "cqf summary --cycles 5 plan.toml calls.txt offers.csv\n",
     ),
     (
         &["hops", "--help"],
@@ -569,10 +569,10 @@ const HELP: &[(&[&str], &str)] = &[
     ),
     (
         &["hops", "--help"],
-        "cqf hops --cycles 5 --stream x plant.toml calls.txt offers.csv\n",
+        "cqf hops --cycles 5 --stream x plan.toml calls.txt offers.csv\n",
     ),
     (&["plan", "--help"], "Usage: cqf plan [OPTIONS]\n"),
-    (&["plan", "--help"], "cqf plan sketch.toml\n"),
+    (&["plan", "--help"], "cqf plan network.toml\n"),
 ];
 
 #[test]
