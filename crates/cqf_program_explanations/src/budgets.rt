@@ -244,7 +244,7 @@ fn tell_held(
     );
     let (number, first) = (first.number.saturating_add(1), first.place_of("name"));
     told.tell(format!(in given.alloc;
-        "{place}: {label}: stream {number} at {first} has this name already"
+        "{place}: {label}: stream {number} at {first} already has this name"
     )?)
 }
 
@@ -258,7 +258,7 @@ fn tell_beyond(
     let most = Grouped(given.limits.streams_within() as u64);
     let larger = given.larger(LARGE.streams_within() as u64)?;
     told.tell(format!(in given.alloc;
-        "{place}: {label}: at most {most} streams are held at once{larger}"
+        "{place}: {label}: at most {most} streams can be held at once{larger}"
     )?)
 }
 

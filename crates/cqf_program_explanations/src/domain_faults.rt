@@ -39,7 +39,7 @@ fn tell_taken<'p>(
             }
             let (place, shown) = (found.place, shortened(given.alloc, name)?);
             told.tell(format!(in given.alloc;
-                "{place}: {key}: {shown} stands at {first} already"
+                "{place}: {key}: {shown} is already at {first}"
             )?)?;
         } else {
             firsts.insert(name, found.place)?;
@@ -161,7 +161,7 @@ fn tell_ends(
     }
     let (place, label) = (link.item.place_of("to"), link.item.label(given.alloc)?);
     told.tell(format!(in given.alloc;
-        "{place}: {label}: to: a link leads to another node than its from"
+        "{place}: {label}: to: a link's from and to are different nodes"
     )?)
 }
 
@@ -205,7 +205,7 @@ fn tell_twice(
     let (number, first_place) = (first.item.number, first.item.place());
     if !reads_sketch(given) || !is_duplex(link) && !is_duplex(first) {
         return told.tell(format!(in given.alloc;
-            "{place}: {label}: link {number} at {first_place} has these ends already"
+            "{place}: {label}: link {number} at {first_place} already has these ends"
         )?);
     }
     let (from, to) = (
@@ -214,7 +214,7 @@ fn tell_twice(
     );
     let earlier = both_ways(given, first)?;
     told.tell(format!(in given.alloc;
-        "{place}: {label}: {from}>{to} is one of {earlier} at {first_place} already"
+        "{place}: {label}: {from}>{to} is already one of {earlier} at {first_place}"
     )?)
 }
 
@@ -267,7 +267,7 @@ pub(crate) fn tell_two_talkers(
             let (place, label) = (link.item.place(), link.item.label(given.alloc)?);
             let (number, first) = (first.number, first.place());
             told.tell(format!(in given.alloc;
-                "{place}: {label}: {station} sends by link {number} at {first} already: a station has one talker's link"
+                "{place}: {label}: {station} already has link {number} at {first}: a station sends by one link"
             )?)?;
         } else {
             firsts.insert(station, link.item)?;
@@ -300,7 +300,7 @@ pub(crate) fn tell_guard_at(
         let (place, cycle) = (found.place, Grouped(cycle));
         let guard = Grouped(given.plant.number("guard"));
         told.tell(format!(in given.alloc;
-            "{place}: the guard time of {guard} ns isn't below the cycle time of {cycle} ns"
+            "{place}: the guard band of {guard} ns isn't shorter than the cycle time, {cycle} ns"
         )?)?;
     }
     Ok(())
@@ -333,7 +333,7 @@ pub(crate) fn tell_link_guards_at(
             let (place, label) = (link.item.place_of("guard"), link.item.label(given.alloc)?);
             let (guard, cycle) = (Grouped(link.guard), Grouped(cycle));
             told.tell(format!(in given.alloc;
-                "{place}: {label}: the guard time of {guard} ns isn't below the cycle time of {cycle} ns"
+                "{place}: {label}: the guard band of {guard} ns isn't shorter than the cycle time, {cycle} ns"
             )?)?;
         }
     }
@@ -344,11 +344,11 @@ pub(crate) fn tell_link_guards_at(
 fn delay_words(alloc: Global, delay: u64, sync: u64, guard: u64) -> Result<String, AllocError> {
     let (delay, guard) = (Grouped(delay), Grouped(guard));
     if sync == 0 {
-        return format!(in alloc; "a delay of {delay} ns isn't below the guard time of {guard} ns");
+        return format!(in alloc; "a delay of {delay} ns isn't shorter than the guard band, {guard} ns");
     }
     let sync = Grouped(sync);
     format!(in alloc;
-        "a delay of {delay} ns and clocks {sync} ns apart aren't below the guard time of {guard} ns"
+        "a delay of {delay} ns and a sync of {sync} ns together aren't shorter than the guard band, {guard} ns"
     )
 }
 
@@ -380,7 +380,7 @@ pub(crate) fn tell_gaps(given: &CommandInput<'_>, told: &mut ToldLines) -> Resul
             let (place, label) = (link.item.place_of("rate"), link.item.label(given.alloc)?);
             let (rate, gap, guard) = (link.rate, Grouped(gap), Grouped(link.guard));
             told.tell(format!(in given.alloc;
-                "{place}: {label}: the gap of 12 octets takes {gap} ns at {rate} Mb/s, more than the guard time of {guard} ns"
+                "{place}: {label}: the gap of 12 octets takes {gap} ns at {rate} Mb/s, more than the guard band, {guard} ns"
             )?)?;
         }
     }
@@ -399,7 +399,7 @@ pub(crate) fn tell_syncs(given: &CommandInput<'_>, told: &mut ToldLines) -> Resu
             let (shortest, least) = (Grouped(shortest), Grouped(link.least));
             let (sync, most) = (network.sync, Grouped(most));
             told.tell(format!(in given.alloc;
-                "{place}: {label}: sync = {sync}: a shortest frame takes {shortest} ns and the least delay is {least} ns, so at most {most}"
+                "{place}: {label}: sync = {sync}: the shortest frame takes {shortest} ns and the least delay is {least} ns, so sync is at most {most}"
             )?)?;
         }
     }
@@ -452,7 +452,7 @@ pub(crate) fn tell_too_many(
                 let (place, count, most) = (found.place, Grouped(count), Grouped(most));
                 let larger = given.larger(most_of(LARGE, key) as u64)?;
                 told.tell(format!(in given.alloc;
-                    "{place}: {count} {key}: a domain has at most {most}{larger}"
+                    "{place}: {count} {key}: a network has at most {most}{larger}"
                 )?)?;
             }
         }

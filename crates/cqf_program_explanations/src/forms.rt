@@ -20,27 +20,27 @@ const PATHS_FORM: &str = "paths is an array of paths, as [[\"a\", \"s\"], [\"a\"
 
 /// The form of how many cycles apart a stream is offered, in words.
 pub(crate) const EVERY_FORM: &str =
-    "every is how many cycles apart its frames are offered: a whole number that divides 80";
+    "every is the number of cycles between its own cycles: a whole number that divides 80";
 
 /// The form of the first of these cycles, in words.
 pub(crate) const PHASE_FORM: &str =
-    "phase is the first of the cycles in which its frames are offered: a whole number below every";
+    "phase is the first of its own cycles: a whole number below every";
 
 /// The form of a destination address, in words.
 const MAC_FORM: &str =
-    "a mac is six pairs of hexadecimal digits, as 01:00:5e:00:00:07, and one to which bridges forward: not 01:80:c2:00:00:00 to 0f, nor all 0";
+    "a mac is six pairs of hexadecimal digits, as 01:00:5e:00:00:07, and neither 01:80:c2:00:00:00 to 0f, which bridges don't forward, nor all 0";
 
 /// The form of what a bridge's port is called, in words.
 const INTERFACE_FORM: &str =
-    "an interface is 1 to 15 of letters, digits and . _ - @, a letter or a digit first";
+    "an interface is 1 to 15 letters, digits and . _ - @, and begins with a letter or digit";
 
 /// The form of the delays of a link, where there are two, in words.
 pub(crate) const DELAYS_FORM: &str =
-    "a delay is a whole number, 0 to 10,000,000 ns, or two, the least first";
+    "a delay is a whole number, 0 to 10,000,000 ns, or an array of the least and the greatest";
 
 /// The form of the cycle times of a network file, in words.
 pub(crate) const CYCLES_FORM: &str =
-    "a cycle time is a whole number, 10,000 to 10,000,000 ns, and a sketch may have an array of 1 to 1,000 of them";
+    "a cycle time is a whole number, 10,000 to 10,000,000 ns, or for plan an array of 1 to 1,000 of them";
 
 /// The form of a value.
 #[derive(Clone, Copy, Debug)]
@@ -88,11 +88,11 @@ fn form_of_top(key: &str) -> Option<(Form, &'static str)> {
         )),
         "guard" => Some((
             Form::Number(1, 10_000_000),
-            "a guard time is a whole number, 1 to 10,000,000 ns",
+            "a guard band is a whole number, 1 to 10,000,000 ns",
         )),
         "sync" => Some((
             Form::Number(0, 10_000_000),
-            "sync is how far any two clocks may be apart: a whole number, 0 to 10,000,000 ns",
+            "sync is the greatest difference of two clocks: a whole number, 0 to 10,000,000 ns",
         )),
         "bridges" => Some((Form::Names, "bridges is an array of one name or more")),
         "stations" => Some((Form::Names, "stations is an array of names")),

@@ -90,7 +90,7 @@ fn note_nanos(
     );
     let (place, label) = (item.place_of(key), item.label(given.alloc)?);
     told.tell(format!(in given.alloc;
-        "{place}: {label}: {key} = {value}: each {key} is below {below} ns; is it meant in microseconds?"
+        "{place}: {label}: {key} = {value}: each {key} is below {below} ns; is it in microseconds?"
     )?)
 }
 
@@ -159,7 +159,7 @@ fn note_talkers(given: &CommandInput<'_>, told: &mut ToldLines) -> Result<(), Al
         let (place, label) = (asked.item.place_of("from"), asked.item.label(given.alloc)?);
         let talker = shortened(given.alloc, talker)?;
         told.tell(format!(in given.alloc;
-            "{place}: {label}: {talker} is the talker and a listener too"
+            "{place}: {label}: {talker} is both the talker and a listener"
         )?)?;
     }
     Ok(())

@@ -15,10 +15,10 @@ fn taken_by(command: &str) -> &'static str {
         "port" => "a gate list and arrivals",
         "line" => "offers",
         "run" | "report" | "deliveries" | "check" | "summary" | "hops" => {
-            "a plant, calls, offers and background frames, if any"
+            "a plan, calls, offers and background frames, if any"
         }
-        "plan" => "a sketch, which is a domain and its streams",
-        _ => "a plant, which is a domain and its streams",
+        "plan" => "a network file, which is a domain and its streams",
+        _ => "a plan, which is a domain and its streams",
     }
 }
 

@@ -65,7 +65,7 @@ fn no_talker(alloc: Global, network: &Network<'_>, name: &str) -> Result<String,
     let shown = shortened(alloc, name)?;
     if network.is_node(name) {
         return format!(in alloc;
-            "the station {shown} has no talker's link: a link from it to a bridge"
+            "the station {shown} has no link to a bridge"
         );
     }
     let question = network.node_question(alloc, name)?;
@@ -140,7 +140,7 @@ fn tell_names_twice(given: &CommandInput<'_>, told: &mut ToldLines) -> Result<()
             let (place, label) = (item.place_of("name"), item.counted(given.alloc)?);
             let (number, first) = (first.number.saturating_add(1), first.place_of("name"));
             told.tell(format!(in given.alloc;
-                "{place}: {label}: stream {number} at {first} has this name already"
+                "{place}: {label}: stream {number} at {first} already has this name"
             )?)?;
         } else {
             firsts.insert(name, *item)?;
@@ -166,7 +166,7 @@ fn tell_too_soon(
         Grouped(item.number("deadline")),
     );
     told.tell(format!(in given.alloc;
-        "{place}: {label}: the talker's link {from}>{to} takes {taken} ns, and its deadline is {deadline}"
+        "{place}: {label}: a frame takes {taken} ns on the talker's link {from}>{to}, and its deadline is {deadline} ns"
     )?)
 }
 
@@ -205,7 +205,7 @@ fn tell_full(
     let left = Grouped(number_in(words.next()));
     let (place, label) = (item.place_of("to"), item.label(given.alloc)?);
     told.tell(format!(in given.alloc;
-        "{place}: {label} needs {cost} octets a cycle on a way to {listener}; on the shortest {link} has {left} left"
+        "{place}: {label} needs {cost} octets a cycle on a path to {listener}; on the shortest one {link} has {left} left"
     )?)
 }
 
@@ -221,11 +221,11 @@ fn tell_short(
     let (place, label) = (item.place(), item.label(given.alloc)?);
     if is_in_step(item) {
         return told.tell(format!(in given.alloc;
-            "{place}: {label} has no phase in which each of its links has room; in the best {link} has {left} octets a cycle left"
+            "{place}: {label} has no phase in which each of its links has room; in the best phase {link} has {left} octets a cycle left"
         )?);
     }
     told.tell(format!(in given.alloc;
-        "{place}: {label} needs more octets a cycle than the {left} that {link} of its path has left"
+        "{place}: {label} needs more octets a cycle than {link} of its path has left, {left}"
     )?)
 }
 
@@ -243,7 +243,7 @@ fn tell_late(
     let (most, deadline) = (Grouped(most), Grouped(deadline));
     let (place, label) = (item.place_of("deadline"), item.label(given.alloc)?);
     told.tell(format!(in given.alloc;
-        "{place}: {label}: a frame may take {most} ns from its edge bridge to {listener}, {over} more than the {deadline} that its deadline leaves"
+        "{place}: {label}: a frame takes up to {most} ns from its edge bridge to {listener}, {over} ns more than the {deadline} ns that its deadline leaves"
     )?)
 }
 
@@ -256,7 +256,7 @@ fn tell_no_way(
 ) -> Result<(), AllocError> {
     let (place, label) = (item.place_of("to"), item.label(given.alloc)?);
     told.tell(format!(in given.alloc;
-        "{place}: {label}: no links lead from its edge bridge to {listener}, 16 of them at most"
+        "{place}: {label}: no path of at most 16 links leads from its edge bridge to {listener}"
     )?)
 }
 
@@ -270,7 +270,7 @@ fn tell_wide(
     let most = Grouped(given.limits.hops_within() as u64);
     let larger = given.larger(LARGE.hops_within() as u64)?;
     told.tell(format!(in given.alloc;
-        "{place}: {label}: its ways have more than {most} links together{larger}: give some listeners a stream of their own"
+        "{place}: {label}: its paths have more than {most} links together{larger}: give some listeners a stream of their own"
     )?)
 }
 
@@ -307,7 +307,7 @@ fn step_words(
 ) -> Result<Option<(&'static str, String)>, AllocError> {
     let (alloc, sync) = (given.alloc, given.plant.number("sync"));
     if item.get("interval").is_none() {
-        let words = String::from_str(alloc, "there is no traffic to be in step with")?;
+        let words = String::from_str(alloc, "without traffic it can't be in step")?;
         return Ok(Some(("in-step", words)));
     }
     let interval = item.number("interval");
@@ -347,14 +347,14 @@ fn tell_out_of_step(
 /// Returns the words about an interval that isn't a whole number of cycles, in ns.
 fn uneven_words(alloc: Global, interval: u64, cycle: u64) -> Result<String, AllocError> {
     let (interval, cycle) = (Grouped(interval), Grouped(cycle));
-    format!(in alloc; "an interval of {interval} ns isn't whole cycles of {cycle} ns")
+    format!(in alloc; "an interval of {interval} ns isn't a multiple of the cycle time, {cycle} ns")
 }
 
 /// Returns the words about frames that may arrive so soon after a cycle's beginning that clocks differ by more, in ns.
 fn first_words(alloc: Global, first: u64, sync: u64) -> Result<String, AllocError> {
     let (first, sync) = (Grouped(first), Grouped(sync));
     format!(in alloc;
-        "its frames come from {first} ns behind a cycle's beginning on, and clocks are {sync} ns apart"
+        "its first frames arrive {first} ns after a cycle's start, and clocks differ by up to {sync} ns"
     )
 }
 
@@ -364,12 +364,12 @@ fn latest_words(alloc: Global, latest: u64, sync: u64, cycle: u64) -> Result<Str
     let (latest, cycle) = (Grouped(latest), Grouped(cycle));
     if sync == 0 {
         return format!(in alloc;
-            "its frames come up to {latest} ns behind a cycle's beginning, and a cycle takes {cycle} ns"
+            "its last frames arrive {latest} ns after a cycle's start, and a cycle is {cycle} ns long"
         );
     }
     let sync = Grouped(sync);
     format!(in alloc;
-        "its frames come up to {latest} ns behind a cycle's beginning by clocks {sync} ns apart, and a cycle takes {cycle} ns"
+        "its last frames arrive {latest} ns after a cycle's start by clocks that differ by {sync} ns, and a cycle is {cycle} ns long"
     )
 }
 
@@ -394,7 +394,7 @@ fn tell_unplaced(
             let most = Grouped(given.limits.streams_within() as u64);
             let larger = given.larger(LARGE.streams_within() as u64)?;
             told.tell(format!(in given.alloc;
-                "{place}: {label}: at most {most} streams are held at once{larger}"
+                "{place}: {label}: at most {most} streams can be held at once{larger}"
             )?)
         }
         _ => Ok(()),

@@ -39,7 +39,7 @@ fn is_known(kind: KeyOwner, key: &str) -> bool {
 fn unknown_words(alloc: Global, kind: KeyOwner, key: &str) -> Result<String, AllocError> {
     let shown = shortened(alloc, key)?;
     if kind != KeyOwner::Top && TOP.contains(&key) {
-        return format!(in alloc; "{shown}: keys of the plant stand before the first [[..]]");
+        return format!(in alloc; "{shown}: keys of the network come before the first [[..]]");
     }
     if let Some(meant) = nearest(alloc, key, known_keys(kind))? {
         return format!(in alloc; "{shown}: did you mean {meant}?");
@@ -216,7 +216,7 @@ pub(crate) fn tell_key_twice(
         };
         match first {
             Some(first) => {
-                told.tell(format!(in given.alloc; "{place}: {key} stands at {first} already")?)?;
+                told.tell(format!(in given.alloc; "{place}: {key} is already at {first}")?)?;
             }
             None => first = Some(place),
         }

@@ -127,15 +127,15 @@ fn has_twice(text: &[u8], byte: u8) -> bool {
 fn wrong_outside(line: &ScriptLine<'_>) -> Option<&'static str> {
     let text = line.text;
     if text.ends_with(b"\r") {
-        Some("CR before LF: lines end with LF alone, but in a calls file of its own")
+        Some("CR before LF: only a separate calls file has lines that end so")
     } else if text.is_empty() {
-        Some("the line is empty: empty lines stand in a calls file of its own")
+        Some("the line is empty: only a separate calls file has empty lines")
     } else if text.starts_with(b"#") {
-        Some("comments stand in a calls file of its own")
+        Some("only a separate calls file has comments")
     } else if text.starts_with(b"at,from,") {
-        Some("these are background frames: plant, calls, offers, background is the order")
+        Some("these are background frames: the order is plan, calls, offers, background")
     } else if text.starts_with(b"at,") {
-        Some("these are offers: plant, calls, offers, background is the order")
+        Some("these are offers: the order is plan, calls, offers, background")
     } else {
         wrong_between(line)
     }
@@ -148,16 +148,16 @@ fn wrong_between(line: &ScriptLine<'_>) -> Option<&'static str> {
         Some(if line.is_call {
             "a cycle is @ and a number up to 4,294,967,295, alone on the line"
         } else {
-            "cycles stand in a calls file of its own"
+            "only a separate calls file has cycles"
         })
     } else if text.starts_with(b" ") || text.starts_with(b"\t") {
-        Some("a blank at its beginning")
+        Some("a space at the beginning")
     } else if text.ends_with(b" ") || text.ends_with(b"\t") {
-        Some("a blank at its end")
+        Some("a space at the end")
     } else if text.contains(&b'\t') {
-        Some("a tab: words are divided by one blank")
+        Some("a tab: one space separates words")
     } else if has_twice(text, b' ') {
-        Some("two blanks: words are divided by one blank")
+        Some("two spaces: one space separates words")
     } else {
         None
     }
@@ -188,7 +188,7 @@ fn wrong_call(alloc: Global, seat: &[u8], verb: &[u8]) -> Result<String, AllocEr
         let question = question(alloc, verb.as_str(), &["admit", "withdraw"])?;
         format!(in alloc; "{verb}: a call is admit or withdraw{question}")
     } else {
-        String::from_str(alloc, "a stream is called by 1 to 64 printable characters")
+        String::from_str(alloc, "a stream's name in a call is 1 to 64 printable characters")
     }
 }
 
@@ -200,7 +200,7 @@ fn wrong_words(alloc: Global, text: &[u8]) -> Result<String, AllocError> {
         [verb, _] if is_verb(verb) => {
             String::from_str(
                 alloc,
-                "an administrator stands before a call, as in 0 admit NAME",
+                "an administrator comes before a call, as in 0 admit NAME",
             )
         }
         [first, ..] => {
@@ -241,7 +241,7 @@ fn wrong_of(
 ) -> Result<String, AllocError> {
     if cycle_of(line).is_some() {
         let reached = Grouped(counts.cycle);
-        return format!(in alloc; "cycle {reached} is reached already");
+        return format!(in alloc; "cycle {reached} is already reached");
     }
     match wrong_outside(line) {
         Some(words) => String::from_str(alloc, words),
@@ -335,8 +335,8 @@ pub(crate) fn tell_unknown_offer(
     }
     let question = question(given.alloc, name, names.as_slice())?;
     let line = match place_of_offer(given, number)? {
-        Some(place) => format!(in given.alloc; "{place}: no stream {name} in the plant{question}")?,
-        None => format!(in given.alloc; "no stream {name} in the plant{question}")?,
+        Some(place) => format!(in given.alloc; "{place}: no stream {name} in the plan{question}")?,
+        None => format!(in given.alloc; "no stream {name} in the plan{question}")?,
     };
     told.tell(line)
 }
@@ -368,7 +368,7 @@ pub(crate) fn tell_too_many_lines(
     let line = if counts.calls > MOST_CALLS {
         format!(in given.alloc; "{place}: {calls} calls: a script has at most 100,000")?
     } else {
-        format!(in given.alloc; "{place}: {seals} lines seal, and {cycles} cycles are run")?
+        format!(in given.alloc; "{place}: {seals} lines are seal, and {cycles} cycles are run")?
     };
     told.tell(line)
 }

@@ -463,7 +463,7 @@ fn tell_loops(
         };
         if !told.is_counted() {
             told.tell(format!(in given.alloc;
-                "{place}: {label}: {name} is node {second} of the path, and stood before as node {first}"
+                "{place}: {label}: {name} is node {second} of the path, and was node {first} before"
             )?)?;
         }
     }
@@ -480,11 +480,11 @@ fn stray_words(
     let (first, second) = (first.saturating_add(1), second.saturating_add(1));
     match stray {
         Stray::Begins(name, other) => format!(in alloc;
-            "path {second} begins at {name} and path {first} at {other}: give each a stream"
+            "path {second} begins at {name} and path {first} at {other}: give each a stream of its own"
         ),
-        Stray::Same => format!(in alloc; "path {second} is path {first} again"),
+        Stray::Same => format!(in alloc; "path {second} repeats path {first}"),
         Stray::Meets(name) => format!(in alloc;
-            "{name} is reached in two ways, by paths {first} and {second}: give each way a stream"
+            "{name} is reached by two paths, {first} and {second}: give each a stream of its own"
         ),
     }
 }
@@ -595,7 +595,7 @@ fn tell_gate_twice(
         "without x-gate its gate is"
     };
     told.tell(format!(in given.alloc;
-        "{place}: {label}: {own} {gate}: stream {number} at {first} has this gate already"
+        "{place}: {label}: {own} {gate}: stream {number} at {first} already has this gate"
     )?)
 }
 

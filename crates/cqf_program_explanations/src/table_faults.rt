@@ -174,13 +174,13 @@ fn header_words(text: &[u8], table: InputTable) -> &'static str {
         _ => InputTable::Background,
     };
     if text.starts_with(b"\xEF\xBB\xBF") {
-        "; a byte order mark stands before it"
+        "; a byte order mark comes before it"
     } else if !text.contains(&b',') && text.contains(&b';') {
-        "; fields are divided by commas, not by ;"
+        "; commas separate fields, not ;"
     } else if !text.contains(&b',') && text.contains(&b'\t') {
-        "; fields are divided by commas, not by tabs"
+        "; commas separate fields, not tabs"
     } else if text == other.header().as_bytes() {
-        "; plant, calls, offers, background is the order"
+        "; the order is plan, calls, offers, background"
     } else {
         ""
     }
@@ -201,7 +201,7 @@ fn tell_header(
             line: None,
         };
         return told.tell(format!(in given.alloc;
-            "{place}: there is no line: the header is {header}"
+            "{place}: the table is empty: its header is {header}"
         )?);
     };
     let (place, text) = (first.place, shown(given.alloc, first.text)?);
@@ -300,7 +300,7 @@ fn count_words(
 ) -> Result<String, AllocError> {
     let (text, owed, header) = (shown(alloc, text)?, table.columns().len(), table.header());
     let noun = if count == 1 { "field" } else { "fields" };
-    format!(in alloc; "{text}: {count} {noun}, and {owed} are owed: {header}")
+    format!(in alloc; "{text}: {count} {noun} in place of {owed}: {header}")
 }
 
 /// Returns what is wrong with a row, in words.
@@ -390,7 +390,7 @@ fn tell_order(
         if instant < before && !told.is_counted() {
             let (place, at, earlier) = (record.place, Grouped(instant), Grouped(before));
             told.tell(format!(in given.alloc;
-                "{place}: {at} ns stands behind {earlier} ns; sort -s -t, -k1,1n brings rows in order"
+                "{place}: {at} ns comes after {earlier} ns; sort -s -t, -k1,1n puts rows in order"
             )?)?;
         }
         before = instant;

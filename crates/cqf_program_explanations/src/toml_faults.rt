@@ -113,7 +113,7 @@ fn tell_no_toml(
     if let Some(other) = other_text(file.part.text) {
         let place = file.at(None);
         return told.tell(format!(in given.alloc;
-            "{place}: this looks like {other}: the plant comes first"
+            "{place}: this looks like {other}: the network file comes first"
         )?);
     }
     let start = match error.span() {
@@ -127,7 +127,7 @@ fn tell_no_toml(
         Some((key, first)) if message.starts_with("duplicate") => {
             let key = shown(given.alloc, key)?;
             format!(in given.alloc;
-                "{place}:{column}: {message}: {key} stands in line {first} already"
+                "{place}:{column}: {message}: {key} is already in line {first}"
             )?
         }
         _ => format!(in given.alloc; "{place}:{column}: {message}")?,
@@ -166,7 +166,7 @@ fn tell_misplaced(
             }
             let (place, label) = (item.place_of(key), item.label(given.alloc)?);
             told.tell(format!(in given.alloc;
-                "{place}: {key} stands in {label}: keys of the plant stand before the first [[..]]"
+                "{place}: {key} is in {label}: keys of the network come before the first [[..]]"
             )?)?;
         }
     }
@@ -315,7 +315,7 @@ fn unit_question(given: &CommandInput<'_>, key: &str, value: &Value) -> Result<S
     }
     match value.as_integer() {
         Some(number) if key == "cycle" && (10..=10_000).contains(&number) => {
-            format!(in given.alloc; "; is {number} meant as microseconds?")
+            format!(in given.alloc; "; is {number} in microseconds?")
         }
         _ => Ok(String::new(given.alloc)),
     }
@@ -362,7 +362,7 @@ fn tell_bad_names(
         Some(found) if names.is_empty() && key == "bridges" && found.value.is_array() => {
             let place = found.place;
             told.tell(format!(in given.alloc;
-                "{place}: bridges = []: a plant has at least one bridge"
+                "{place}: bridges = []: a network has at least one bridge"
             )?)
         }
         _ => Ok(()),

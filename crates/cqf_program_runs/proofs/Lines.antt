@@ -15,13 +15,15 @@ pub none_come_told : (enough : List ℕ) →
 none_come_told enough = ap (λ t. codes "cqf: check: no frame; " ++ t) (sym (append_assoc enough (codes " cycles would do") (10 ∷ [])))
 
 pub well_told : (frames delivered timed : List ℕ) →
-    codes "well: frames " ++ (frames ++ (codes ", deliveries " ++ (delivered ++ (codes ", with a deadline " ++ (timed ++ 10 ∷ [])))))
-    ≡ line_of (codes "well: frames " ++ (frames ++ (codes ", deliveries " ++ (delivered ++ (codes ", with a deadline " ++ timed)))))
+    codes "ok: " ++ (frames ++ (codes " frames, " ++ (delivered ++ (codes " deliveries, " ++ (timed ++ codes " with a deadline\n")))))
+    ≡ line_of (codes "ok: " ++ (frames ++ (codes " frames, " ++ (delivered ++ (codes " deliveries, " ++ (timed ++ codes " with a deadline"))))))
 well_told frames delivered timed =
-    let last = codes ", with a deadline " ++ timed in
-    ap (λ t. codes "well: frames " ++ t)
-    (sym (append_assoc frames (codes ", deliveries " ++ (delivered ++ last)) (10 ∷ [])
-    ∙ ap (λ t. frames ++ (codes ", deliveries " ++ t)) (append_assoc delivered last (10 ∷ []))))
+    let last = codes " with a deadline" in
+    let some = codes " deliveries, " ++ (timed ++ last) in
+    ap (λ t. codes "ok: " ++ t)
+    (sym (append_assoc frames (codes " frames, " ++ (delivered ++ some)) (10 ∷ [])
+    ∙ ap (λ t. frames ++ (codes " frames, " ++ t))
+    (append_assoc delivered some (10 ∷ []) ∙ ap (λ t. delivered ++ (codes " deliveries, " ++ t)) (append_assoc timed last (10 ∷ [])))))
 
 -- and after the text about a delivery
 pub complaint_told : (frame stream bridge at complaint : List ℕ) →

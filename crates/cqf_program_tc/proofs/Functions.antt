@@ -271,7 +271,7 @@ module _ (d : Domain) (software : Bool) (gates : ℕ → ℕ) (rows : List Row) 
 -- the lines of the function that sets a gate by a list
 abbrev lines_of_by_list : Bool → List (List ℕ)
 lines_of_by_list software =
-    codes "# stream gate $2 at the interface $1: address $3, VLAN $4, and behind these the entries of its list" ∷ codes "gate_by_list() {"
+    codes "# stream gate $2 at the interface $1: address $3, VLAN $4, and then the entries of its list" ∷ codes "gate_by_list() {"
     ∷ (by_list_lines software ++ (codes "}" ∷ [] ∷ []))
 
 by_list_reads : (software : Bool) → Reads (by_list_text software) (lines_of_by_list software)

@@ -15,7 +15,7 @@ jump_text =
     codes "# where CHAIN isn't 0, a filter of chain 0 at the interface $2, which is $1, has to go on to it\njump() {\n"
     ++ (codes "    if [ \"$chain\" = 0 ] || [ \"$tc\" = echo ]; then return 0; fi\n"
     ++ (codes "    $tc filter show dev \"$2\" ingress chain 0 2>/dev/null | grep -Eq \"goto chain $chain( |\\$)\" ||\n"
-    ++ codes "        refuse \"$1: no filter of chain 0 at $2 has goto chain $chain, so no frame would come to a gate: add one\"\n}\n\n"))
+    ++ codes "        refuse \"$1: no filter of chain 0 at $2 has goto chain $chain, so no frame would reach a gate: add one\"\n}\n\n"))
 
 -- an interface is given, exists, and leads to one node
 abbrev pub port_text : List ℕ

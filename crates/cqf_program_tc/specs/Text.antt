@@ -25,14 +25,14 @@ abbrev pub usage_text : Domain → List Row → List ℕ
 usage_text d rows =
     codes "#!/bin/sh\n# Written by cqf compile --format tc. Each bridge runs it as root with its own name as the only argument, its links up and\n"
     ++ (codes "# its clock in step with the others'.\n"
-    ++ (codes "#   OUT_A_B   the interface by which the link from A to B leaves A, and IN_A_B the one by which it comes to B\n"
-    ++ (codes "#   TALKER_S  the interface at which stream S comes from its talker, where it begins at that bridge\n"
+    ++ (codes "#   OUT_A_B   the interface of A where the link from A to B begins, and IN_A_B the one of B where it ends\n"
+    ++ (codes "#   TALKER_S  the interface that receives stream S from its talker, if S begins at that bridge\n"
     ++ (codes "#   MAC_S and VLAN_S   the destination address and the VLAN of the frames of stream S, which the talker has to tag\n"
     ++ (codes "#   BASE      an instant of the PTP clock in ns, the same at each bridge: the lists begin at the first multiple of "
     ++ (multiple d rows
-    ++ (codes " at or\n#             after it, which is told. An even cycle begins there\n"
+    ++ (codes " at or\n#             after it, which the script prints. An even cycle begins there\n"
     ++ (codes "#   TC, IP and CHAIN   may be set: commands in place of tc and ip, the filter chain of the gates. TC=echo shows what would be\n"
-    ++ (codes "#             done, and interfaces are then looked for only where IP is set\n"
+    ++ (codes "#             done; interfaces are then looked up only if IP is set\n"
     ++ (codes "# A variable has _ for each - of a name. Where an earlier link or stream has the same, _N and the own number follow, as in\n"
     ++ (codes "# OUT_A_B_N7; each variable is explained where it is used.\n"
     ++ (codes "# An interface has one neighbour. So OUT_A_B and IN_B_A may be the same, TALKER_R and TALKER_S where one talker has both\n"
@@ -44,11 +44,11 @@ usage_text d rows =
 abbrev pub offload_notes : List ℕ
 offload_notes =
     codes "# A gate in software doesn't give frames the class in its list (IPV), so the filters are for hardware alone (skip_sw). Where\n"
-    ++ codes "# an interface can't offload taprio, the script fails, and nothing that it has set is left behind.\n"
+    ++ codes "# an interface can't offload taprio, the script fails, and it undoes what it has set.\n"
 
 abbrev pub software_notes : List ℕ
 software_notes =
-    codes "# A gate in software doesn't give frames the class in its list (IPV), so a program in front of each gate does, by the cycle. It\n"
+    codes "# A gate in software doesn't give frames the class in its list (IPV), so a program before each gate does, by the cycle. It\n"
     ++ codes "# needs Linux 6.1, a little-endian machine and a tc with libbpf, and the interfaces need eight transmit queues.\n"
 
 abbrev pub notes_text : Bool → List ℕ
@@ -132,7 +132,7 @@ last_gate d = if nat_le (streams_within d.limits) 1024 then codes "1024" else co
 abbrev pub old_gates_text : List ℕ → List ℕ
 old_gates_text last =
     codes "# the stream gates of an earlier plan at the interface $1, a line each, in words of tc: the filters whose action is a gate, alone or\n"
-    ++ (codes "# behind a program of bpf, and whose pref is the gate's index, 1 to "
+    ++ (codes "# after a program of bpf, and whose pref is the gate's index, 1 to "
     ++ (last
     ++ (codes "\nold_gates() {\n"
     ++ (codes "    $tc filter show dev \"$1\" ingress chain \"$chain\" 2>/dev/null | awk '\n        function tell() {\n"
@@ -199,7 +199,7 @@ by_list_lines software =
 
 abbrev pub by_list_text : Bool → List ℕ
 by_list_text software =
-    codes "# stream gate $2 at the interface $1: address $3, VLAN $4, and behind these the entries of its list\ngate_by_list() {\n"
+    codes "# stream gate $2 at the interface $1: address $3, VLAN $4, and then the entries of its list\ngate_by_list() {\n"
     ++ (codes "    gate_at=$1 gate_no=$2 gate_mac=$3 gate_vlan=$4\n    shift 4\n"
     ++ (by_list_command software
     ++ codes "\n    undo=\"filter del dev $gate_at ingress chain $chain protocol 802.1Q pref $gate_no handle $gate_no flower/$undo\"\n}\n\n"))

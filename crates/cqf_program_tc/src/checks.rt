@@ -29,7 +29,7 @@ fn put_jump<W: Sink>(press: &mut Press<'_, W>)
         b"    $tc filter show dev \"$2\" ingress chain 0 2>/dev/null | grep -Eq \"goto chain $chain( |\\$)\" ||\n",
     );
     press.put(
-        b"        refuse \"$1: no filter of chain 0 at $2 has goto chain $chain, so no frame would come to a gate: add one\"\n}\n\n",
+        b"        refuse \"$1: no filter of chain 0 at $2 has goto chain $chain, so no frame would reach a gate: add one\"\n}\n\n",
     );
 }
 

@@ -34,10 +34,10 @@ pub(crate) fn put_usage<W: Sink>(press: &mut Press<'_, W>, domain: &Domain, rows
     );
     press.put(b"# its clock in step with the others'.\n");
     press.put(
-        b"#   OUT_A_B   the interface by which the link from A to B leaves A, and IN_A_B the one by which it comes to B\n",
+        b"#   OUT_A_B   the interface of A where the link from A to B begins, and IN_A_B the one of B where it ends\n",
     );
     press.put(
-        b"#   TALKER_S  the interface at which stream S comes from its talker, where it begins at that bridge\n",
+        b"#   TALKER_S  the interface that receives stream S from its talker, if S begins at that bridge\n",
     );
     press.put(
         b"#   MAC_S and VLAN_S   the destination address and the VLAN of the frames of stream S, which the talker has to tag\n",
@@ -46,11 +46,11 @@ pub(crate) fn put_usage<W: Sink>(press: &mut Press<'_, W>, domain: &Domain, rows
         b"#   BASE      an instant of the PTP clock in ns, the same at each bridge: the lists begin at the first multiple of ",
     );
     put_multiple(press, domain, rows);
-    press.put(b" at or\n#             after it, which is told. An even cycle begins there\n");
+    press.put(b" at or\n#             after it, which the script prints. An even cycle begins there\n");
     press.put(
         b"#   TC, IP and CHAIN   may be set: commands in place of tc and ip, the filter chain of the gates. TC=echo shows what would be\n",
     );
-    press.put(b"#             done, and interfaces are then looked for only where IP is set\n");
+    press.put(b"#             done; interfaces are then looked up only if IP is set\n");
     press.put(
         b"# A variable has _ for each - of a name. Where an earlier link or stream has the same, _N and the own number follow, as in\n",
     );
@@ -75,7 +75,7 @@ fn put_offload_notes<W: Sink>(press: &mut Press<'_, W>)
         b"# A gate in software doesn't give frames the class in its list (IPV), so the filters are for hardware alone (skip_sw). Where\n",
     );
     press.put(
-        b"# an interface can't offload taprio, the script fails, and nothing that it has set is left behind.\n",
+        b"# an interface can't offload taprio, the script fails, and it undoes what it has set.\n",
     );
 }
 
@@ -84,7 +84,7 @@ fn put_software_notes<W: Sink>(press: &mut Press<'_, W>)
     ensures { Puts W.contents press.old press.new software_notes }
 {
     press.put(
-        b"# A gate in software doesn't give frames the class in its list (IPV), so a program in front of each gate does, by the cycle. It\n",
+        b"# A gate in software doesn't give frames the class in its list (IPV), so a program before each gate does, by the cycle. It\n",
     );
     press.put(
         b"# needs Linux 6.1, a little-endian machine and a tc with libbpf, and the interfaces need eight transmit queues.\n",
@@ -275,7 +275,7 @@ pub(crate) fn put_old_gates_function<W: Sink>(press: &mut Press<'_, W>, domain: 
     press.put(
         b"# the stream gates of an earlier plan at the interface $1, a line each, in words of tc: the filters whose action is a gate, alone or\n",
     );
-    press.put(b"# behind a program of bpf, and whose pref is the gate's index, 1 to ");
+    press.put(b"# after a program of bpf, and whose pref is the gate's index, 1 to ");
     press.put(last);
     press.put(b"\nold_gates() {\n");
     press.put(

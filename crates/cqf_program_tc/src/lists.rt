@@ -130,7 +130,7 @@ fn put_by_list<W: Sink>(press: &mut Press<'_, W>, software: bool)
     ensures { Puts W.contents press.old press.new (by_list_text software) }
 {
     press.put(
-        b"# stream gate $2 at the interface $1: address $3, VLAN $4, and behind these the entries of its list\ngate_by_list() {\n",
+        b"# stream gate $2 at the interface $1: address $3, VLAN $4, and then the entries of its list\ngate_by_list() {\n",
     );
     press.put(b"    gate_at=$1 gate_no=$2 gate_mac=$3 gate_vlan=$4\n    shift 4\n");
     put_by_list_command(press, software);

@@ -14,12 +14,12 @@ value_of option rows = unwrap_or (first_of option rows) []
 
 -- the line of `port`, if the rate isn't one of the nine
 abbrev pub mistake_of_rate : Text → Text
-mistake_of_rate rate = codes "--rate " ++ (rate ++ codes " is no rate: 10, 100, 1000, 2500, 5000, 10000, 25000, 40000 or 100000 (Mb/s)")
+mistake_of_rate rate = codes "--rate " ++ (rate ++ codes " isn't a rate: 10, 100, 1000, 2500, 5000, 10000, 25000, 40000 or 100000 (Mb/s)")
 
 -- the line of `plan`, if the word names no candidates
 abbrev pub mistake_of_candidates : Text → Text
 mistake_of_candidates word = codes "--cycle "
-    ++ (word ++ codes " names no candidates: N, or FROM..TO/STEP with FROM up to TO and at most 1000 of them, in ns, 10000 to 10000000")
+    ++ (word ++ codes " gives no cycle times: N, or FROM..TO/STEP with FROM up to TO and at most 1000 of them, in ns, 10000 to 10000000")
 
 -- the line of `compile`: the format isn't one of the four; the bridge of `env` isn't given, or not by a name; a bridge is given for another
 -- format; or else an option that is for `tc` alone is given for another format
@@ -27,27 +27,27 @@ abbrev pub is_form : Text → Bool
 is_form format = bytes_eq format (codes "list") || (bytes_eq format (codes "tc") || (bytes_eq format (codes "env") || bytes_eq format (codes "json")))
 
 abbrev pub mistake_of_env : Option Text → Text
-mistake_of_env None = codes "--format env wants its bridge: --bridge NAME"
+mistake_of_env None = codes "--format env needs a bridge: --bridge NAME"
 mistake_of_env (Some bridge) = if is_name bridge
-    then codes "--software goes with --format tc alone"
-    else codes "--bridge " ++ (bridge ++ codes " is no name: 1 to 32 of a to z, 0 to 9, - and _")
+    then codes "--software is only for --format tc"
+    else codes "--bridge " ++ (bridge ++ codes " isn't a name: 1 to 32 of a to z, 0 to 9, - and _")
 
 abbrev pub mistake_of_others : Option Text → Text
-mistake_of_others None = codes "--software goes with --format tc alone"
-mistake_of_others (Some bridge) = codes "--bridge goes with --format env alone"
+mistake_of_others None = codes "--software is only for --format tc"
+mistake_of_others (Some bridge) = codes "--bridge is only for --format env"
 
 abbrev pub mistake_of_format : Text → Option Text → Text
 mistake_of_format format bridge = if is_form format
     then (if bytes_eq format (codes "env") then mistake_of_env bridge else mistake_of_others bridge)
-    else codes "--format " ++ (format ++ codes " is no format: list, tc, env or json")
+    else codes "--format " ++ (format ++ codes " isn't a format: list, tc, env or json")
 
 -- the line of a command, by its name and its values. No other command has values that clap takes and that are wrong
 abbrev pub mistake_in : Text → List Row → Text
 mistake_in name rows = if bytes_eq name (codes "port") then mistake_of_rate (value_of (codes "rate") rows)
     else (if bytes_eq name (codes "plan") then mistake_of_candidates (value_of (codes "cycle") rows)
     else (if bytes_eq name (codes "compile") then mistake_of_format (value_of (codes "format") rows) (first_of (codes "bridge") rows)
-    else codes "a value is not one that the command takes"))
+    else codes "the command doesn't take one of the values"))
 
 abbrev pub mistake_of : Option (Text × List Row) → Text
-mistake_of None = codes "a command is wanted"
+mistake_of None = codes "a command is needed"
 mistake_of (Some command) = mistake_in command.0 command.1

@@ -28,10 +28,10 @@ pub record Lengthens (old new : List ℕ) : Type 0 where
 
 -- how the line begins if the first line of the input isn't a command, and if the words aren't one
 abbrev pub no_command : List ℕ
-no_command = codes "cqf: the first line of the input is no command: "
+no_command = codes "cqf: the first line of the input isn't a command: "
 
 abbrev pub no_words : List ℕ
-no_words = codes "cqf: the words are no command:"
+no_words = codes "cqf: the words aren't a command:"
 
 -- a line that begins so, and shows something after that
 pub record ShowsBehind (start text : List ℕ) : Type 0 where

@@ -135,20 +135,20 @@ impl Subcommand {
             Subcommand::Port => "the starts of one output port",
             Subcommand::Line => "the book of one bridge with one stream",
             Subcommand::Compile => "the gate lists and stream gates of a domain and its streams",
-            Subcommand::Load => "what each link holds and has left",
-            Subcommand::Latency => "how long the frames of each stream take to each listener",
+            Subcommand::Load => "what streams hold of each link, and what is left",
+            Subcommand::Latency => "bounds of the latency of each stream to each listener",
             Subcommand::Run =>
                 "the history and the book of a domain, its streams, a script and offers",
             Subcommand::Report => "what each link carries in a run",
             Subcommand::Deliveries =>
-                "what becomes of each offered frame of a run, at each listener",
+                "the fate of each offered frame of a run, at each listener",
             Subcommand::Check =>
-                "whether all offered frames of a run come to their listeners, in time",
+                "whether all offered frames of a run are delivered in time",
             Subcommand::Summary =>
-                "how the frames of each stream of a run fare to each of its listeners",
+                "the deliveries, drops and latencies of each stream in a run",
             Subcommand::Hops => "the book of a run by frame: when each is on which link",
-            Subcommand::Offers => "what the streams of a plant offer",
-            Subcommand::Plan => "a plant for a sketch: its cycle time, and the way of each stream",
+            Subcommand::Offers => "the offers that the streams of a plan make",
+            Subcommand::Plan => "a plan of a network: its cycle time, paths and reservations",
         }
     }
 

@@ -29,7 +29,7 @@ fn mistake_of_rate(rate: &str) -> Mistake<'_>
     (
         "--rate ",
         rate,
-        " is no rate: 10, 100, 1000, 2500, 5000, 10000, 25000, 40000 or 100000 (Mb/s)",
+        " isn't a rate: 10, 100, 1000, 2500, 5000, 10000, 25000, 40000 or 100000 (Mb/s)",
     )
 }
 
@@ -40,7 +40,7 @@ fn mistake_of_candidates(word: &str) -> Mistake<'_>
     (
         "--cycle ",
         word,
-        " names no candidates: N, or FROM..TO/STEP with FROM up to TO and at most 1000 of them, in ns, 10000 to 10000000",
+        " gives no cycle times: N, or FROM..TO/STEP with FROM up to TO and at most 1000 of them, in ns, 10000 to 10000000",
     )
 }
 
@@ -66,12 +66,12 @@ fn mistake_of_env(bridge: Option<&str>) -> Mistake<'_>
     ensures { told_of result ≡ mistake_of_env (option_map (λ text. text.now) bridge.entry) }
 {
     match bridge {
-        None => ("--format env wants its bridge: --bridge NAME", "", ""),
-        Some(bridge) if is_name(bridge) => ("--software goes with --format tc alone", "", ""),
+        None => ("--format env needs a bridge: --bridge NAME", "", ""),
+        Some(bridge) if is_name(bridge) => ("--software is only for --format tc", "", ""),
         Some(bridge) => (
             "--bridge ",
             bridge,
-            " is no name: 1 to 32 of a to z, 0 to 9, - and _",
+            " isn't a name: 1 to 32 of a to z, 0 to 9, - and _",
         ),
     }
 }
@@ -81,8 +81,8 @@ fn mistake_of_others(bridge: Option<&str>) -> &'static str
     ensures { result.now ≡ mistake_of_others (option_map (λ text. text.now) bridge.entry) }
 {
     match bridge {
-        None => "--software goes with --format tc alone",
-        Some(_) => "--bridge goes with --format env alone",
+        None => "--software is only for --format tc",
+        Some(_) => "--bridge is only for --format env",
     }
 }
 
@@ -91,7 +91,7 @@ fn mistake_of_format<'v>(format: &'v str, bridge: Option<&'v str>) -> Mistake<'v
     ensures { told_of result ≡ mistake_of_format format.now (option_map (λ text. text.now) bridge.entry) }
 {
     if !is_form(format) {
-        return ("--format ", format, " is no format: list, tc, env or json");
+        return ("--format ", format, " isn't a format: list, tc, env or json");
     }
     if format == "env" {
         mistake_of_env(bridge)
@@ -113,7 +113,7 @@ fn mistake_in<'v>(name: &str, values: &ArgMatches<'v>) -> Mistake<'v>
     if name == "compile" {
         return mistake_of_format(value_of(values, "format"), text_of(values, "bridge"));
     }
-    ("a value is not one that the command takes", "", "")
+    ("the command doesn't take one of the values", "", "")
 }
 
 /// Returns the line of the command that was named.
@@ -122,6 +122,6 @@ pub(crate) fn mistake_of<'v>(matches: &ArgMatches<'v>) -> Mistake<'v>
 {
     match matches.subcommand() {
         Some((name, values)) => mistake_in(name, values),
-        None => ("a command is wanted", "", ""),
+        None => ("a command is needed", "", ""),
     }
 }

@@ -154,13 +154,13 @@ fn is_standard_twice(files: &[&str]) -> bool
 pub fn check_files(alloc: Global, files: &[&str]) -> Result<(), Stop>
     ensures ok { OnOk result (is_standard_twice (map (λ file. file.now) files.now) ≡ false) }
     ensures twice { OnErr result (is_standard_twice (map (λ file. file.now) files.now) ≡ true) }
-    ensures err { IfErr result (EndsWith 2 (line_of (codes "cqf: words: - is named twice: standard input is read once"))) }
+    ensures err { IfErr result (EndsWith 2 (line_of (codes "cqf: words: - is named twice: standard input can be read only once"))) }
 {
     if is_standard_twice(files) {
         return Err(Stop::with_line(
             alloc,
             USAGE,
-            "cqf: words: - is named twice: standard input is read once\n",
+            "cqf: words: - is named twice: standard input can be read only once\n",
         ));
     }
     Ok(())

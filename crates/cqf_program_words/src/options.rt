@@ -142,18 +142,18 @@ impl CommandOption {
             CommandOption::Cycles => "the number of cycles, 1 to 100000",
             CommandOption::Format => "the form of the output: list, tc, env or json",
             CommandOption::Bridge => "the bridge whose variables are written, with --format env",
-            CommandOption::Seed => "how blocks are late by chance, 0 to 4294967295",
+            CommandOption::Seed => "makes frames late at random, 0 to 4294967295",
             CommandOption::Stream => "only frames of this stream",
             CommandOption::Frame if is_large => "only this frame, 1 to 10000000",
             CommandOption::Frame => "only this frame, 1 to 1000000",
-            CommandOption::Cycle => "the candidates for the cycle time in ns: N or FROM..TO/STEP",
-            CommandOption::Strict => "status 1 where a deadline isn't kept for sure",
+            CommandOption::Cycle => "cycle times to try, in ns: N or FROM..TO/STEP",
+            CommandOption::Strict => "status 1 unless each deadline is kept for certain",
             CommandOption::Threads =>
                 "a thread for each bridge and each administrator of the script",
-            CommandOption::Table => "a line for each candidate in place of a plant",
+            CommandOption::Table => "a line for each cycle time in place of a plan",
             CommandOption::Software =>
-                "gates in Linux itself in place of hardware, with --format tc",
-            CommandOption::Large => "a plant of up to 1024 bridges, 4096 links and 16384 streams",
+                "gates in Linux itself, not in hardware, with --format tc",
+            CommandOption::Large => "a network of up to 1024 bridges, 4096 links and 16384 streams",
         }
     }
 

@@ -73,7 +73,7 @@ fn show_front(line: &mut String, text: &str) -> Result<(), Memory>
 fn line_of_text(alloc: Global, text: &str) -> Result<String, Memory>
     ensures { IfOk result (λ line. ShowsBehind no_command (string_bytes line)) }
 {
-    let mut line = String::from_str(alloc, "cqf: the first line of the input is no command: ")?;
+    let mut line = String::from_str(alloc, "cqf: the first line of the input isn't a command: ")?;
     show_front(&mut line, text)?;
     line.push('\n')?;
     Ok(line)
@@ -137,7 +137,7 @@ fn are_printable(words: &[&str]) -> bool
 fn line_of_words(alloc: Global, words: &[&str]) -> Result<String, Memory>
     ensures { IfOk result (λ line. ShowsBehind no_words (string_bytes line)) }
 {
-    let mut line = String::from_str(alloc, "cqf: the words are no command:")?;
+    let mut line = String::from_str(alloc, "cqf: the words aren't a command:")?;
     for word in words {
         line.push(' ')?;
         show_front(&mut line, word)?;

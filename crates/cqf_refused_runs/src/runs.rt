@@ -32,7 +32,7 @@ macro_rules! trials {
             "Desk::admit" => crate::desks::admit_told($rt, $alloc),
             "Desk::withdraw" => crate::desks::withdraw_told($rt, $alloc),
             "Desk::seal" => crate::seats::seal_told($rt, $alloc),
-            "Desk::seal behind other calls" => crate::seats::later_told($rt, $alloc),
+            "Desk::seal after other calls" => crate::seats::later_told($rt, $alloc),
             "Desk::close" => crate::seats::close_told($rt, $alloc),
             "none: Desk::close with seats that followed" => crate::seats::followed_told($rt, $alloc),
             "Desk::withdraw of a full history" => crate::full::full_told($rt, $alloc),

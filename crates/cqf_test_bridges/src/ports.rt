@@ -64,7 +64,7 @@ const CASES: &[Case] = &[
         ],
     ),
     (
-        "the next start is told",
+        "the next start is returned",
         ALTERNATING,
         &[
             Step::NextStart(None),

@@ -387,27 +387,27 @@ const MISTAKES: &[(&[&str], &str)] = &[
     ),
     (
         &["port", "--until", "5", "--rate", "20"],
-        "cqf: words: --rate 20 is no rate: 10, 100, 1000, 2500, 5000, 10000, 25000, 40000 or 100000 (Mb/s)\n",
+        "cqf: words: --rate 20 isn't a rate: 10, 100, 1000, 2500, 5000, 10000, 25000, 40000 or 100000 (Mb/s)\n",
     ),
     (
         &["compile", "--format", "TC"],
-        "cqf: words: --format TC is no format: list, tc, env or json\n",
+        "cqf: words: --format TC isn't a format: list, tc, env or json\n",
     ),
     (
         &["compile", "--format", "env"],
-        "cqf: words: --format env wants its bridge: --bridge NAME\n",
+        "cqf: words: --format env needs a bridge: --bridge NAME\n",
     ),
     (
         &["compile", "--bridge", "a", "--software"],
-        "cqf: words: --bridge goes with --format env alone\n",
+        "cqf: words: --bridge is only for --format env\n",
     ),
     (
         &["compile", "--bridge", "A", "--format", "env"],
-        "cqf: words: --bridge A is no name: 1 to 32 of a to z, 0 to 9, - and _\n",
+        "cqf: words: --bridge A isn't a name: 1 to 32 of a to z, 0 to 9, - and _\n",
     ),
     (
         &["compile", "--bridge", "a", "--software", "--format", "env"],
-        "cqf: words: --software goes with --format tc alone\n",
+        "cqf: words: --software is only for --format tc\n",
     ),
 ];
 
@@ -520,7 +520,7 @@ const HELP: &[(&[&str], &str)] = &[
     (&["compile", "--help"], "Usage: cqf compile [OPTIONS]\n"),
     (
         &["compile", "--help"],
-        "cqf compile --format tc plant.toml\n",
+        "cqf compile --format tc plan.toml\n",
     ),
     (&["port", "--help"], "a gate list    80 120000\n"),
     (&["run", "--help"], "a script       0 admit x\n"),
@@ -543,7 +543,7 @@ const HELP: &[(&[&str], &str)] = &[
     ),
     (
         &["deliveries", "--help"],
-        "cqf deliveries --cycles 5 plant.toml calls.txt offers.csv\n",
+        "cqf deliveries --cycles 5 plan.toml calls.txt offers.csv\n",
     ),
     (
         &["check", "--help"],
@@ -553,16 +553,16 @@ const HELP: &[(&[&str], &str)] = &[
         &["check", "--help"],
         "cqf: check: unfinished, under way U, not run O\n",
     ),
-    (&["load", "--help"], "cqf load plant.toml\n"),
+    (&["load", "--help"], "cqf load plan.toml\n"),
     (&["latency", "--help"], "Usage: cqf latency [OPTIONS]\n"),
-    (&["latency", "--help"], "cqf latency --strict plant.toml\n"),
+    (&["latency", "--help"], "cqf latency --strict plan.toml\n"),
     (
         &["summary", "--help"],
         "Usage: cqf summary [OPTIONS] --cycles <N>\n",
     ),
     (
         &["summary", "--help"],
-        "cqf summary --cycles 5 plant.toml calls.txt offers.csv\n",
+        "cqf summary --cycles 5 plan.toml calls.txt offers.csv\n",
     ),
     (
         &["hops", "--help"],
@@ -570,10 +570,10 @@ const HELP: &[(&[&str], &str)] = &[
     ),
     (
         &["hops", "--help"],
-        "cqf hops --cycles 5 --stream x plant.toml calls.txt offers.csv\n",
+        "cqf hops --cycles 5 --stream x plan.toml calls.txt offers.csv\n",
     ),
     (&["plan", "--help"], "Usage: cqf plan [OPTIONS]\n"),
-    (&["plan", "--help"], "cqf plan sketch.toml\n"),
+    (&["plan", "--help"], "cqf plan network.toml\n"),
 ];
 
 #[test]

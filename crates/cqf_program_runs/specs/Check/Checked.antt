@@ -115,8 +115,9 @@ unfinished_line counts = if counts.delivered == 0 then none_come_line counts els
 -- the line if all is well
 abbrev pub well_line : CheckCounts → List ℕ
 well_line counts = line_of
-    (codes "well: frames "
-    ++ (decimal counts.offers.frames ++ (codes ", deliveries " ++ (decimal counts.delivered ++ (codes ", with a deadline " ++ decimal counts.timed)))))
+    (codes "ok: "
+    ++ (decimal counts.offers.frames
+    ++ (codes " frames, " ++ (decimal counts.delivered ++ (codes " deliveries, " ++ (decimal counts.timed ++ codes " with a deadline"))))))
 
 -- whether no delivery is under way and no offer is of a cycle that isn't run
 abbrev pub is_finished : CheckCounts → Bool

@@ -253,7 +253,7 @@ pub fn well_line(alloc: Global, counts: CheckCounts) -> Result<String, AllocErro
 {
     let (frames, delivered, timed) = (counts.offers.frames, counts.delivered, counts.timed);
     let line = format!(in alloc;
-        "well: frames {frames}, deliveries {delivered}, with a deadline {timed}\n"
+        "ok: {frames} frames, {delivered} deliveries, {timed} with a deadline\n"
     )?;
     Ok(line)
 }
