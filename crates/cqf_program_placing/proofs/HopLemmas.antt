@@ -148,6 +148,15 @@ module _ (links : List Link) (room : ℕ → ℕ → Bool) (k : ℕ) (before : L
     ];
   }
 
+-- if frames leave no bridge after this number of links, no link leads on from there
+pub none_in_layer : (d : Domain) (room : ℕ → ℕ → Bool) (k : ℕ) (hops : List (Option ℕ)) → IsAccepted d →
+    ((bridge : ℕ) → bridge < length d.bridges → ¬ (hop_of hops bridge ≡ Some k)) → AreReachedBy d.links room k (length d.links) hops hops
+none_in_layer d room k hops accepted none = record {
+  kept = λ j bridge is. is;
+  added = λ l bridge low leads. absurd (none leads.link.from (accepted.links_good l leads.link leads.stands).from_bridge leads.leaves);
+  others = λ j bridge is. inl is;
+}
+
 -- ---- after at most a number of links
 
 -- after the first `rounds` rounds

@@ -1,5 +1,5 @@
 //! After how many links the frames of a stream with given cycles leave each bridge, and what links have left there.
-ghost use Rattle.std.specs.Prelude.{◌≡◌, ◌<◌, ◌+◌, ℕ, IfOk, MatchOption, None, length, slice_index_or};
+ghost use Rattle.std.specs.Prelude.{◌≡◌, ◌<◌, ◌+◌, ℕ, IfOk, MatchOption, None, Some, false, length, slice_index_or, true};
 ghost use Rattle.cqf_admission.specs.Turns.{IsGoodPace};
 ghost use Rattle.cqf_model.specs.History.{held_in, seals};
 ghost use Rattle.cqf_sketch.specs.Ways.{most_links};
@@ -35,6 +35,21 @@ fn hop_of(hops: &Hops, bridge: u16) -> Option<u8>
         Some(hop) => *hop,
         None => None,
     }
+}
+
+/// Whether frames leave some bridge of the domain after exactly this number of links.
+fn leave_some(domain: &Domain, before: u8, hops: &Hops) -> bool
+    ensures some { result ≡ true → (bridge : ℕ) × (bridge < length domain.now.bridges) × (hop_of hops.now bridge ≡ Some before) }
+    ensures none { result ≡ false → (bridge : ℕ) → bridge < length domain.now.bridges → ¬ (hop_of hops.now bridge ≡ Some before) }
+{
+    for bridge in 0..domain.bridges() {
+        if let Some(hop) = hop_of(hops, bridge) {
+            if hop == before {
+                return true;
+            }
+        }
+    }
+    false
 }
 
 impl<'a> PacedRoom<'a> {
@@ -109,6 +124,10 @@ impl<'a> PacedRoom<'a> {
         ensures { let d = self.entry.domain.now in let entries = self.entry.admission.now.entries in
             AreReachedBy d.links (has_room_behind d (held_in d entries (seals entries)) self.entry.pace self.entry.cost) before (length d.links) hops.old hops.new }
     {
+        self.domain.know();
+        if !leave_some(self.domain, before, hops) {
+            return;
+        }
         for link in 0..self.domain.links() {
             self.reach(before, link, hops);
         }
