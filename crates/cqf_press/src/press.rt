@@ -6,7 +6,7 @@ use crate::outputs::{flush_out, tell_on};
 use crate::sheet::{MOST_PUT, SHEET, Sheet};
 use crate::sinks::Sink;
 use crate::told::Told;
-use itoa::{Buffer, Integer};
+use itoa::Integer;
 
 /// A sheet of text, and the writer that it is written to.
 #[derive(Drop)]
@@ -93,8 +93,8 @@ impl<'o, W: Sink> Press<'o, W> {
     pub fn put_number<I: Integer>(&mut self, number: I)
         ensures { Puts W.contents self.old self.new (I.text number) }
     {
-        let mut buffer = Buffer::new();
-        self.put(buffer.format(number).as_bytes());
+        let mut digits = itoa::Buffer::new();
+        self.put(digits.format(number).as_bytes());
     }
 
     /// Writes the rest of the text, flushes the writer unless it refused something, and gives it back.
