@@ -4,7 +4,7 @@ ghost use Rattle.std.specs.Prelude.{◌≤◌, ◌<◌, ◌^◌, IfOk, OnOk, len
 
 use crate::terminal::hint;
 use cqf_model::Limits;
-use cqf_press::{DONE, FAULT, REFUSED, Sink, Stop, Told, write_out};
+use cqf_output::{DONE, FAULT, REFUSED, Sink, Stop, Told, write_out};
 use cqf_program_engine::{Heard, Texts, engine, most_bytes, tell};
 use cqf_program_explanations::{NamedFile, explanation, notes};
 use cqf_program_files::{Front, cycles_of, front_of, renumbered};

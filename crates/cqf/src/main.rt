@@ -27,7 +27,7 @@
 mod files;
 mod terminal;
 
-use cqf_press::{REFUSED, Stop};
+use cqf_output::{REFUSED, Stop};
 use cqf_program_engine::{Heard, Told, engine};
 use cqf_program_words::operands_of;
 use files::{end, explain_nothing, run_files};

@@ -1,6 +1,6 @@
 //! The lines at a terminal.
 
-use cqf_press::{Sink, Told, write_out};
+use cqf_output::{Sink, Told, write_out};
 use cqf_program_words::read_words;
 use std::alloc::Global;
 use std::io::IsTerminal;

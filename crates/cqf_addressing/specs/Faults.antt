@@ -1,6 +1,6 @@
 -- The texts of the faults of addressing: a fault's name, followed by its values, each after a space.
 use Rattle.std.specs.Prelude.{ℕ, ◌++◌, List, codes, decimal}
-use Rattle.cqf_press.specs.Stops.{fault_line}
+use Rattle.cqf_output.specs.Stops.{fault_line}
 use Rattle.cqf_topology.specs.TomlFaults.{toml_fault_text}
 use Rattle.cqf_addressing.specs.Keys.{key_text}
 use Rattle.cqf_addressing.specs.declared.faults.AddressingFault.{AddressingFault}

@@ -1,11 +1,11 @@
 //! Names of interfaces.
 ghost use Rattle.std.specs.Prelude.{◌≡◌, ◌≤◌, IsTrue, length};
 ghost use Rattle.std.specs.List.{list_all};
-ghost use Rattle.cqf_press.specs.Press.{Puts};
+ghost use Rattle.cqf_output.specs.Writer.{Puts};
 ghost use Rattle.cqf_addressing.specs.Interface.{interface_of, is_alphanumeric, is_interface, is_interface_byte};
 
 use arrayvec::ArrayVec;
-use cqf_press::{Press, Sink};
+use cqf_output::{Writer, Sink};
 use std::marker::Model;
 
 /// The name of an interface of a bridge: 1 to 15 bytes, each `a` to `z`, `A` to `Z`, `0` to `9`, `.`, `_`, `-` or `@`. The first byte is a
@@ -96,8 +96,8 @@ impl InterfaceName {
 }
 
 /// Writes the name of an interface as it is.
-pub fn put_interface<W: Sink>(press: &mut Press<'_, W>, name: &InterfaceName)
-    ensures { Puts W.contents press.old press.new name.now }
+pub fn put_interface<W: Sink>(writer: &mut Writer<'_, W>, name: &InterfaceName)
+    ensures { Puts W.contents writer.old writer.new name.now }
 {
-    press.put(name.as_bytes());
+    writer.put(name.as_bytes());
 }

@@ -2,10 +2,10 @@
 ghost use Rattle.std.specs.Prelude.{◌≡◌, ◌<◌, ◌+◌, length, slice_index};
 ghost use Rattle.std.specs.Char.{digit_value};
 ghost use Rattle.std.specs.Option.{SomeIff};
-ghost use Rattle.cqf_press.specs.Press.{Puts};
+ghost use Rattle.cqf_output.specs.Writer.{Puts};
 ghost use Rattle.cqf_addressing.specs.Mac.{IsMac, has_colons, hex_digit, hex_pair, is_forwarded, mac_of_text, mac_text, octet_at};
 
-use cqf_press::{Press, Sink};
+use cqf_output::{Writer, Sink};
 use std::marker::Model;
 
 /// The destination address of frames: six octets (IEEE Std 802). Bridges forward to it: it isn't 00:00:00:00:00:00, which no station has,
@@ -127,35 +127,35 @@ fn hex_digit(number: u8) -> u8
 }
 
 /// Writes an octet as two lower case hexadecimal digits.
-fn put_octet<W: Sink>(press: &mut Press<'_, W>, octet: u8)
-    ensures { Puts W.contents press.old press.new (hex_pair octet) }
+fn put_octet<W: Sink>(writer: &mut Writer<'_, W>, octet: u8)
+    ensures { Puts W.contents writer.old writer.new (hex_pair octet) }
 {
-    press.put_byte(hex_digit(octet / 16));
-    press.put_byte(hex_digit(octet % 16));
+    writer.put_byte(hex_digit(octet / 16));
+    writer.put_byte(hex_digit(octet % 16));
 }
 
 /// Writes six octets, separated by `:`.
-fn put_octets<W: Sink>(press: &mut Press<'_, W>, octets: &[u8])
+fn put_octets<W: Sink>(writer: &mut Writer<'_, W>, octets: &[u8])
     requires { length octets.now ≡ 6 }
-    ensures { Puts W.contents press.old press.new (mac_text octets.now) }
+    ensures { Puts W.contents writer.old writer.new (mac_text octets.now) }
 {
-    put_octet(press, octets[0]);
-    press.put_byte(b':');
-    put_octet(press, octets[1]);
-    press.put_byte(b':');
-    put_octet(press, octets[2]);
-    press.put_byte(b':');
-    put_octet(press, octets[3]);
-    press.put_byte(b':');
-    put_octet(press, octets[4]);
-    press.put_byte(b':');
-    put_octet(press, octets[5]);
+    put_octet(writer, octets[0]);
+    writer.put_byte(b':');
+    put_octet(writer, octets[1]);
+    writer.put_byte(b':');
+    put_octet(writer, octets[2]);
+    writer.put_byte(b':');
+    put_octet(writer, octets[3]);
+    writer.put_byte(b':');
+    put_octet(writer, octets[4]);
+    writer.put_byte(b':');
+    put_octet(writer, octets[5]);
 }
 
 /// Writes an address: each octet as two lower case hexadecimal digits, separated by `:`. It reads back as itself ([`MacAddress::parse`]).
-pub fn put_mac<W: Sink>(press: &mut Press<'_, W>, mac: &MacAddress)
-    ensures { Puts W.contents press.old press.new (mac_text mac.now) }
+pub fn put_mac<W: Sink>(writer: &mut Writer<'_, W>, mac: &MacAddress)
+    ensures { Puts W.contents writer.old writer.new (mac_text mac.now) }
 {
     let octets = mac.octets();
-    put_octets(press, octets);
+    put_octets(writer, octets);
 }

@@ -1,7 +1,7 @@
 //! The keys of addressing of the parts of an input, or the line of the first fault.
 ghost use Rattle.std.specs.Prelude.{◌≡◌, ◌≢◌, [], Ok, IfOk, IfErr};
 ghost use Rattle.cqf_topology.specs.declared.toml_faults.TomlFault.TheVariants as toml;
-ghost use Rattle.cqf_press.specs.Stops.{EndsWith, IsRefused, fault_line, or_line};
+ghost use Rattle.cqf_output.specs.Stops.{EndsWith, IsRefused, fault_line, or_line};
 ghost use Rattle.cqf_addressing.specs.Faults.{addressing_fault_text, interfaces_line, stream_addresses_line};
 ghost use Rattle.cqf_addressing.specs.Links.{interfaces_of_text};
 ghost use Rattle.cqf_addressing.specs.Streams.{addresses_of_text};
@@ -10,7 +10,7 @@ use crate::{
     AddressingFault, LinkInterfaces, StreamAddress, read_link_interfaces, read_stream_addresses,
 };
 use cqf_model::Limits;
-use cqf_press::Stop;
+use cqf_output::Stop;
 use cqf_topology::TomlFault;
 use std::alloc::Global;
 

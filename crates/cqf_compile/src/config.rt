@@ -8,7 +8,7 @@ ghost use Rattle.cqf_compile.specs.ConfigLines.{IsReadyConfig};
 ghost use Rattle.cqf_compile.specs.ConfigText.{config_text, text_of_row, texts_of_links};
 ghost use Rattle.cqf_gates.specs.GateListText.{line_of_gates, text_of_entries};
 ghost use Rattle.cqf_model.specs.Table.{links_of};
-ghost use Rattle.cqf_press.specs.Press.{Puts};
+ghost use Rattle.cqf_output.specs.Writer.{Puts};
 ghost use Rattle.cqf_topology.specs.NodeNames.{ends_of_link, name_of_bridge};
 
 use crate::fronts::row_front;
@@ -18,7 +18,7 @@ use crate::plan::Plan;
 use cqf_admission::Table;
 use cqf_gates::{TxList, hex_digit_of, put_stream};
 use cqf_model::{Link, Row};
-use cqf_press::{Press, Sheet, Sink, Told, told_text};
+use cqf_output::{Writer, Buffer, Sink, Told, told_text};
 use cqf_topology::{Domain, put_bridge, put_ends};
 use cqf_units::Memory;
 use std::alloc::Global;
@@ -26,97 +26,97 @@ use std::sync::Arc;
 
 /// Puts an entry of a gate list: its gate states in two upper case hexadecimal digits, in which bit k is class k, a
 /// space, and its interval in nanoseconds.
-pub fn put_gates<W: Sink>(press: &mut Press<'_, W>, states: u8, interval: u32)
-    ensures { Puts W.contents press.old press.new (line_of_gates (states, interval)) }
+pub fn put_gates<W: Sink>(writer: &mut Writer<'_, W>, states: u8, interval: u32)
+    ensures { Puts W.contents writer.old writer.new (line_of_gates (states, interval)) }
 {
-    press.put_byte(hex_digit_of(states / 16));
-    press.put_byte(hex_digit_of(states % 16));
-    press.put_byte(b' ');
-    press.put_number(interval);
+    writer.put_byte(hex_digit_of(states / 16));
+    writer.put_byte(hex_digit_of(states % 16));
+    writer.put_byte(b' ');
+    writer.put_number(interval);
 }
 
 /// Puts a gate list, one entry a line.
-fn put_list<W: Sink>(press: &mut Press<'_, W>, list: &TxList)
-    ensures { Puts W.contents press.old press.new (text_of_entries list.now) }
+fn put_list<W: Sink>(writer: &mut Writer<'_, W>, list: &TxList)
+    ensures { Puts W.contents writer.old writer.new (text_of_entries list.now) }
 {
     for entry in list.entries() {
-        put_gates(press, entry.0, entry.1);
-        press.put_byte(b'\n');
+        put_gates(writer, entry.0, entry.1);
+        writer.put_byte(b'\n');
     }
 }
 
 /// Puts the line of a link, followed by a gate list.
-fn put_port<W: Sink>(press: &mut Press<'_, W>, domain: &Domain, link: Link, list: &TxList)
-    ensures { Puts W.contents press.old press.new (codes "link " ++ (ends_of_link domain.now link ++ 10 ∷ text_of_entries list.now)) }
+fn put_port<W: Sink>(writer: &mut Writer<'_, W>, domain: &Domain, link: Link, list: &TxList)
+    ensures { Puts W.contents writer.old writer.new (codes "link " ++ (ends_of_link domain.now link ++ 10 ∷ text_of_entries list.now)) }
 {
-    press.put(b"link ");
-    put_ends(press, domain, link);
-    press.put_byte(b'\n');
-    put_list(press, list);
+    writer.put(b"link ");
+    put_ends(writer, domain, link);
+    writer.put_byte(b'\n');
+    put_list(writer, list);
 }
 
 /// Puts each link's line, followed by the gate list of its port.
-fn put_ports<W: Sink>(press: &mut Press<'_, W>, domain: &Domain)
-    ensures { Puts W.contents press.old press.new (texts_of_links domain.now) }
+fn put_ports<W: Sink>(writer: &mut Writer<'_, W>, domain: &Domain)
+    ensures { Puts W.contents writer.old writer.new (texts_of_links domain.now) }
 {
     for link in 0..domain.links() {
         let list = port_list_of(domain, link);
-        put_port(press, domain, domain.link(link), &list);
+        put_port(writer, domain, domain.link(link), &list);
     }
 }
 
 /// Puts a text followed by the name of a bridge, and ends the line.
-fn put_at<W: Sink>(press: &mut Press<'_, W>, domain: &Domain, front: &[u8], bridge: u16)
-    ensures { Puts W.contents press.old press.new (front.now ++ (name_of_bridge domain.now bridge ++ 10 ∷ [])) }
+fn put_at<W: Sink>(writer: &mut Writer<'_, W>, domain: &Domain, front: &[u8], bridge: u16)
+    ensures { Puts W.contents writer.old writer.new (front.now ++ (name_of_bridge domain.now bridge ++ 10 ∷ [])) }
 {
-    press.put(front);
-    put_bridge(press, domain, bridge);
-    press.put_byte(b'\n');
+    writer.put(front);
+    put_bridge(writer, domain, bridge);
+    writer.put_byte(b'\n');
 }
 
 /// Puts a stream and its gate at each bridge of its tree.
-fn put_row<W: Sink>(press: &mut Press<'_, W>, plan: &Plan, row: &Row)
+fn put_row<W: Sink>(writer: &mut Writer<'_, W>, plan: &Plan, row: &Row)
     requires along { All (λ l. l < length plan.now.links) (links_of row.now) }
     requires paced { IsGoodPace row.now.pace }
-    ensures { Puts W.contents press.old press.new (text_of_row plan.now row.now) }
+    ensures { Puts W.contents writer.old writer.new (text_of_row plan.now row.now) }
 {
     let domain = plan.domain();
     let front = row_front(row);
     let bridges = bridges_of(plan, row);
     for bridge in bridges.as_slice() {
-        put_at(press, domain, front.as_slice(), *bridge);
-        put_stream(press, &gate_of(domain, row, *bridge));
+        put_at(writer, domain, front.as_slice(), *bridge);
+        put_stream(writer, &gate_of(domain, row, *bridge));
     }
 }
 
 /// Puts the streams of the rows, with their gates.
-fn put_rows<W: Sink>(press: &mut Press<'_, W>, plan: &Plan, rows: &[Row])
+fn put_rows<W: Sink>(writer: &mut Writer<'_, W>, plan: &Plan, rows: &[Row])
     requires along { AreAlongLinks plan.now rows.now }
     requires paced { AreOfGoodPaces rows.now }
-    ensures { Puts W.contents press.old press.new (flat_map (text_of_row plan.now) rows.now) }
+    ensures { Puts W.contents writer.old writer.new (flat_map (text_of_row plan.now) rows.now) }
 {
     for row in rows {
-        put_row(press, plan, row);
+        put_row(writer, plan, row);
     }
 }
 
 /// Puts the configuration of a plan and the streams of the rows, as [`write_config`] returns it for a table. Allocates nothing.
-pub fn put_config<W: Sink>(press: &mut Press<'_, W>, plan: &Plan, rows: &[Row])
+pub fn put_config<W: Sink>(writer: &mut Writer<'_, W>, plan: &Plan, rows: &[Row])
     requires { IsReadyConfig plan.now rows.now }
-    ensures { Puts W.contents press.old press.new (config_text plan.now rows.now) }
+    ensures { Puts W.contents writer.old writer.new (config_text plan.now rows.now) }
 {
-    put_ports(press, plan.domain());
-    put_rows(press, plan, rows);
+    put_ports(writer, plan.domain());
+    put_rows(writer, plan, rows);
 }
 
 /// Puts the streams of a table's rows, with their gates.
-fn put_shared<W: Sink>(press: &mut Press<'_, W>, plan: &Plan, rows: &[Arc<Row>])
+fn put_shared<W: Sink>(writer: &mut Writer<'_, W>, plan: &Plan, rows: &[Arc<Row>])
     requires along { AreAlongLinks plan.now (map (λ row. arc_value row) rows.now) }
     requires paced { AreOfGoodPaces (map (λ row. arc_value row) rows.now) }
-    ensures { Puts W.contents press.old press.new (flat_map (text_of_row plan.now) (map (λ row. arc_value row) rows.now)) }
+    ensures { Puts W.contents writer.old writer.new (flat_map (text_of_row plan.now) (map (λ row. arc_value row) rows.now)) }
 {
     for shared in rows {
-        put_row(press, plan, shared);
+        put_row(writer, plan, shared);
     }
 }
 
@@ -131,9 +131,9 @@ pub fn write_config(alloc: Global, plan: &Plan, table: &Table) -> Result<Vec<u8>
     ensures { IfOk result (λ text. text.items ≡ config_text plan.now table.now.rows) }
 {
     let mut told = Told::new(Vec::new(alloc));
-    let mut press = Press::new(&mut told, Sheet::new(alloc)?);
-    put_ports(&mut press, plan.domain());
-    put_shared(&mut press, plan, table.rows());
-    let _told = press.close();
+    let mut writer = Writer::new(&mut told, Buffer::new(alloc)?);
+    put_ports(&mut writer, plan.domain());
+    put_shared(&mut writer, plan, table.rows());
+    let _told = writer.close();
     told_text(told)
 }

@@ -1,10 +1,10 @@
 //! The lists of stream gates as text.
 ghost use Rattle.std.specs.Prelude.{◌≡◌, ◌++◌, IfOk, codes, decimal};
 ghost use Rattle.cqf_gates.specs.StreamText.{is_shut, line_of_open, line_of_stream_entry, octet_max_text, text_of_stream_entries};
-ghost use Rattle.cqf_press.specs.Press.{Puts};
+ghost use Rattle.cqf_output.specs.Writer.{Puts};
 
 use crate::{StreamEntry, StreamList};
-use cqf_press::{Press, Sheet, Sink, Told, told_text};
+use cqf_output::{Writer, Buffer, Sink, Told, told_text};
 use cqf_units::Memory;
 use std::alloc::Global;
 
@@ -16,53 +16,53 @@ pub fn is_shut(octet_max: Option<u32>) -> bool
 }
 
 /// Puts an octet maximum, or `-` if there is none.
-fn put_maximum<W: Sink>(press: &mut Press<'_, W>, octet_max: Option<u32>)
-    ensures { Puts W.contents press.old press.new (octet_max_text octet_max) }
+fn put_maximum<W: Sink>(writer: &mut Writer<'_, W>, octet_max: Option<u32>)
+    ensures { Puts W.contents writer.old writer.new (octet_max_text octet_max) }
 {
     match octet_max {
-        Some(most) => press.put_number(most),
-        None => press.put(b"-"),
+        Some(most) => writer.put_number(most),
+        None => writer.put(b"-"),
     }
 }
 
 /// Puts the line of an entry in which frames may pass.
-fn put_open<W: Sink>(press: &mut Press<'_, W>, entry: StreamEntry)
-    ensures { Puts W.contents press.old press.new (line_of_open entry) }
+fn put_open<W: Sink>(writer: &mut Writer<'_, W>, entry: StreamEntry)
+    ensures { Puts W.contents writer.old writer.new (line_of_open entry) }
 {
-    press.put(b"open ");
-    press.put_number(entry.ipv);
-    press.put(b" ");
-    press.put_number(entry.interval);
-    press.put(b" ");
-    put_maximum(press, entry.octet_max);
+    writer.put(b"open ");
+    writer.put_number(entry.ipv);
+    writer.put(b" ");
+    writer.put_number(entry.interval);
+    writer.put(b" ");
+    put_maximum(writer, entry.octet_max);
 }
 
 /// Puts the line of an entry in which none may pass.
-fn put_closed<W: Sink>(press: &mut Press<'_, W>, interval: u32)
-    ensures { Puts W.contents press.old press.new (codes "closed " ++ decimal interval) }
+fn put_closed<W: Sink>(writer: &mut Writer<'_, W>, interval: u32)
+    ensures { Puts W.contents writer.old writer.new (codes "closed " ++ decimal interval) }
 {
-    press.put(b"closed ");
-    press.put_number(interval);
+    writer.put(b"closed ");
+    writer.put_number(interval);
 }
 
 /// Puts the line of an entry of a stream's gate.
-fn put_entry<W: Sink>(press: &mut Press<'_, W>, entry: StreamEntry)
-    ensures { Puts W.contents press.old press.new (line_of_stream_entry entry) }
+fn put_entry<W: Sink>(writer: &mut Writer<'_, W>, entry: StreamEntry)
+    ensures { Puts W.contents writer.old writer.new (line_of_stream_entry entry) }
 {
     if is_shut(entry.octet_max) {
-        put_closed(press, entry.interval);
+        put_closed(writer, entry.interval);
     } else {
-        put_open(press, entry);
+        put_open(writer, entry);
     }
 }
 
 /// Puts the text of a stream gate's list, as [`write_stream`] returns it. Asks for no memory.
-pub fn put_stream<W: Sink>(press: &mut Press<'_, W>, list: &StreamList)
-    ensures { Puts W.contents press.old press.new (text_of_stream_entries list.now) }
+pub fn put_stream<W: Sink>(writer: &mut Writer<'_, W>, list: &StreamList)
+    ensures { Puts W.contents writer.old writer.new (text_of_stream_entries list.now) }
 {
     for entry in list.entries() {
-        put_entry(press, *entry);
-        press.put_byte(b'\n');
+        put_entry(writer, *entry);
+        writer.put_byte(b'\n');
     }
 }
 
@@ -73,8 +73,8 @@ pub fn write_stream(alloc: Global, list: &StreamList) -> Result<Vec<u8>, Memory>
     ensures { IfOk result (λ text. text.items ≡ text_of_stream_entries list.now) }
 {
     let mut told = Told::new(Vec::new(alloc));
-    let mut press = Press::new(&mut told, Sheet::new(alloc)?);
-    put_stream(&mut press, list);
-    let _told = press.close();
+    let mut writer = Writer::new(&mut told, Buffer::new(alloc)?);
+    put_stream(&mut writer, list);
+    let _told = writer.close();
     told_text(told)
 }

@@ -24,14 +24,14 @@ use Rattle.cqf_instants_run.specs.Frames.{by_instant, is_at}
 use Rattle.cqf_instants_run.specs.Feeding.{arrival_of_frame, backs_among, frames_fed_on, is_background, is_frame_on}
 
 -- lists of sections of one length, end to end
-stretches : {X : Type 0} (f : ℕ → List X) (n cycles : ℕ) → each_below (λ c. each_below (λ k. f (c * n + k)) n) cycles ≡ each_below f (cycles * n)
-stretches f n zero = ap (each_below f) (nothing n)
+segments : {X : Type 0} (f : ℕ → List X) (n cycles : ℕ) → each_below (λ c. each_below (λ k. f (c * n + k)) n) cycles ≡ each_below f (cycles * n)
+segments f n zero = ap (each_below f) (nothing n)
   where
     -- no section has no length
     nothing : (n : ℕ) → 0 ≡ 0 * n
     nothing n = omega arith
-stretches f n (suc c) =
-    ap (λ xs. xs ++ each_below (λ k. f (c * n + k)) n) (stretches f n c) ∙ sym (below_plus f (c * n) n) ∙ ap (each_below f) (one_more c n)
+segments f n (suc c) =
+    ap (λ xs. xs ++ each_below (λ k. f (c * n + k)) n) (segments f n c) ∙ sym (below_plus f (c * n) n) ∙ ap (each_below f) (one_more c n)
   where
     -- one more section
     one_more : (c n : ℕ) → c * n + n ≡ suc c * n
@@ -98,7 +98,7 @@ module _ (gives : GateGivesClass) (run : Run) (net : Network) (legal : IsLegalRu
   pub backs_are : (frames : List Backed) → frames ≡ by_instant run.background (length run.tables * run.domain.cycle_time) → backs_among comes
       ≡ frames_fed_on l frames
   backs_are frames is =
-      ap arrivals_of (backs_by_cycle ∙ stretches (backed_at run.background l) d.cycle_time (length run.tables))
+      ap arrivals_of (backs_by_cycle ∙ segments (backed_at run.background l) d.cycle_time (length run.tables))
       ∙ map_below (λ (x : QueuedFrame). x.arrival) (backed_at run.background l) end
       ∙ same_below (λ t. arrivals_of (backed_at run.background l t)) (λ t. map arrival_of_frame (filter (is_frame_on l) (at t))) end (λ t less.
       map-map (λ (x : QueuedFrame). x.arrival) backed_frame (filter (is_backed_at l t) (numbered_background run.background))

@@ -22,5 +22,5 @@ pub mod Feeds
 pub mod Tellings
 pub mod Takings
 pub mod Whole
-pub mod Tapes
+pub mod Traces
 pub mod Backing

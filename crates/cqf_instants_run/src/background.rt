@@ -5,7 +5,7 @@ ghost use Rattle.cqf_model.specs.History.{Recorded};
 ghost use Rattle.cqf_model.specs.Run.{AreBackground};
 ghost use Rattle.cqf_instants_run.specs.Parts.{AreBackgroundOfHistory, AreStartsOfHistory};
 ghost use Rattle.cqf_instants_run.specs.BackgroundStarts.{SomeStarts};
-ghost use Rattle.cqf_model.specs.Limits.{most_rows};
+ghost use Rattle.cqf_model.specs.Limits.{most_offers};
 
 use crate::feeding::feed_links;
 use crate::frames::frames_before;
@@ -33,7 +33,7 @@ pub fn background_of_history(
     background: &[Background],
 ) -> Result<Vec<Started>, Memory>
     requires background { AreBackground domain.now background.now }
-    requires few { length background.now ≤ most_rows }
+    requires few { length background.now ≤ most_offers }
     requires starts { SomeStarts domain.now cycles starts.now }
     ensures { IfOk result (λ backed. (entries : List Recorded) (offers : List Offer) →
         AreStartsOfHistory domain.now entries offers background.now cycles starts.now →

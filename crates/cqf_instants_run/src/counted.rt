@@ -6,7 +6,7 @@ ghost use Rattle.cqf_laws_coverage.specs.Counted.{counts_frames, counts_in, hops
 ghost use Rattle.cqf_laws_coverage.specs.Judged.{StandInOrder};
 ghost use Rattle.cqf_instants_run.specs.Coverage.{verdict_of};
 ghost use Rattle.cqf_instants_run.specs.Columns.{AddsFrame, AreEmptyColumns, AreSumsBy, HaveColumnsRoom, HaveRoomFor, HaveWidth, IsWide, verdict_at};
-ghost use Rattle.cqf_model.specs.Limits.{end_of_offers, most_rows};
+ghost use Rattle.cqf_model.specs.Limits.{end_of_offers, most_offers};
 
 use crate::EdgeVerdict;
 use cqf_laws_coverage::Column;
@@ -111,7 +111,7 @@ pub fn columns_of(
 ) -> Result<Vec<Column>, Memory>
     requires offers { AreOffers domain.now offers.now }
     requires order { StandInOrder offers.now }
-    requires few { length offers.now ≤ most_rows }
+    requires few { length offers.now ≤ most_offers }
     requires judged { length edge_verdicts.now ≡ length offers.now }
     requires room { HaveColumnsRoom domain.now cycles (verdict_at domain.now rows.now edge_verdicts.now) (numbered offers.now) }
     ensures { IfOk result (λ columns. AreSumsBy domain.now cycles (verdict_at domain.now rows.now edge_verdicts.now) offers.now columns.items) }

@@ -4,7 +4,7 @@ ghost use Rattle.cqf_lists.specs.Lists.{each_below};
 ghost use Rattle.cqf_model.specs.Run.{AreOffers};
 ghost use Rattle.cqf_laws_coverage.specs.Judged.{StandInOrder};
 ghost use Rattle.cqf_instants_run.specs.Drops.{AreDropsBy, drop_at, drop_judged, drop_within, where_any};
-ghost use Rattle.cqf_model.specs.Limits.{end_of_offers, most_rows};
+ghost use Rattle.cqf_model.specs.Limits.{end_of_offers, most_offers};
 
 use crate::EdgeVerdict;
 use cqf_book::sort_drops;
@@ -74,7 +74,7 @@ fn drops_by_place(
 ) -> Result<Vec<Dropped>, Memory>
     requires time { 10000 ≤ cycle_time.0 }
     requires early { All (λ offer. offer.at.0 < end_of_offers) offers.now }
-    requires few { length offers.now ≤ most_rows }
+    requires few { length offers.now ≤ most_offers }
     requires judged { length edge_verdicts.now ≡ length offers.now }
     ensures { IfOk result (λ drops. drops.items ≡ each_below (drop_at cycle_time.0 cycles offers.now edge_verdicts.now) (length offers.now)) }
 {
@@ -109,7 +109,7 @@ pub fn drops_of(
 ) -> Result<Vec<Dropped>, Memory>
     requires offers { AreOffers domain.now offers.now }
     requires order { StandInOrder offers.now }
-    requires few { length offers.now ≤ most_rows }
+    requires few { length offers.now ≤ most_offers }
     requires judged { length edge_verdicts.now ≡ length offers.now }
     ensures { IfOk result (λ drops. AreDropsBy domain.now offers.now cycles edge_verdicts.now drops.items) }
 {

@@ -2,7 +2,7 @@
 ghost use Rattle.std.specs.Prelude.{◌≡◌, ◌+◌, ◌^◌, ◌<◌, ◌≤◌, IfOk, filter, length, nat_lt};
 ghost use Rattle.cqf_model.specs.Network.{numbered_background};
 ghost use Rattle.cqf_instants_run.specs.Frames.{by_instant, is_early};
-ghost use Rattle.cqf_model.specs.Limits.{most_rows};
+ghost use Rattle.cqf_model.specs.Limits.{most_offers};
 
 use cqf_model::{Backed, Background};
 use cqf_units::{Memory, Nanos};
@@ -32,7 +32,7 @@ fn listed_before(
     background: &[Background],
     end: Nanos,
 ) -> Result<Vec<Backed>, Memory>
-    requires { length background.now ≤ most_rows }
+    requires { length background.now ≤ most_offers }
     ensures { IfOk result (λ frames. frames.items ≡ filter (is_early end.0) (numbered_background background.now)) }
 {
     let mut frames = Vec::new(alloc);
@@ -50,7 +50,7 @@ pub(crate) fn frames_before(
     background: &[Background],
     end: Nanos,
 ) -> Result<Vec<Backed>, Memory>
-    requires { length background.now ≤ most_rows }
+    requires { length background.now ≤ most_offers }
     ensures { IfOk result (λ frames. frames.items ≡ by_instant background.now end.0) }
 {
     let mut frames = listed_before(alloc, background, end)?;

@@ -3,7 +3,7 @@ ghost use Rattle.std.specs.Prelude.{◌≡◌, ◌≤◌, IfOk, length};
 ghost use Rattle.cqf_model.specs.Run.{AreOffers};
 ghost use Rattle.cqf_laws_coverage.specs.Judged.{StandInOrder};
 ghost use Rattle.cqf_instants_run.specs.HistoryStarts.{IsBasisOfHistory, SomeHistory};
-ghost use Rattle.cqf_model.specs.Limits.{most_rows};
+ghost use Rattle.cqf_model.specs.Limits.{most_offers};
 
 use crate::EdgeVerdict;
 use crate::entering::enter_offers;
@@ -41,7 +41,7 @@ pub fn lay_run(
 ) -> Result<Basis, Memory>
     requires offers { AreOffers domain.now offers.now }
     requires order { StandInOrder offers.now }
-    requires few { length offers.now ≤ most_rows }
+    requires few { length offers.now ≤ most_offers }
     requires history { SomeHistory domain.now cycles rows.now offers.now edge_verdicts.now }
     ensures { IfOk result (IsBasisOfHistory domain.now cycles rows.now offers.now edge_verdicts.now) }
 {

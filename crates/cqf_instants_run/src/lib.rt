@@ -12,7 +12,7 @@
 //! - **Background frames.** [`background_of_history`] returns the background list of a run's book. For each link with background frames, a
 //!   port is given these frames, and the link's streams' frames, each arriving at the instant at which it starts. The background frames that
 //!   the port then starts are recorded. No stream gate is used, and the port of a link without background frames is given nothing.
-//!   [`keep_background`] writes the same starts on the tapes of a run's links after the run. Both use the law
+//!   [`keep_background`] writes the same starts on the traces of a run's links after the run. Both use the law
 //!   [`port_starts_the_background`]: if the streams' frames arrive only when they start, a port starts the same background frames at the same
 //!   instants.
 //! - **The book.** [`drops_of`] returns the drops of a run's cycles as a book has them, by cycle, bridge and frame. [`book_of_parts`] makes

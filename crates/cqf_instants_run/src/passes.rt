@@ -10,7 +10,7 @@ ghost use Rattle.cqf_laws_coverage.specs.Judged.{StandInOrder};
 ghost use Rattle.cqf_laws_shift.specs.Run.{IsLegalRun};
 ghost use Rattle.cqf_instants_run.specs.HistoryStarts.{IsLaidOutHistoryOf, SomeHistory};
 ghost use Rattle.cqf_instants_run.specs.Passes.{IsPassOf};
-ghost use Rattle.cqf_model.specs.Limits.{most_rows};
+ghost use Rattle.cqf_model.specs.Limits.{most_offers};
 
 use crate::EdgeVerdict;
 use crate::layout::lay_run;
@@ -37,7 +37,7 @@ pub fn pass_of_history(
 ) -> Result<Pass, Memory>
     requires offers { AreOffers domain.now offers.now }
     requires order { StandInOrder offers.now }
-    requires few { length offers.now ≤ most_rows }
+    requires few { length offers.now ≤ most_offers }
     requires history { SomeHistory domain.now cycles rows.now offers.now edge_verdicts.now }
     ensures { IfOk result (IsPassOf domain.now cycles rows.now offers.now edge_verdicts.now) }
 {
@@ -60,7 +60,7 @@ pub fn starts_of_history(
 ) -> Result<Vec<Started>, Memory>
     requires offers { AreOffers domain.now offers.now }
     requires order { StandInOrder offers.now }
-    requires few { length offers.now ≤ most_rows }
+    requires few { length offers.now ≤ most_offers }
     requires history { SomeHistory domain.now cycles rows.now offers.now edge_verdicts.now }
     ensures { IfOk result (λ starts. (entries : List Recorded) (background : List Background) (net : Network) →
         IsLaidOutHistoryOf domain.now cycles rows.now offers.now edge_verdicts.now entries →

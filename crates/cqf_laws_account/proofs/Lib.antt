@@ -1,4 +1,4 @@
 mod Ordered
 mod Sealed
 mod Seats
-mod Taped
+mod Traced

@@ -1,3 +1,3 @@
 pub mod Sealing
 pub mod Seated
-pub mod Taped
+pub mod Traced

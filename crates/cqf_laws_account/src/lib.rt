@@ -1,22 +1,22 @@
 //! Laws about what is left when a run on threads has ended and its lists are compared: from the seats of a desk to the history, and from
-//! the tapes to the book.
+//! the traces to the book.
 //!
 //! Each law is a function that does nothing. Its contract is a statement of `specs/`, and its proof shows that the statement holds for each
 //! domain and history. A proof elsewhere uses the law by calling the function.
 //!
 //! - If one seat of a desk makes all Seals, the tables that it closes are those of the history ([`one_seat_closes_all_tables`]). The history of
 //!   a desk has exactly what was requested from its seats ([`seats_give_the_history`]).
-//! - The tapes of a book determine it, cycle by cycle and link by link, without sorting ([`tapes_tell_the_book`]).
+//! - The traces of a book determine it, cycle by cycle and link by link, without sorting ([`traces_tell_the_book`]).
 //!
 //! ```
-//! // from here on, a proof knows that the tapes of a book determine it
-//! cqf_laws_account::tapes_tell_the_book();
+//! // from here on, a proof knows that the traces of a book determine it
+//! cqf_laws_account::traces_tell_the_book();
 //! ```
 #![tactic(auto)]
 
 ghost use Rattle.cqf_laws_account.specs.Sealing.{OneSeatClosesAllTables};
 ghost use Rattle.cqf_laws_account.specs.Seated.{ConductorHasTheTables, SeatsGiveTheHistory};
-ghost use Rattle.cqf_laws_account.specs.Taped.{TapesTellTheBook};
+ghost use Rattle.cqf_laws_account.specs.Traced.{TracesTellTheBook};
 
 /// States that if one seat of a desk makes all Seals, the tables that it closes are the tables of the history's cycles, in order.
 pub fn one_seat_closes_all_tables()
@@ -33,8 +33,8 @@ pub fn seats_give_the_history()
     one_seat_closes_all_tables();
 }
 
-/// States that the tapes of a book determine it: cycle by cycle the starts link by link, each from the link's tape, whose instants don't
+/// States that the traces of a book determine it: cycle by cycle the starts link by link, each from the link's trace, whose instants don't
 /// decrease, and the drops bridge by bridge.
-pub fn tapes_tell_the_book()
-    ensures { TapesTellTheBook }
+pub fn traces_tell_the_book()
+    ensures { TracesTellTheBook }
 {}

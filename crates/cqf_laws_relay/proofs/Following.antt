@@ -37,7 +37,7 @@ use Rattle.cqf_laws_instants.specs.TakenLaws.{source_of}
 use Rattle.cqf_relay.specs.declared.leads.By.TheVariants as way
 use Rattle.cqf_relay.specs.declared.log.ArrivedFrame.{ArrivedFrame}
 use Rattle.cqf_relay.specs.declared.queue.Queued.{Queued}
-use Rattle.cqf_relay.specs.Stretches.{Sendings, batch_at, came_in}
+use Rattle.cqf_relay.specs.Segments.{Sendings, batch_at, came_in}
 use Rattle.cqf_relay.specs.Leading.{by_row, leads, same_by}
 use Rattle.cqf_relay.specs.Logs.{is_in}
 use Rattle.cqf_relay.specs.Offering.{Going, came_of_going, covered_behind}

@@ -7,5 +7,5 @@ mod Turns
 mod Following
 mod Kept
 mod Drops
-mod Taped
+mod Traced
 mod Coming

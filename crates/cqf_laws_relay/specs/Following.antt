@@ -15,7 +15,7 @@ use Rattle.cqf_model.specs.Traffic.{Received, numbered, offer_received, policed_
 use Rattle.cqf_laws_shift.specs.Run.{IsLegalRun}
 use Rattle.cqf_laws_cycle.specs.Gathered.{is_offered_in, offered_for}
 use Rattle.cqf_laws_instants.specs.QueueLaws.{covering}
-use Rattle.cqf_relay.specs.Stretches.{Sendings, batch_at, came_in}
+use Rattle.cqf_relay.specs.Segments.{Sendings, batch_at, came_in}
 use Rattle.cqf_relay.specs.Logs.{is_in}
 use Rattle.cqf_relay.specs.Offering.{Going, covered_behind, dropped_behind}
 use Rattle.cqf_relay.specs.Standing.{Come, HasGoneOnBy, MayBeTables, offers_in}

@@ -3,7 +3,7 @@ use Rattle.std.specs.Prelude.{ℕ, ◌≡◌, ◌+◌, ◌<◌, List, true, leng
 use Rattle.cqf_model.specs.declared.topology.Row.{Row}
 use Rattle.cqf_model.specs.Domain.{Domain, bridge_of, enters}
 use Rattle.cqf_model.specs.Table.{table_of}
-use Rattle.cqf_relay.specs.Stretches.{Sendings}
+use Rattle.cqf_relay.specs.Segments.{Sendings}
 use Rattle.cqf_relay.specs.Leading.{leads}
 
 -- a link that has sent cycle 0 waits for none to go on: the links from which a row leads to it are at least as far

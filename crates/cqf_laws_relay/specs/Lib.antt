@@ -1,3 +1,3 @@
 pub mod Following
-pub mod Taped
+pub mod Traced
 pub mod Hindmost

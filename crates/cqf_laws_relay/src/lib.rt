@@ -7,8 +7,8 @@
 //! - The offers that it drops are the drops of the run's book ([`dropped_are_the_runs`]).
 //! - If everything has arrived at each bridge, and each link has gone on over all cycles, all have sent what the network sends
 //!   ([`relays_follow_the_network`]).
-//! - The tapes of their reels have what the network sends ([`relays_keep_the_tapes`]). With its background frames they are those of the run's
-//!   book ([`backed_tapes_are_the_books`]).
+//! - The traces of their bridge traces have what the network sends ([`relays_keep_the_traces`]). With its background frames they are those of the run's
+//!   book ([`backed_traces_are_the_books`]).
 //! - The tables of a history may be given to such bridges ([`tables_may_come`]).
 //! - As long as some link has not reached the end of a run, one of these links can go on ([`some_link_can_go_on`]).
 //!
@@ -20,7 +20,7 @@
 
 ghost use Rattle.cqf_laws_relay.specs.Following.{DroppedAreTheRuns, KeptAreCovered, RelaysFollowTheNetwork, TablesMayCome};
 ghost use Rattle.cqf_laws_relay.specs.Hindmost.{SomeLinkCanGoOn};
-ghost use Rattle.cqf_laws_relay.specs.Taped.{BackedTapesAreTheBooks, RelaysKeepTheTapes};
+ghost use Rattle.cqf_laws_relay.specs.Traced.{BackedTracesAreTheBooks, RelaysKeepTheTraces};
 
 /// States that the offers of a cycle that a bridge keeps, judging one after the other by what is used of their rows, are those that the
 /// run's rows cover, each with its row.
@@ -53,18 +53,18 @@ pub fn relays_follow_the_network()
     kept_are_covered();
 }
 
-/// States that the tapes gathered from the reels of bridges whose links have gone on in this way have the streams' frames that the network
+/// States that the traces gathered from the bridge traces of bridges whose links have gone on in this way have the streams' frames that the network
 /// sends, and the drops of its book. The run has fewer than 16,777,216 offers.
-pub fn relays_keep_the_tapes()
-    ensures { RelaysKeepTheTapes }
+pub fn relays_keep_the_traces()
+    ensures { RelaysKeepTheTraces }
 {
     dropped_are_the_runs();
     relays_follow_the_network();
 }
 
-/// States that with the background frames that the network starts such tapes are those of its book.
-pub fn backed_tapes_are_the_books()
-    ensures { BackedTapesAreTheBooks }
+/// States that with the background frames that the network starts such traces are those of its book.
+pub fn backed_traces_are_the_books()
+    ensures { BackedTracesAreTheBooks }
 {}
 
 /// States that the tables of a legal history have their new rows by number, after those of all earlier tables.

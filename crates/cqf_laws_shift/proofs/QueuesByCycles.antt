@@ -58,9 +58,9 @@ module _ (run : Run) (carried : Carried) (l : ℕ) where
   -- a queue grows by what is queued in the cycle
   grows : (c : ℕ) → queued_before run carried l ((c + 1) * n) ≡ queued_before run carried l (c * n) ++ queued_now c
   grows c =
-      let stretch : (c + 1) * n ≡ c * n + n = omega arith in
+      let segment : (c + 1) * n ≡ c * n + n = omega arith in
       let first = received_before run carried b (c * n) in
-      ap (λ z. queued_to d l (police_all d run.tables b [] z)) (ap (received_before run carried b) stretch ∙ below_plus (received_at run carried b) (c * n) n)
+      ap (λ z. queued_to d l (police_all d run.tables b [] z)) (ap (received_before run carried b) segment ∙ below_plus (received_at run carried b) (c * n) n)
       ∙ ap (queued_to d l) (police_more d run.tables b [] first (in_cycle c))
       ∙ flat_map-append (λ (p : Policed). queued_by d l p.received p.verdict) (police_all d run.tables b [] first)
       (police_all d run.tables b (policed_before run carried b (c * n)) (in_cycle c))

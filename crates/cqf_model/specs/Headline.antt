@@ -3,7 +3,7 @@
 -- `cqf_units/specs/Name.antt` and `Timing.antt`).
 --
 -- `conduct` of `cqf_worker` promises it for each run that meets that function's requirements: an accepted domain (`IsAccepted`), a legal
--- opening part without a Seal, offers and background frames of that domain (`AreOffers`, `AreBackground`), and at most `most_rows` of each
+-- opening part without a Seal, offers and background frames of that domain (`AreOffers`, `AreBackground`), and at most `most_offers` of each
 -- and `most_cycles` cycles. An administrator requests only streams and withdrawals. Laws of `cqf_laws_network` say that a run has only one
 -- network and one book, and that the book of a longer run begins with that of a shorter one (`legal_network_is_unique`, `book_is_unique`,
 -- `shorter_book_is_the_beginning`). The definitions, in the order in which to read them:

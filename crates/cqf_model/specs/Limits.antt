@@ -65,8 +65,8 @@ abbrev pub most_streams : ℕ
 most_streams = 16384
 
 -- the most rows of a table of arrivals, offers or background frames
-abbrev pub most_rows : ℕ
-most_rows = 16777215
+abbrev pub most_offers : ℕ
+most_offers = 16777215
 
 -- ---- limits that are set for a plan
 
@@ -117,4 +117,4 @@ streams_within limits = min limits.streams most_streams
 
 -- the number of rows that a table may have, likewise
 abbrev pub rows_within : Limits → ℕ
-rows_within limits = min limits.rows most_rows
+rows_within limits = min limits.rows most_offers

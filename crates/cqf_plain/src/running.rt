@@ -6,7 +6,7 @@ ghost use Rattle.cqf_model.specs.Run.{AreBackground, AreOffers, Run};
 ghost use Rattle.cqf_plain.specs.SoFar.{IsAt, IsRunOver, StopsRun};
 ghost use Rattle.cqf_plain.specs.Promise.{KeepsItOfHistory, WantsMemoryAlone};
 ghost use Rattle.cqf_plain.specs.Run.{AreTablesNumbered, IsBookOfRun, IsRunFault, run_of};
-ghost use Rattle.cqf_model.specs.Limits.{most_cycles, most_rows};
+ghost use Rattle.cqf_model.specs.Limits.{most_cycles, most_offers};
 
 use crate::RunFault;
 use crate::so_far::RunSoFar;
@@ -57,9 +57,9 @@ fn run_numbered(
     requires short { length tables.now ≤ most_cycles }
     requires numbered { AreTablesNumbered (length tables.now) tables.now }
     requires offers { AreOffers plan.now offers.now }
-    requires few_offers { length offers.now ≤ most_rows }
+    requires few_offers { length offers.now ≤ most_offers }
     requires background { AreBackground plan.now background.now }
-    requires few_background { length background.now ≤ most_rows }
+    requires few_background { length background.now ≤ most_offers }
     ensures book { IfOk result (λ book. IsBookOfRun (run_of plan.now tables.now offers.now background.now) (contents_of book)) }
     ensures stops { IfErr result (StopsRun (run_of plan.now tables.now offers.now background.now)) }
 {
@@ -96,9 +96,9 @@ pub fn run(
 ) -> Result<Book, RunFault>
     requires short { cycles ≤ most_cycles }
     requires offers { AreOffers plan.now offers.now }
-    requires few_offers { length offers.now ≤ most_rows }
+    requires few_offers { length offers.now ≤ most_offers }
     requires background { AreBackground plan.now background.now }
-    requires few_background { length background.now ≤ most_rows }
+    requires few_background { length background.now ≤ most_offers }
     ensures numbered { IfOk result (λ book. AreTablesNumbered cycles tables.now) }
     ensures book { IfOk result (λ book. IsBookOfRun (run_of plan.now tables.now offers.now background.now) (contents_of book)) }
     ensures fault { IfErr result (IsRunFault (run_of plan.now tables.now offers.now background.now) cycles tables.now) }

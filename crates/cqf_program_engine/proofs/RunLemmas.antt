@@ -6,13 +6,13 @@ use Rattle.std.specs.declared.io.ErrorKind.{ErrorKind}
 use Rattle.std.specs.Io.KnownBytes.{IsAtEnd}
 use Rattle.std.proofs.Math.Logic.{∥∥₁_elim}
 use Rattle.cqf_model.specs.declared.limits.Limits.{Limits}
-use Rattle.cqf_press.specs.Stops.{EndsWith, line_of}
+use Rattle.cqf_output.specs.Stops.{EndsWith, line_of}
 use Rattle.clap.specs.Words.{Row, Text, first_of, subcommand_of}
 use Rattle.cqf_program_words.specs.Shown.{EndsShown, ShowsLine, ShowsWords, is_shown_whole, no_command}
 use Rattle.cqf_program_words.specs.Words.{EndsWords, IsJob, IsJobOf, IsNumberIn, Mean, app_for, limits_of}
 use Rattle.cqf_program_engine.specs.Edge.{IsHeard, Marks, Reading}
-use Rattle.cqf_press.specs.Edge.{Writing}
-use Rattle.cqf_press.specs.Kinds.{NoKind, SomeKind}
+use Rattle.cqf_output.specs.Edge.{Writing}
+use Rattle.cqf_output.specs.Kinds.{NoKind, SomeKind}
 use Rattle.cqf_program_engine.specs.Run.{first_line, input_of, version_line, words_of, AskForVersion, Ends}
 use Rattle.cqf_program_engine.specs.Run.{EndsByStatus, EndsFaulty, EndsInput, EndsRead, HandsOver, HasCause, HasFault}
 use Rattle.cqf_program_engine.specs.Run.{HasRun, HasWords, most_line, IsBehindWords, IsDone, IsEnd, IsFailure, IsOutput}
@@ -20,8 +20,8 @@ use Rattle.cqf_program_engine.specs.Run.{IsFailedRun, IsMisuse, IsRefusedRun, Te
 use Rattle.cqf_program_engine.specs.Run.{IsRefusal, IsStopped, StopsWithAnswer, IsToldOutput, IsTooLong, IsWithin, most_bytes}
 use Rattle.cqf_program_engine.specs.Run.{FaultIsOfThreads, FaultIsOfThreadsOrOutput, TellsStop, TellsFaultAlone}
 use Rattle.cqf_program_threads.specs.ThreadsOutput.{EndsThreads, IsThreadsOutput}
-use Rattle.cqf_press.proofs.EdgeLemmas.{Appends-whole}
-use Rattle.cqf_press.specs.declared.stops.Stop.{Stop}
+use Rattle.cqf_output.proofs.EdgeLemmas.{Appends-whole}
+use Rattle.cqf_output.specs.declared.stops.Stop.{Stop}
 use Rattle.cqf_program_engine.specs.declared.heard.ReadFailure.{ReadFailure}
 use Rattle.cqf_program_engine.specs.declared.heard.ReadFailure.TheVariants.{Memory, Fault}
 use Rattle.cqf_program_words.specs.declared.words.Format.TheVariants as form

@@ -3,9 +3,9 @@ use Rattle.std.proofs.Common.{◌≡◌, ℕ, Bool, Err, IfOk, List, Ok, Result,
 use Rattle.std.specs.Global.{Global}
 use Rattle.std.specs.declared.io.traits.Write as write
 use Rattle.std.specs.declared.vec.Vec.{Vec}
-use Rattle.cqf_press.specs.Edge.{HasTold, since, writing}
-use Rattle.cqf_press.specs.declared.sinks.Sink as sink
-use Rattle.cqf_press.specs.declared.told.Told.{Told}
+use Rattle.cqf_output.specs.Edge.{HasTold, since, writing}
+use Rattle.cqf_output.specs.declared.sinks.Sink as sink
+use Rattle.cqf_output.specs.declared.told.Told.{Told}
 
 -- a list that was empty before has each text that was written to it
 pub text-told : {s : sink.Ghosts (Vec ℕ Global)} {w : write.Ghosts (Vec ℕ Global)} {E : Type 0} {list : List ℕ}

@@ -8,9 +8,9 @@ use Rattle.cqf_text.specs.Lines.{is_line_feed}
 use Rattle.cqf_program_engine.specs.declared.heard.ReadFailure.{ReadFailure}
 use Rattle.cqf_program_engine.specs.declared.heard.ReadFailure.TheVariants.{Memory, Fault}
 use Rattle.cqf_program_engine.specs.Edge.{IsHeard, Reading}
-use Rattle.cqf_press.specs.Edge.{HasTold, Writing}
-use Rattle.cqf_press.specs.Kinds.{SomeKind}
-use Rattle.cqf_press.specs.Stops.{EndsWith, IsRefused, line_of}
+use Rattle.cqf_output.specs.Edge.{HasTold, Writing}
+use Rattle.cqf_output.specs.Kinds.{SomeKind}
+use Rattle.cqf_output.specs.Stops.{EndsWith, IsRefused, line_of}
 use Rattle.cqf_program_scenario.specs.Scenario.{scenario_input}
 use Rattle.std.specs.declared.alloc.Global.{Global}
 use Rattle.cqf_model.specs.declared.limits.Limits.{Limits}
@@ -22,7 +22,7 @@ use Rattle.cqf_program_plans.specs.Latency.Input.{latency_of_input}
 use Rattle.cqf_program_plans.specs.Load.Output.{loaded_input}
 use Rattle.cqf_program_plans.specs.Port.Output.{IsPortOutput, port_input}
 use Rattle.cqf_program_tc.specs.Output.{env_of_input, tc_of_input}
-use Rattle.cqf_press.specs.declared.stops.Stop.{Stop}
+use Rattle.cqf_output.specs.declared.stops.Stop.{Stop}
 use Rattle.cqf_program_runs.specs.Check.Output.{IsChecked, IsCheckRefusal}
 use Rattle.cqf_program_runs.specs.Deliveries.Output.{IsDeliveriesOutput}
 use Rattle.cqf_program_runs.specs.Line.Output.{IsLineOutput, line_input}

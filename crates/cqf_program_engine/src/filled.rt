@@ -2,7 +2,7 @@
 ghost use Rattle.std.specs.Prelude.{ℕ, ◌≡◌, ◌≤◌, ◌<◌, ◌+◌, List, [], IfOk, IfErr, OnOk, OnErr, length, take, drop};
 ghost use Rattle.std.specs.Io.KnownBytes.{Consumes, IsAtEnd, Keeps};
 ghost use Rattle.cqf_program_engine.specs.Edge.{HasRead, MayBreak};
-ghost use Rattle.cqf_press.specs.Kinds.{SomeKind};
+ghost use Rattle.cqf_output.specs.Kinds.{SomeKind};
 
 use crate::heard::ReadFailure;
 use crate::retries::read_again;

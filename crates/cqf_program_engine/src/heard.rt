@@ -1,7 +1,7 @@
 //! A reader that remembers what was read.
 ghost use Rattle.std.specs.Prelude.{◌≡◌, ◌≤◌, ◌<◌, ◌+◌, [], true, false, IfOk, IfErr, OnOk, length};
 ghost use Rattle.std.specs.Io.KnownBytes.{IsAtEnd};
-ghost use Rattle.cqf_press.specs.Kinds.{SomeKind};
+ghost use Rattle.cqf_output.specs.Kinds.{SomeKind};
 
 use crate::filled::Filled;
 use crate::sources::Source;

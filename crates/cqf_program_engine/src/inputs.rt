@@ -1,6 +1,6 @@
 //! The bytes that the program reads.
 ghost use Rattle.std.specs.Prelude.{◌≡◌, ◌≤◌, ◌<◌, ◌^◌, codes, false, IfErr, OnOk, length, map};
-ghost use Rattle.cqf_press.specs.Stops.{EndsWith, line_of};
+ghost use Rattle.cqf_output.specs.Stops.{EndsWith, line_of};
 ghost use Rattle.std.specs.Io.KnownBytes.{IsAtEnd};
 ghost use Rattle.cqf_program_engine.specs.Edge.{IsHeard, IsUnheard, reading};
 ghost use Rattle.cqf_program_engine.specs.Run.{EndsInput, EndsRead, most_bytes};
@@ -8,7 +8,7 @@ ghost use Rattle.cqf_program_engine.specs.Run.{EndsInput, EndsRead, most_bytes};
 use crate::filled::STEP;
 use crate::heard::{Heard, ReadFailure};
 use crate::sources::Source;
-use cqf_press::{FAULT, REFUSED, Stop};
+use cqf_output::{FAULT, REFUSED, Stop};
 use cqf_program_words::ask_for_large;
 use std::alloc::Global;
 

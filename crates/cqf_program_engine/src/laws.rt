@@ -1,9 +1,9 @@
 //! Laws about the causes of status 4 if reads never fail.
-ghost use Rattle.cqf_press.specs.Kinds.{MemoryAlone, NoKind};
+ghost use Rattle.cqf_output.specs.Kinds.{MemoryAlone, NoKind};
 ghost use Rattle.cqf_program_engine.specs.Run.{FaultIsOfThreads, FaultIsOfThreadsOrOutput};
 
 use crate::sources::Source;
-use cqf_press::Sink;
+use cqf_output::Sink;
 
 /// Law: if reads never fail and the output refuses nothing, a run that ends with status 4 was one on threads that
 /// failed.

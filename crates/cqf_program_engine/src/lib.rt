@@ -13,7 +13,7 @@
 //! - `PreparedOutput` is the data from which an output is written. All its memory is allocated before its first byte is
 //!   written.
 //!
-//! `specs/Edge.antt` defines what was read (`Reading`), and that of `cqf_press` what was written (`Writing`,
+//! `specs/Edge.antt` defines what was read (`Reading`), and that of `cqf_output` what was written (`Writing`,
 //! `HasTold`). `specs/Prepared.antt` defines the text of an output (`IsTextOf`). `specs/Run.antt` defines the results
 //! of a run (`IsDone`, `IsRefusedRun`, `IsMisuse`, `IsFailedRun`), and what holds after the engine has run, by its
 //! status (`Ends`).
@@ -35,7 +35,7 @@ mod runs;
 mod sources;
 mod texts;
 
-pub use cqf_press::{Sink, Told};
+pub use cqf_output::{Sink, Told};
 pub use heard::Heard;
 pub use inputs::{MOST_BYTES, MOST_BYTES_OF_LARGE, most_bytes, read_input};
 pub use laws::fault_in_memory_is_of_threads_or_memory;

@@ -1,9 +1,9 @@
 //! An output, before it is written.
 ghost use Rattle.std.specs.Prelude.{ℕ, List};
 ghost use Rattle.cqf_program_engine.specs.Prepared.{IsTextOf};
-ghost use Rattle.cqf_press.specs.Edge.{HasTold, writing};
+ghost use Rattle.cqf_output.specs.Edge.{HasTold, writing};
 
-use cqf_press::{Sink, Told, write_out};
+use cqf_output::{Sink, Told, write_out};
 use cqf_program_json::JsonOutput;
 use cqf_program_plans::{ConfigOutput, LatencyOutput, LoadOutput, PortOutput};
 use cqf_program_runs::{DeliveriesOutput, LineOutput, RunOutput};

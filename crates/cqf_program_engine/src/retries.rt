@@ -1,11 +1,11 @@
-//! Reads that a signal interrupts (EINTR) are made again, as `cqf_press` repeats writes. Any other failure is final,
+//! Reads that a signal interrupts (EINTR) are made again, as `cqf_output` repeats writes. Any other failure is final,
 //! including that of a reader that would have to wait (EAGAIN). A read that is interrupted 2^64 - 1 times has failed
 //! too.
 ghost use Rattle.std.specs.Prelude.{◌≡◌, ◌≢◌, IfOk, IfErr, OnErr, length, take};
 ghost use Rattle.std.specs.IoError.{error_kind};
 ghost use Rattle.std.specs.Io.{ReadsAtMost};
 ghost use Rattle.std.specs.Io.KnownBytes.{Consumes, IsAtEnd, Keeps};
-ghost use Rattle.cqf_press.specs.Kinds.{SomeKind};
+ghost use Rattle.cqf_output.specs.Kinds.{SomeKind};
 
 use crate::sources::Source;
 use std::io;

@@ -7,7 +7,7 @@ ghost use Rattle.cqf_program_engine.specs.Run.{EndsText};
 use crate::filled::{Filled, STEP};
 use crate::inputs::{stop_of, stop_of_length};
 use crate::sources::Source;
-use cqf_press::Stop;
+use cqf_output::Stop;
 use cqf_units::Memory;
 use std::alloc::Global;
 

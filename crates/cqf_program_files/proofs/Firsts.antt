@@ -3,7 +3,7 @@ use Rattle.std.proofs.Common.{◌≡◌, ℕ, ◌+◌, ◌<◌, ◌≤◌, List,
 use Rattle.std.proofs.lemmas.Bool.{false≢true}
 use Rattle.std.proofs.lemmas.List.{drop-map, drop_all, drop_more, length-drop, take_all}
 use Rattle.std.specs.Option.{option_or}
-use Rattle.cqf_press.specs.declared.stops.Stop.{Stop}
+use Rattle.cqf_output.specs.declared.stops.Stop.{Stop}
 use Rattle.cqf_program_files.specs.Plants.{EndsPlant, EndsTogether, IsCheckedPlant, IsPlantText, are_several, first_refusal, first_strange_among, joint_refusal, leading}
 use Rattle.cqf_program_files.specs.Plants.{strange_in, tables_of, texts_refusal, toml_text, toml_texts}
 

@@ -3,7 +3,7 @@ use Rattle.std.proofs.Common.{◌≡◌, ℕ, ◌+◌, ◌≤◌, ◌<◌, List,
 use Rattle.std.proofs.lemmas.Grind.{flat_map-append, replicate_next}
 use Rattle.std.proofs.lemmas.List.{map-append}
 use Rattle.cqf_text.specs.Lines.{lines_of}
-use Rattle.cqf_press.specs.Stops.{line_of}
+use Rattle.cqf_output.specs.Stops.{line_of}
 use Rattle.cqf_program_files.specs.declared.calls.CallsScript.{CallsScript}
 use Rattle.cqf_program_files.specs.Calls.{HasPut, bare, last_told, lines_for, numbered, numbers_of_script, reached_behind, script_lines, script_of_calls, text_of_script}
 

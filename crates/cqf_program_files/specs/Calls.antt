@@ -4,7 +4,7 @@ use Rattle.std.specs.Prelude.{length, map, max, min, nat_eq, nat_le, nat_lt, rep
 use Rattle.std.specs.List.{ends_with, flat_map}
 use Rattle.cqf_text.specs.Decimal.{decimal_in}
 use Rattle.cqf_text.specs.Lines.{lines_of}
-use Rattle.cqf_press.specs.Stops.{line_of}
+use Rattle.cqf_output.specs.Stops.{line_of}
 use Rattle.cqf_admission.specs.Lines.{is_seal_line, order_of_line}
 use Rattle.cqf_program_files.specs.declared.calls.CallsScript.{CallsScript}
 

@@ -1,8 +1,8 @@
 -- The input that the program reads, made from the texts of files for a job.
 use Rattle.std.specs.Prelude.{ℕ, ◌≡◌, ◌⊎◌, ◌==◌, ◌-◌, ◌&&◌, ◌||◌, Bool, true, false, nat_eq, nat_le, not, List, [], ◌∷◌, Option, Some, None, Vec, codes, drop, if◌then◌else◌, is_some, length, option_and_then, option_map}
 use Rattle.std.specs.declared.alloc.Global.{Global}
-use Rattle.cqf_press.specs.Stops.{fault_line}
-use Rattle.cqf_press.specs.declared.stops.Stop.{Stop}
+use Rattle.cqf_output.specs.Stops.{fault_line}
+use Rattle.cqf_output.specs.declared.stops.Stop.{Stop}
 use Rattle.cqf_program_words.specs.declared.words.Job.{Job}
 use Rattle.cqf_program_words.specs.declared.words.Job.TheVariants as job
 use Rattle.cqf_program_words.specs.Composing.{composed_of, is_plant, is_undivided}

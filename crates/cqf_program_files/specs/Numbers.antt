@@ -4,7 +4,7 @@ use Rattle.std.specs.Prelude.{option_map, slice_get, take}
 use Rattle.std.specs.List.{ends_with, starts_with}
 use Rattle.std.specs.Option.{option_map_or, option_or}
 use Rattle.cqf_text.specs.Decimal.{decimal_in}
-use Rattle.cqf_press.specs.Stops.{line_of}
+use Rattle.cqf_output.specs.Stops.{line_of}
 
 -- a text without the line feed at its end; none if it has no line feed there
 abbrev pub unended : List ℕ → Option (List ℕ)

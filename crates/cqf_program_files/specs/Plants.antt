@@ -8,8 +8,8 @@ use Rattle.std.specs.Str.{is_utf8}
 use Rattle.toml.specs.Data.{Data, array, Items, no_items, item, Members, no_members, member, get_member, members_depth, members_have_valid_dates}
 use Rattle.toml.specs.Parse.{parse_document}
 use Rattle.toml.specs.Text.{IsDocumentText}
-use Rattle.cqf_press.specs.Stops.{fault_line}
-use Rattle.cqf_press.specs.declared.stops.Stop.{Stop}
+use Rattle.cqf_output.specs.Stops.{fault_line}
+use Rattle.cqf_output.specs.declared.stops.Stop.{Stop}
 use Rattle.cqf_program_words.specs.Composing.{is_toml, is_undivided}
 use Rattle.cqf_program_files.specs.declared.faults.PlantFault.{PlantFault}
 use Rattle.cqf_program_files.specs.declared.faults.PlantFault.TheVariants as fault

@@ -1,7 +1,7 @@
 //! The files of a plan, checked and joined.
 ghost use Rattle.std.specs.Prelude.{◌≡◌, ◌++◌, IfOk, IfErr, None, OnOk, length, map, option_map, string_bytes, take};
 ghost use Rattle.toml.specs.View.{table_view};
-ghost use Rattle.cqf_press.specs.Stops.{EndsWith};
+ghost use Rattle.cqf_output.specs.Stops.{EndsWith};
 ghost use Rattle.cqf_program_files.specs.Keys.{strange_key};
 ghost use Rattle.cqf_program_files.specs.Plants.{EndsBy, EndsPlant, EndsTogether, EndsUnwritten, IsCheckedPlant, IsPlantText, IsTextOf};
 ghost use Rattle.cqf_program_files.specs.Plants.{first_long_among, first_refusal, first_strange_among, is_plain, joint_refusal, most_shown};
@@ -12,7 +12,7 @@ use crate::faults::PlantFault;
 use crate::keys::strange_key;
 use crate::lines::first_long_line;
 use crate::plants::{are_several, key_twice, leading, plant_of, streams_twice};
-use cqf_press::Stop;
+use cqf_output::Stop;
 use cqf_program_words::{is_toml, is_undivided};
 use cqf_units::Memory;
 use std::alloc::{AllocError, Global};

@@ -10,7 +10,7 @@ use crate::calls::{CallsScript, script_of_calls};
 use crate::checking::{check_plant, stop_of};
 use crate::faults::PlantFault;
 use crate::plants::leading;
-use cqf_press::Stop;
+use cqf_output::Stop;
 use cqf_program_words::{Job, composed_behind, composed_between, is_plant, is_undivided};
 use cqf_units::Memory;
 use std::alloc::Global;

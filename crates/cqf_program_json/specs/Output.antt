@@ -11,7 +11,7 @@ use Rattle.cqf_model.specs.declared.limits.Limits.{Limits}
 use Rattle.cqf_model.specs.declared.topology.Row.{Row}
 use Rattle.cqf_model.specs.Domain.{Domain}
 use Rattle.cqf_model.specs.History.{Asked, held_in}
-use Rattle.cqf_press.specs.Stops.{or_line}
+use Rattle.cqf_output.specs.Stops.{or_line}
 use Rattle.cqf_program_json.specs.Text.{json_text}
 use Rattle.cqf_program_plans.specs.Compile.Output.{admitted_from, compile_input}
 use Rattle.cqf_program_scenario.specs.Parts.{two_parts}

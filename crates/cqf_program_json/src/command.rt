@@ -2,13 +2,13 @@
 ghost use Rattle.std.specs.Prelude.{◌≡◌, Ok, IfOk, IfErr, map};
 ghost use Rattle.cqf_admission.specs.Asking.{asked_paced};
 ghost use Rattle.cqf_admission.specs.Turns.{AreOfGoodPaces};
-ghost use Rattle.cqf_press.specs.Stops.{IsRefused};
+ghost use Rattle.cqf_output.specs.Stops.{IsRefused};
 ghost use Rattle.cqf_program_json.specs.Output.{addressing_of, json_of, json_of_input, text_of_json};
 
 use crate::outputs::JsonOutput;
 use cqf_addressing::{LinkInterfaces, StreamAddress, addresses_part, interfaces_part};
 use cqf_model::{Limits, Row};
-use cqf_press::{Sheet, Stop};
+use cqf_output::{Buffer, Stop};
 use cqf_program_plans::{read_plan, rows_of_cycle_0};
 use cqf_program_scenario::two_parts;
 use cqf_program_tc::places_by_bridge;
@@ -43,14 +43,14 @@ fn object_ready(
     ensures { IfOk result (λ output. output ≡ record { domain = domain; rows = rows.items; addresses = addresses.items; links = links.items }) }
 {
     let places = places_by_bridge(alloc, &domain, rows.as_slice())?;
-    let sheet = Sheet::new(alloc)?;
+    let buffer = Buffer::new(alloc)?;
     Ok(JsonOutput {
         domain,
         rows,
         places,
         addresses,
         links,
-        sheet,
+        buffer,
     })
 }
 

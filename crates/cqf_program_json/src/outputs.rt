@@ -2,12 +2,12 @@
 
 use cqf_addressing::{LinkInterfaces, StreamAddress};
 use cqf_model::Row;
-use cqf_press::Sheet;
+use cqf_output::Buffer;
 use cqf_topology::Domain;
 use std::marker::Model;
 
 /// The output of `compile --format json` before it is written: a domain, the rows of its streams by number, for each bridge the indices of
-/// the rows whose streams leave it, the addresses of streams and the interfaces of links by number, and a sheet.
+/// the rows whose streams leave it, the addresses of streams and the interfaces of links by number, and a buffer.
 #[derive(Drop)]
 pub struct JsonOutput {
     pub(crate) domain: Domain,
@@ -15,7 +15,7 @@ pub struct JsonOutput {
     pub(crate) places: Vec<Vec<usize>>,
     pub(crate) addresses: Vec<StreamAddress>,
     pub(crate) links: Vec<LinkInterfaces>,
-    pub(crate) sheet: Sheet,
+    pub(crate) buffer: Buffer,
 }
 
 impl Model for JsonOutput {

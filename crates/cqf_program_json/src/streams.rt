@@ -5,7 +5,7 @@ ghost use Rattle.cqf_addressing.specs.Mac.{mac_text};
 ghost use Rattle.cqf_admission.specs.Turns.{AreOfGoodPaces, IsGoodPace};
 ghost use Rattle.cqf_compile.specs.BridgeGates.{way_to};
 ghost use Rattle.cqf_model.specs.StreamGate.{gate_round};
-ghost use Rattle.cqf_press.specs.Press.{Puts};
+ghost use Rattle.cqf_output.specs.Writer.{Puts};
 ghost use Rattle.cqf_program_json.specs.Arrays.{number_or_null, quoted};
 ghost use Rattle.cqf_program_json.specs.Text.{address_text, closed_entry, filter_text, gate_entries, gate_entry, gate_head, gate_list_text};
 ghost use Rattle.cqf_program_json.specs.Text.{gate_round_text, gate_text, mac_or_null, open_entry, stream_head, stream_text, streams_text};
@@ -21,53 +21,53 @@ use cqf_addressing::{
 use cqf_compile::{first_hop, gate_of};
 use cqf_gates::{StreamEntry, StreamList, is_shut};
 use cqf_model::Row;
-use cqf_press::{Press, Sink};
+use cqf_output::{Writer, Sink};
 use cqf_topology::{Domain, put_link};
 
 /// Puts an entry in which frames may pass.
-fn put_open_entry<W: Sink>(press: &mut Press<'_, W>, entry: StreamEntry)
-    ensures { Puts W.contents press.old press.new (open_entry entry) }
+fn put_open_entry<W: Sink>(writer: &mut Writer<'_, W>, entry: StreamEntry)
+    ensures { Puts W.contents writer.old writer.new (open_entry entry) }
 {
-    press.put(
+    writer.put(
         b"            { \"operationName\": \"SetGateAndIPV\", \"StreamGateState\": \"open\", \"IPV\": ",
     );
-    press.put_number(entry.ipv);
-    press.put(b", \"timeIntervalValue\": ");
-    press.put_number(entry.interval);
-    press.put(b", \"IntervalOctetMax\": ");
-    put_number_or_null(press, entry.octet_max);
-    press.put(b" }");
+    writer.put_number(entry.ipv);
+    writer.put(b", \"timeIntervalValue\": ");
+    writer.put_number(entry.interval);
+    writer.put(b", \"IntervalOctetMax\": ");
+    put_number_or_null(writer, entry.octet_max);
+    writer.put(b" }");
 }
 
 /// Puts an entry in which no frames may pass.
-fn put_closed_entry<W: Sink>(press: &mut Press<'_, W>, interval: u32)
-    ensures { Puts W.contents press.old press.new (closed_entry interval) }
+fn put_closed_entry<W: Sink>(writer: &mut Writer<'_, W>, interval: u32)
+    ensures { Puts W.contents writer.old writer.new (closed_entry interval) }
 {
-    press.put(
+    writer.put(
         b"            { \"operationName\": \"SetGateAndIPV\", \"StreamGateState\": \"closed\", \"IPV\": null, \"timeIntervalValue\": ",
     );
-    press.put_number(interval);
-    press.put(b", \"IntervalOctetMax\": null }");
+    writer.put_number(interval);
+    writer.put(b", \"IntervalOctetMax\": null }");
 }
 
 /// Puts an entry of a gate's list.
-fn put_gate_entry<W: Sink>(press: &mut Press<'_, W>, entry: StreamEntry)
-    ensures { Puts W.contents press.old press.new (gate_entry entry) }
+fn put_gate_entry<W: Sink>(writer: &mut Writer<'_, W>, entry: StreamEntry)
+    ensures { Puts W.contents writer.old writer.new (gate_entry entry) }
 {
     if is_shut(entry.octet_max) {
-        put_closed_entry(press, entry.interval);
+        put_closed_entry(writer, entry.interval);
     } else {
-        put_open_entry(press, entry);
+        put_open_entry(writer, entry);
     }
 }
 
 /// Puts the entries of a list, each after what precedes an element.
-fn put_gate_entries<W: Sink>(press: &mut Press<'_, W>, entries: &[StreamEntry])
-    ensures { Puts W.contents press.old press.new (gate_entries entries.now) }
+fn put_gate_entries<W: Sink>(writer: &mut Writer<'_, W>, entries: &[StreamEntry])
+    ensures { Puts W.contents writer.old writer.new (gate_entries entries.now) }
 {
     for (place, entry) in entries.iter().enumerate() {
-        put_front(press, place == 0);
-        put_gate_entry(press, *entry);
+        put_front(writer, place == 0);
+        put_gate_entry(writer, *entry);
     }
 }
 
@@ -84,26 +84,26 @@ fn round_of(entries: &[StreamEntry]) -> u64
 }
 
 /// Puts the length of a gate's list, and the list.
-fn put_gate_list<W: Sink>(press: &mut Press<'_, W>, entries: &[StreamEntry])
-    ensures { Puts W.contents press.old press.new (gate_list_text entries.now) }
+fn put_gate_list<W: Sink>(writer: &mut Writer<'_, W>, entries: &[StreamEntry])
+    ensures { Puts W.contents writer.old writer.new (gate_list_text entries.now) }
 {
     let count = entries.len();
-    press.put(b"          \"PSFPAdminControlListLength\": ");
-    press.put_number(count);
-    press.put(b",\n          \"PSFPAdminControlList\": [");
-    put_gate_entries(press, entries);
-    put_end(press, count == 0, b"          ");
+    writer.put(b"          \"PSFPAdminControlListLength\": ");
+    writer.put_number(count);
+    writer.put(b",\n          \"PSFPAdminControlList\": [");
+    put_gate_entries(writer, entries);
+    put_end(writer, count == 0, b"          ");
 }
 
 /// Puts the cycle time of a gate's list, and the instant at which the list begins.
-fn put_gate_round<W: Sink>(press: &mut Press<'_, W>, entries: &[StreamEntry])
+fn put_gate_round<W: Sink>(writer: &mut Writer<'_, W>, entries: &[StreamEntry])
     requires { length entries.now ≤ 16 }
-    ensures { Puts W.contents press.old press.new (gate_round_text entries.now) }
+    ensures { Puts W.contents writer.old writer.new (gate_round_text entries.now) }
 {
-    press.put(b"          \"PSFPAdminCycleTime\": { \"numerator\": ");
-    press.put_number(round_of(entries));
-    press.put(b", \"denominator\": 1000000000 },\n");
-    press.put(
+    writer.put(b"          \"PSFPAdminCycleTime\": { \"numerator\": ");
+    writer.put_number(round_of(entries));
+    writer.put(b", \"denominator\": 1000000000 },\n");
+    writer.put(
         b"          \"PSFPAdminBaseTime\": { \"seconds\": 0, \"nanoseconds\": 0 }\n        }",
     );
 }
@@ -119,136 +119,136 @@ fn way_to(domain: &Domain, row: &Row, bridge: u16) -> Option<u16>
 }
 
 /// Puts the link over which a stream arrives, or `null` if it arrives from its talker.
-fn put_way_name<W: Sink>(press: &mut Press<'_, W>, domain: &Domain, way: Option<u16>)
-    ensures { Puts W.contents press.old press.new (way_name domain.now way) }
+fn put_way_name<W: Sink>(writer: &mut Writer<'_, W>, domain: &Domain, way: Option<u16>)
+    ensures { Puts W.contents writer.old writer.new (way_name domain.now way) }
 {
     match way {
         Some(link) => {
-            press.put(b"\"");
-            put_link(press, domain, link);
-            press.put(b"\"");
+            writer.put(b"\"");
+            put_link(writer, domain, link);
+            writer.put(b"\"");
         }
-        None => press.put(b"null"),
+        None => writer.put(b"null"),
     }
 }
 
 /// Puts the interface over which it arrives, or `null` if it arrives from its talker or the domain's text doesn't name the interface.
-fn put_way_interface<W: Sink>(press: &mut Press<'_, W>, wired: Wired<'_>, way: Option<u16>)
-    ensures { Puts W.contents press.old press.new (way_interface wired.entry.links.now way) }
+fn put_way_interface<W: Sink>(writer: &mut Writer<'_, W>, wired: Wired<'_>, way: Option<u16>)
+    ensures { Puts W.contents writer.old writer.new (way_interface wired.entry.links.now way) }
 {
     match way {
-        Some(link) => put_name_or_null(press, far_interface(wired.links, link)),
-        None => press.put(b"null"),
+        Some(link) => put_name_or_null(writer, far_interface(wired.links, link)),
+        None => writer.put(b"null"),
     }
 }
 
 /// Puts the stream's name, and the link and the interface over which it arrives.
-fn put_stream_head<W: Sink>(press: &mut Press<'_, W>, wired: Wired<'_>, row: &Row, way: Option<u16>)
-    ensures { Puts W.contents press.old press.new (stream_head wired.entry.domain.now wired.entry.links.now row.now way) }
+fn put_stream_head<W: Sink>(writer: &mut Writer<'_, W>, wired: Wired<'_>, row: &Row, way: Option<u16>)
+    ensures { Puts W.contents writer.old writer.new (stream_head wired.entry.domain.now wired.entry.links.now row.now way) }
 {
-    press.put(b"        {\n          \"stream\": \"");
-    press.put(row.name.as_bytes());
-    press.put(b"\",\n          \"from\": ");
-    put_way_name(press, wired.domain, way);
-    press.put(b",\n          \"interface\": ");
-    put_way_interface(press, wired, way);
-    press.put(b",\n");
+    writer.put(b"        {\n          \"stream\": \"");
+    writer.put(row.name.as_bytes());
+    writer.put(b"\",\n          \"from\": ");
+    put_way_name(writer, wired.domain, way);
+    writer.put(b",\n          \"interface\": ");
+    put_way_interface(writer, wired, way);
+    writer.put(b",\n");
 }
 
 /// Puts an address in quotation marks.
-fn put_mac_text<W: Sink>(press: &mut Press<'_, W>, mac: &MacAddress)
-    ensures { Puts W.contents press.old press.new (quoted (mac_text mac.now)) }
+fn put_mac_text<W: Sink>(writer: &mut Writer<'_, W>, mac: &MacAddress)
+    ensures { Puts W.contents writer.old writer.new (quoted (mac_text mac.now)) }
 {
-    press.put(b"\"");
-    put_mac(press, mac);
-    press.put(b"\"");
+    writer.put(b"\"");
+    put_mac(writer, mac);
+    writer.put(b"\"");
 }
 
 /// Puts an address, or `null` if there is none.
-fn put_mac_or_null<W: Sink>(press: &mut Press<'_, W>, mac: Option<&MacAddress>)
-    ensures { Puts W.contents press.old press.new (mac_or_null (option_map (λ mac. mac.now) mac.entry)) }
+fn put_mac_or_null<W: Sink>(writer: &mut Writer<'_, W>, mac: Option<&MacAddress>)
+    ensures { Puts W.contents writer.old writer.new (mac_or_null (option_map (λ mac. mac.now) mac.entry)) }
 {
     match mac {
-        Some(mac) => put_mac_text(press, mac),
-        None => press.put(b"null"),
+        Some(mac) => put_mac_text(writer, mac),
+        None => writer.put(b"null"),
     }
 }
 
 /// Puts a VLAN, or `null` if there is none.
-fn put_vlan_or_null<W: Sink>(press: &mut Press<'_, W>, vlan: Option<VlanId>)
-    ensures { Puts W.contents press.old press.new (number_or_null vlan) }
+fn put_vlan_or_null<W: Sink>(writer: &mut Writer<'_, W>, vlan: Option<VlanId>)
+    ensures { Puts W.contents writer.old writer.new (number_or_null vlan) }
 {
     match vlan {
-        Some(vlan) => press.put_number(vlan.number()),
-        None => press.put(b"null"),
+        Some(vlan) => writer.put_number(vlan.number()),
+        None => writer.put(b"null"),
     }
 }
 
 /// Puts how the stream's frames are identified: by their destination address and their VLAN.
-fn put_address<W: Sink>(press: &mut Press<'_, W>, addresses: &[StreamAddress], number: u32)
-    ensures { Puts W.contents press.old press.new (address_text addresses.now number) }
+fn put_address<W: Sink>(writer: &mut Writer<'_, W>, addresses: &[StreamAddress], number: u32)
+    ensures { Puts W.contents writer.old writer.new (address_text addresses.now number) }
 {
-    press.put(b"          \"tsnStreamIdHandle\": ");
-    press.put_number(gate_index(addresses, number));
-    press.put(
+    writer.put(b"          \"tsnStreamIdHandle\": ");
+    writer.put_number(gate_index(addresses, number));
+    writer.put(
         b",\n          \"tsnStreamIdIdentificationType\": 1,\n          \"tsnCpeNullDownDestMac\": ",
     );
-    put_mac_or_null(press, mac_of_stream(addresses, number));
-    press.put(
+    put_mac_or_null(writer, mac_of_stream(addresses, number));
+    writer.put(
         b",\n          \"tsnCpeNullDownTagged\": \"tagged\",\n          \"tsnCpeNullDownVlan\": ",
     );
-    put_vlan_or_null(press, vlan_of_stream(addresses, number));
-    press.put(b",\n");
+    put_vlan_or_null(writer, vlan_of_stream(addresses, number));
+    writer.put(b",\n");
 }
 
 /// Puts the stream's filter, by the index of its gate.
-fn put_filter<W: Sink>(press: &mut Press<'_, W>, gate: u64)
-    ensures { Puts W.contents press.old press.new (filter_text gate) }
+fn put_filter<W: Sink>(writer: &mut Writer<'_, W>, gate: u64)
+    ensures { Puts W.contents writer.old writer.new (filter_text gate) }
 {
-    press.put(b"          \"StreamFilterInstance\": ");
-    press.put_number(gate);
-    press.put(b",\n          \"StreamHandleSpec\": ");
-    press.put_number(gate);
-    press.put(
+    writer.put(b"          \"StreamFilterInstance\": ");
+    writer.put_number(gate);
+    writer.put(b",\n          \"StreamHandleSpec\": ");
+    writer.put_number(gate);
+    writer.put(
         b",\n          \"PrioritySpec\": \"wildcard\",\n          \"StreamGateInstanceID\": ",
     );
-    press.put_number(gate);
-    press.put(b",\n");
+    writer.put_number(gate);
+    writer.put(b",\n");
 }
 
 /// Puts the index of the stream's gate, and its state before its list begins.
-fn put_gate_head<W: Sink>(press: &mut Press<'_, W>, gate: u64)
-    ensures { Puts W.contents press.old press.new (gate_head gate) }
+fn put_gate_head<W: Sink>(writer: &mut Writer<'_, W>, gate: u64)
+    ensures { Puts W.contents writer.old writer.new (gate_head gate) }
 {
-    press.put(b"          \"StreamGateInstance\": ");
-    press.put_number(gate);
-    press.put(
+    writer.put(b"          \"StreamGateInstance\": ");
+    writer.put_number(gate);
+    writer.put(
         b",\n          \"PSFPGateEnabled\": true,\n          \"PSFPAdminGateStates\": \"closed\",\n",
     );
 }
 
 /// Puts the stream's filter and gate, by the gate's index and its list.
-fn put_gate<W: Sink>(press: &mut Press<'_, W>, gate: u64, list: &StreamList)
-    ensures { Puts W.contents press.old press.new (gate_text gate list.now) }
+fn put_gate<W: Sink>(writer: &mut Writer<'_, W>, gate: u64, list: &StreamList)
+    ensures { Puts W.contents writer.old writer.new (gate_text gate list.now) }
 {
     let entries = list.entries();
-    put_filter(press, gate);
-    put_gate_head(press, gate);
-    put_gate_list(press, entries);
-    press.put(b",\n");
-    put_gate_round(press, entries);
+    put_filter(writer, gate);
+    put_gate_head(writer, gate);
+    put_gate_list(writer, entries);
+    writer.put(b",\n");
+    put_gate_round(writer, entries);
 }
 
 /// Puts the object of a stream at a bridge.
-fn put_stream<W: Sink>(press: &mut Press<'_, W>, wired: Wired<'_>, bridge: u16, row: &Row)
+fn put_stream<W: Sink>(writer: &mut Writer<'_, W>, wired: Wired<'_>, bridge: u16, row: &Row)
     requires { IsGoodPace row.now.pace }
-    ensures { Puts W.contents press.old press.new
+    ensures { Puts W.contents writer.old writer.new
         (stream_text wired.entry.domain.now wired.entry.addresses.now wired.entry.links.now bridge row.now) }
 {
-    put_stream_head(press, wired, row, way_to(wired.domain, row, bridge));
-    put_address(press, wired.addresses, row.no);
+    put_stream_head(writer, wired, row, way_to(wired.domain, row, bridge));
+    put_address(writer, wired.addresses, row.no);
     put_gate(
-        press,
+        writer,
         gate_index(wired.addresses, row.no),
         &gate_of(wired.domain, row, bridge),
     );
@@ -256,7 +256,7 @@ fn put_stream<W: Sink>(press: &mut Press<'_, W>, wired: Wired<'_>, bridge: u16, 
 
 /// Puts the streams that leave a bridge, by the indices of their rows.
 pub(crate) fn put_streams<W: Sink>(
-    press: &mut Press<'_, W>,
+    writer: &mut Writer<'_, W>,
     wired: Wired<'_>,
     bridge: u16,
     rows: &[Row],
@@ -264,13 +264,13 @@ pub(crate) fn put_streams<W: Sink>(
 )
     requires paced { AreOfGoodPaces rows.now }
     requires at { places.now ≡ places_at wired.domain.now rows.now bridge }
-    ensures { Puts W.contents press.old press.new
+    ensures { Puts W.contents writer.old writer.new
         (streams_text wired.entry.domain.now wired.entry.addresses.now wired.entry.links.now rows.now bridge) }
 {
-    press.put(b"[");
+    writer.put(b"[");
     for (number, place) in places.iter().enumerate() {
-        put_front(press, number == 0);
-        put_stream(press, wired, bridge, &rows[*place]);
+        put_front(writer, number == 0);
+        put_stream(writer, wired, bridge, &rows[*place]);
     }
-    put_end(press, places.len() == 0, b"      ");
+    put_end(writer, places.len() == 0, b"      ");
 }

@@ -1,11 +1,11 @@
 //! The object, written line by line.
-ghost use Rattle.cqf_press.specs.Edge.{HasTold, writing};
+ghost use Rattle.cqf_output.specs.Edge.{HasTold, writing};
 ghost use Rattle.cqf_program_json.specs.Output.{text_of_json};
 
 use crate::bridges::put_object;
 use crate::outputs::JsonOutput;
 use crate::wired::Wired;
-use cqf_press::{Press, Sink, Told};
+use cqf_output::{Writer, Sink, Told};
 
 impl JsonOutput {
     /// Writes the output: the object. It allocates no memory.
@@ -18,15 +18,15 @@ impl JsonOutput {
             places,
             addresses,
             links,
-            sheet,
+            buffer,
         } = self;
-        let mut press = Press::new(told, sheet);
+        let mut writer = Writer::new(told, buffer);
         let wired = Wired {
             domain: &domain,
             addresses: addresses.as_slice(),
             links: links.as_slice(),
         };
-        put_object(&mut press, wired, rows.as_slice(), places.as_slice());
-        let _told = press.close();
+        put_object(&mut writer, wired, rows.as_slice(), places.as_slice());
+        let _told = writer.close();
     }
 }

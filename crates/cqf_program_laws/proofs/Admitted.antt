@@ -24,7 +24,7 @@ use Rattle.cqf_text.specs.Parts.{parts_of}
 use Rattle.cqf_topology.specs.DomainText.{domain_within}
 use Rattle.cqf_topology.specs.PlannedText.{PlannedText, planned_of_text}
 use Rattle.cqf_admission.specs.Script.{Called, administrators, script_of}
-use Rattle.cqf_press.specs.Stops.{or_line}
+use Rattle.cqf_output.specs.Stops.{or_line}
 use Rattle.cqf_program_scenario.specs.Lines.{domain_line, script_line, streams_line}
 use Rattle.cqf_program_scenario.specs.Parts.{RunTexts, run_parts}
 use Rattle.cqf_program_scenario.specs.Scenario.{Scenario, frames_of_part, scenario_behind}

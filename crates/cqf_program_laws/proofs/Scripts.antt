@@ -29,7 +29,7 @@ use Rattle.cqf_admission.specs.Script.{Called, act_for, administrators, call_of_
 use Rattle.cqf_admission.specs.Script.{called_behind, calls_from, request_named, script_of, sealed_behind}
 use Rattle.cqf_laws_timing.proofs.Listed.{none_admits_only}
 use Rattle.cqf_laws_timing.specs.Asking.{AsksOnly, CallsAdmitOnly, SeatsAdmitOnly}
-use Rattle.cqf_press.specs.Stops.{or_line}
+use Rattle.cqf_output.specs.Stops.{or_line}
 use Rattle.cqf_program_scenario.specs.Calls.{called_for, seals_by, with_calls}
 use Rattle.cqf_program_scenario.specs.Lines.{domain_line, script_line, streams_line}
 use Rattle.cqf_program_scenario.specs.Parting.{calls_from_seal, closes, commands_by, is_command_of, opening_calls}

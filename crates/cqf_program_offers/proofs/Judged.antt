@@ -9,8 +9,8 @@ use Rattle.cqf_model.specs.Domain.{Domain, is_text}
 use Rattle.cqf_topology.specs.DomainText.{is_among}
 use Rattle.cqf_model.specs.History.{Asked}
 use Rattle.cqf_program_plans.specs.Load.Output.{listed_from}
-use Rattle.cqf_press.specs.declared.stops.Stop.{Stop}
-use Rattle.cqf_press.specs.Stops.{IsRefused}
+use Rattle.cqf_output.specs.declared.stops.Stop.{Stop}
+use Rattle.cqf_output.specs.Stops.{IsRefused}
 use Rattle.cqf_traffic.specs.declared.flows.Flow.{Flow}
 use Rattle.cqf_traffic.specs.FlowsText.{flow_text}
 use Rattle.cqf_traffic.specs.declared.senders.TalkerStream.{TalkerStream}

@@ -8,7 +8,7 @@ use Rattle.cqf_topology.specs.PacedText.{paced_text, paced_of_text}
 use Rattle.cqf_admission.specs.Asking.{asked_by, asked_paced}
 use Rattle.cqf_traffic.specs.declared.flows.Flow.{Flow}
 use Rattle.cqf_traffic.specs.FlowsText.{FlowText, flow_text}
-use Rattle.cqf_press.specs.Stops.{or_line}
+use Rattle.cqf_output.specs.Stops.{or_line}
 use Rattle.cqf_program_scenario.proofs.AskedTexts.{asked_texts}
 use Rattle.cqf_program_scenario.specs.Lines.{streams_line}
 use Rattle.cqf_program_offers.specs.Made.{asked_of_part, bridges_of, bridges_on}

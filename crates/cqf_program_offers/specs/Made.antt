@@ -13,7 +13,7 @@ use Rattle.cqf_topology.specs.PacedText.{paced_of_text}
 use Rattle.cqf_admission.specs.Asking.{asked_by}
 use Rattle.cqf_admission.specs.Script.{script_of}
 use Rattle.cqf_traffic.specs.FlowsText.{FlowText, flows_of_text}
-use Rattle.cqf_press.specs.Stops.{or_line}
+use Rattle.cqf_output.specs.Stops.{or_line}
 use Rattle.cqf_program_words.specs.Composing.{first_text, text_behind}
 use Rattle.cqf_program_words.specs.declared.words.Job.{Job}
 use Rattle.cqf_program_words.specs.declared.words.Job.TheVariants as job

@@ -13,7 +13,7 @@ use Rattle.cqf_report.specs.Offers.{as_bridge}
 use Rattle.cqf_traffic.specs.FlowsText.{FlowText, flows_of_text}
 use Rattle.cqf_traffic.specs.declared.senders.TalkerStream.{TalkerStream}
 use Rattle.cqf_traffic.specs.Offering.{frames_before, offers_before}
-use Rattle.cqf_press.specs.Stops.{fault_line, or_line}
+use Rattle.cqf_output.specs.Stops.{fault_line, or_line}
 use Rattle.cqf_program_scenario.specs.Lines.{domain_line}
 use Rattle.cqf_program_scenario.specs.Parts.{two_parts}
 use Rattle.cqf_program_plans.specs.Load.Output.{listed_from}

@@ -2,9 +2,9 @@
 ghost use Rattle.std.specs.Prelude.{◌≡◌, IfErr, IfOk, Ok, map, string_bytes};
 ghost use Rattle.cqf_admission.specs.Asking.{asked_paced};
 ghost use Rattle.cqf_program_offers.specs.Made.{call_of, made_calls, script_text};
-ghost use Rattle.cqf_press.specs.Stops.{IsRefused};
+ghost use Rattle.cqf_output.specs.Stops.{IsRefused};
 
-use cqf_press::Stop;
+use cqf_output::Stop;
 use cqf_program_plans::rows_of_cycle_0;
 use cqf_topology::{Domain, PacedRequest};
 use cqf_units::Memory;

@@ -1,7 +1,7 @@
 //! The command `offers`.
 ghost use Rattle.std.specs.Prelude.{◌≡◌, IfErr, IfOk, Ok, map};
 ghost use Rattle.cqf_program_offers.specs.OffersOutput.{offered_by, offered_input, offered_of, too_many_line};
-ghost use Rattle.cqf_press.specs.Stops.{EndsWith, IsRefused};
+ghost use Rattle.cqf_output.specs.Stops.{EndsWith, IsRefused};
 ghost use Rattle.cqf_traffic.specs.FlowsText.{flow_text};
 ghost use Rattle.cqf_traffic.specs.Offering.{offers_before};
 ghost use Rattle.cqf_program_offers.specs.OffersText.{offers_text};
@@ -10,7 +10,7 @@ use crate::reading::flows_input;
 use crate::sending::senders_of;
 use crate::text::offers_text;
 use cqf_model::Limits;
-use cqf_press::{REFUSED, Stop};
+use cqf_output::{REFUSED, Stop};
 use cqf_topology::Domain;
 use cqf_traffic::{Flow, TalkerStream, Until, are_few, offers_before};
 use cqf_units::{Memory, Nanos};

@@ -6,7 +6,7 @@ ghost use Rattle.cqf_admission.specs.Script.{script_of};
 ghost use Rattle.cqf_admission.specs.Orders.{ordered_in};
 ghost use Rattle.cqf_program_offers.specs.Made.{calls_for, input_of, is_planned, made_for, made_of_parts, with_both, with_calls, with_offers};
 ghost use Rattle.cqf_program_scenario.specs.Lines.{script_line};
-ghost use Rattle.cqf_press.specs.Stops.{EndsWith, IsRefused, or_line};
+ghost use Rattle.cqf_output.specs.Stops.{EndsWith, IsRefused, or_line};
 
 use crate::calls::made_calls;
 use crate::flows_part;
@@ -14,7 +14,7 @@ use crate::offers::made_offers;
 use crate::parts::{copied_requests, requests_part};
 use cqf_admission::{Names, Ordered};
 use cqf_model::Limits;
-use cqf_press::Stop;
+use cqf_output::Stop;
 use cqf_program_files::{begins_as_offers, cycles_of};
 use cqf_program_scenario::{domain_part, script_part};
 use cqf_program_words::{Job, joined};

@@ -9,11 +9,11 @@ ghost use Rattle.cqf_model.specs.declared.topology.Row.{Row as ARow};
 ghost use Rattle.cqf_topology.specs.DomainText.{is_among};
 ghost use Rattle.cqf_program_plans.specs.Load.Listing.{Weighs};
 ghost use Rattle.cqf_program_plans.specs.Load.Output.{listed_from};
-ghost use Rattle.cqf_press.specs.Stops.{IsRefused};
+ghost use Rattle.cqf_output.specs.Stops.{IsRefused};
 
 use cqf_admission::{JudgedRequest, count_places, judge_paced};
 use cqf_model::{Refused, Row};
-use cqf_press::Stop;
+use cqf_output::Stop;
 use cqf_program_plans::stream_stop;
 use cqf_topology::{Domain, NameList, PacedRequest};
 use cqf_units::{Cycle, Name};

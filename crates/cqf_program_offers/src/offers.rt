@@ -2,11 +2,11 @@
 ghost use Rattle.std.specs.Prelude.{◌≡◌, ◌-◌, ◌<◌, IfErr, IfOk, Ok, map, max};
 ghost use Rattle.cqf_admission.specs.Branches.{branches_of};
 ghost use Rattle.cqf_program_offers.specs.Made.{bridges_of, bridges_on, made_offers};
-ghost use Rattle.cqf_press.specs.Stops.{IsRefused};
+ghost use Rattle.cqf_output.specs.Stops.{IsRefused};
 ghost use Rattle.cqf_traffic.specs.FlowsText.{flow_text};
 
 use crate::offered_of;
-use cqf_press::Stop;
+use cqf_output::Stop;
 use cqf_topology::Domain;
 use cqf_traffic::{Flow, Until};
 use cqf_units::Nanos;

@@ -3,10 +3,10 @@ ghost use Rattle.std.specs.Prelude.{◌≡◌, [], true, IfErr, IfOk, Ok, map};
 ghost use Rattle.cqf_admission.specs.Asking.{asked_paced};
 ghost use Rattle.cqf_program_offers.specs.Made.{asked_of_part};
 ghost use Rattle.cqf_program_offers.specs.OffersOutput.{asked_in};
-ghost use Rattle.cqf_press.specs.Stops.{EndsWith, IsRefused};
+ghost use Rattle.cqf_output.specs.Stops.{EndsWith, IsRefused};
 ghost use Rattle.cqf_traffic.specs.FlowsText.{flow_text};
 
-use cqf_press::Stop;
+use cqf_output::Stop;
 use cqf_program_plans::parted;
 use cqf_program_scenario::{planned_part, streams_part};
 use cqf_topology::PacedRequest;

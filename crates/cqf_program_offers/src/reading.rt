@@ -2,11 +2,11 @@
 ghost use Rattle.std.specs.Prelude.{◌≡◌, Ok, IfErr, IfOk, map};
 ghost use Rattle.cqf_program_offers.specs.OffersOutput.{flows_input};
 ghost use Rattle.cqf_program_plans.specs.Reserving.{flows_line};
-ghost use Rattle.cqf_press.specs.Stops.{IsRefused, or_line};
+ghost use Rattle.cqf_output.specs.Stops.{IsRefused, or_line};
 ghost use Rattle.cqf_traffic.specs.FlowsText.{flow_text, flows_of_text};
 
 use cqf_model::Limits;
-use cqf_press::Stop;
+use cqf_output::Stop;
 use cqf_program_plans::flows_stop;
 use cqf_program_scenario::{domain_part, two_parts};
 use cqf_topology::Domain;

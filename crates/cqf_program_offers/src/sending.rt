@@ -1,6 +1,6 @@
 //! Streams as their talkers see them.
 ghost use Rattle.std.specs.Prelude.{◌≡◌, ◌++◌, ◌∷◌, [], IfErr, IfOk, Ok, OnOk, false, map, string_bytes, option_map};
-ghost use Rattle.cqf_press.specs.Stops.{EndsWith, IsRefused};
+ghost use Rattle.cqf_output.specs.Stops.{EndsWith, IsRefused};
 ghost use Rattle.cqf_admission.specs.Branches.{branches_of};
 ghost use Rattle.cqf_program_offers.specs.OffersOutput.{edge_of, first_name, sender_of, senders_of};
 ghost use Rattle.cqf_topology.specs.DomainText.{is_among};
@@ -8,7 +8,7 @@ ghost use Rattle.cqf_traffic.specs.FlowsText.{flow_text};
 
 use crate::judging::row_of;
 use cqf_model::{Node, Row};
-use cqf_press::Stop;
+use cqf_output::Stop;
 use cqf_topology::{Domain, NameList};
 use cqf_traffic::{Flow, TalkerStream};
 use cqf_units::Name;

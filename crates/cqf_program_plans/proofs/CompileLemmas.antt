@@ -18,14 +18,14 @@ use Rattle.cqf_text.specs.Parts.{parts_of}
 use Rattle.cqf_topology.specs.DomainText.{domain_within}
 use Rattle.cqf_topology.specs.PacedText.{paced_text}
 use Rattle.cqf_lists.specs.Results.{and_then, refuse}
-use Rattle.cqf_press.specs.Stops.{EndsWith}
+use Rattle.cqf_output.specs.Stops.{EndsWith}
 use Rattle.cqf_program_plans.specs.Compile.Output.{AreAllHeld, admitted_from, compile_input, stream_line, with_asked}
 use Rattle.cqf_program_plans.specs.Reserving.{requests_in}
 use Rattle.cqf_program_scenario.proofs.AskedTexts.{asked_texts}
 use Rattle.cqf_program_scenario.specs.Lines.{domain_line}
 use Rattle.cqf_program_scenario.specs.Parts.{two_parts}
-use Rattle.cqf_press.specs.Stops.{IsRefused, or_line}
-use Rattle.cqf_press.specs.declared.stops.Stop.{Stop}
+use Rattle.cqf_output.specs.Stops.{IsRefused, or_line}
+use Rattle.cqf_output.specs.declared.stops.Stop.{Stop}
 
 -- what the answer to a request says of it
 granted : (number effect : ℕ) (receipt : Receipt) (refusal : Option Refused) → Accepted receipt ≡ admit_reply number effect refusal → refusal ≡ None

@@ -1,6 +1,6 @@
 -- The line of a latency whose frames may miss their deadline.
 use Rattle.std.proofs.Common.{◌≡◌, ◌∙◌, ◌++◌, ◌∷◌, [], ℕ, List, Option, Some, append_assoc, ap, codes, decimal, sym}
-use Rattle.cqf_press.specs.Stops.{fault_line}
+use Rattle.cqf_output.specs.Stops.{fault_line}
 use Rattle.cqf_program_plans.specs.declared.latency.latencies.Verdict.{Verdict}
 use Rattle.cqf_program_plans.specs.Latency.Text.{name_of_verdict, text_of_deadline, text_of_verdict}
 

@@ -6,8 +6,8 @@ use Rattle.cqf_model.specs.declared.history.Refused.TheVariants.{Memory}
 use Rattle.cqf_model.specs.declared.topology.Row.{Row}
 use Rattle.cqf_model.specs.Domain.{Domain}
 use Rattle.cqf_model.specs.History.{Asked}
-use Rattle.cqf_press.specs.Stops.{EndsWith, IsRefused}
-use Rattle.cqf_press.specs.declared.stops.Stop.{Stop}
+use Rattle.cqf_output.specs.Stops.{EndsWith, IsRefused}
+use Rattle.cqf_output.specs.declared.stops.Stop.{Stop}
 use Rattle.cqf_program_plans.specs.Compile.Output.{stream_line}
 use Rattle.cqf_program_plans.proofs.CompileLemmas.{IsRefused-line, IsRefused-memory, is_memory}
 use Rattle.cqf_program_plans.specs.Load.Listing.{IsListed, listed_row, listing_refusal}

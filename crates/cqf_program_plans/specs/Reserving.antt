@@ -10,7 +10,7 @@ use Rattle.cqf_traffic.specs.declared.faults.FlowsFault.{FlowsFault}
 use Rattle.cqf_traffic.specs.FlowsText.{FlowText, flows_fault_text, flows_of_text}
 use Rattle.cqf_traffic.specs.PacedFlows.{PacedFlowText, paced_flows_of_text}
 use Rattle.cqf_traffic.specs.TrafficText.{TrafficText, promise_of}
-use Rattle.cqf_press.specs.Stops.{fault_line, line_of, or_line}
+use Rattle.cqf_output.specs.Stops.{fault_line, line_of, or_line}
 use Rattle.cqf_program_plans.specs.declared.reserving.Lack.{Lack}
 
 -- the line for streams with traffic that are refused

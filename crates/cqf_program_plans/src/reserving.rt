@@ -1,13 +1,13 @@
 //! Streams that are read with their traffic, and reserve what it needs.
 ghost use Rattle.std.specs.Prelude.{◌≡◌, ◌≢◌, ◌+◌, ◌<◌, ◌^◌, [], IfErr, IfOk, Ok, map, string_bytes};
-ghost use Rattle.cqf_press.specs.Stops.{EndsWith, IsRefused};
+ghost use Rattle.cqf_output.specs.Stops.{EndsWith, IsRefused};
 ghost use Rattle.cqf_program_plans.specs.Reserving.{first_lack, flows_line, lack_at, lack_line, planned_in, planned_octets, requests_in, reserved_octets};
 ghost use Rattle.cqf_topology.specs.PacedText.{paced_text};
 ghost use Rattle.cqf_topology.specs.PlannedText.{planned_text};
 ghost use Rattle.cqf_traffic.specs.FlowsText.{flow_text};
 ghost use Rattle.cqf_traffic.specs.PacedFlows.{paced_flow_text};
 
-use cqf_press::{REFUSED, Stop};
+use cqf_output::{REFUSED, Stop};
 use cqf_topology::{Domain, PacedRequest, Planned, StreamsFault};
 use cqf_traffic::{Flow, FlowsFault, PacedFlow, Traffic, read_flows, read_paced_flows};
 use cqf_units::{Memory, Nanos};

@@ -1,6 +1,6 @@
 -- The lines of a check, as they are printed.
 use Rattle.std.proofs.Common.{◌≡◌, ◌∙◌, ◌++◌, ◌∷◌, [], ℕ, List, append_assoc, ap, codes, sym}
-use Rattle.cqf_press.specs.Stops.{fault_line, line_of}
+use Rattle.cqf_output.specs.Stops.{fault_line, line_of}
 
 -- the line feed comes after the last number
 pub unfinished_told : (under_way later : List ℕ) →

@@ -12,8 +12,8 @@ use Rattle.cqf_program_scenario.specs.Lines.{domain_line, streams_line}
 use Rattle.cqf_program_scenario.specs.Parts.{RunTexts}
 use Rattle.cqf_program_plans.specs.Latency.Input.{asked_in}
 use Rattle.cqf_program_scenario.specs.Scenario.{Scenario, scenario_behind}
-use Rattle.cqf_press.specs.declared.stops.Stop.{Stop}
-use Rattle.cqf_press.specs.Stops.{IsRefused, or_line}
+use Rattle.cqf_output.specs.declared.stops.Stop.{Stop}
+use Rattle.cqf_output.specs.Stops.{IsRefused, or_line}
 use Rattle.cqf_program_runs.specs.Deliveries.PlannedScenario.{planned_scenario_of}
 
 module _ (limits : Limits) (cycles : ℕ) (texts : RunTexts) (d : Domain) (streams : List PlannedText)

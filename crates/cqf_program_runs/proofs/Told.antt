@@ -17,8 +17,8 @@ use Rattle.cqf_program_scenario.specs.Books.{IsBookOfScenario}
 use Rattle.cqf_program_scenario.specs.Outcomes.{IsOutcomeOf}
 use Rattle.cqf_program_scenario.specs.Closing.{scenario_given}
 use Rattle.cqf_program_scenario.specs.Scenario.{Scenario}
-use Rattle.cqf_press.specs.declared.stops.Stop.{Stop}
-use Rattle.cqf_press.specs.Stops.{EndsWith, IsRefused}
+use Rattle.cqf_output.specs.declared.stops.Stop.{Stop}
+use Rattle.cqf_output.specs.Stops.{EndsWith, IsRefused}
 use Rattle.cqf_program_runs.specs.declared.check.checked.CheckCounts.{CheckCounts}
 use Rattle.cqf_program_runs.specs.declared.check.checked.OfferCounts.{OfferCounts}
 use Rattle.cqf_program_runs.specs.declared.deliveries.delivery.Delivery.{Delivery}

@@ -12,7 +12,7 @@ use Rattle.cqf_admission.specs.Script.{Called, administrators, script_of}
 use Rattle.cqf_program_scenario.proofs.AskedTexts.{asked_texts}
 use Rattle.cqf_program_scenario.specs.Lines.{domain_line, script_line, streams_line}
 use Rattle.cqf_program_scenario.specs.Parts.{RunTexts}
-use Rattle.cqf_press.specs.Stops.{or_line}
+use Rattle.cqf_output.specs.Stops.{or_line}
 use Rattle.cqf_program_scenario.specs.Scenario.{Scenario, calls_in, frames_of_part, scenario_behind, scenario_of}
 
 -- the calls that were read are the script's

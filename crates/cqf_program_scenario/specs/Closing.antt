@@ -7,7 +7,7 @@ use Rattle.cqf_admission.specs.Asking.{asked_paced}
 use Rattle.cqf_program_scenario.specs.declared.given.RunInput.{RunInput}
 use Rattle.cqf_program_scenario.specs.Calls.{HasRoom}
 use Rattle.cqf_program_scenario.specs.Scenario.{Scenario}
-use Rattle.cqf_model.specs.Limits.{most_rows}
+use Rattle.cqf_model.specs.Limits.{most_offers}
 
 -- the scenario of what was read
 abbrev pub scenario_given : RunInput → Scenario
@@ -25,6 +25,6 @@ pub record MayBeRun (cycles : ℕ) (s : Scenario) : Type 0 where
   pub room : HasRoom cycles [] s.calls
   pub offers : AreOffers s.domain s.offers
   pub background : AreBackground s.domain s.background
-  pub few_offers : length s.offers ≤ most_rows
-  pub few_background : length s.background ≤ most_rows
+  pub few_offers : length s.offers ≤ most_offers
+  pub few_background : length s.background ≤ most_offers
   pub in_order : StandInOrder s.offers

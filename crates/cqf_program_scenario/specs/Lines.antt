@@ -4,7 +4,7 @@ use Rattle.cqf_report.specs.Faults.{table_fault_text}
 use Rattle.cqf_report.specs.declared.tables.TableFault.{TableFault}
 use Rattle.cqf_admission.specs.Faults.{script_fault_text}
 use Rattle.cqf_admission.specs.declared.faults.ScriptFault.{ScriptFault}
-use Rattle.cqf_press.specs.Stops.{fault_line}
+use Rattle.cqf_output.specs.Stops.{fault_line}
 use Rattle.cqf_topology.specs.TomlFaults.{toml_fault_text}
 use Rattle.cqf_topology.specs.Faults.{domain_fault_text}
 use Rattle.cqf_topology.specs.declared.faults.DomainFault.{DomainFault}

@@ -1,6 +1,6 @@
 -- The parts of a command's input.
 use Rattle.std.specs.Prelude.{ℕ, List, [], ◌∷◌, Option, Some, None, Result, Ok, Err, codes}
-use Rattle.cqf_press.specs.Stops.{line_of}
+use Rattle.cqf_output.specs.Stops.{line_of}
 
 -- the line if the input has the wrong number of parts
 abbrev pub parts_line : List ℕ

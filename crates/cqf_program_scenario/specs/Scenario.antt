@@ -16,7 +16,7 @@ use Rattle.cqf_report.specs.Offers.{offers_of}
 use Rattle.cqf_admission.specs.Script.{Called, administrators, script_of}
 use Rattle.cqf_program_scenario.specs.Lines.{background_line, domain_line, offers_line, script_line, streams_line}
 use Rattle.cqf_program_scenario.specs.Parts.{RunTexts, run_parts}
-use Rattle.cqf_press.specs.Stops.{or_line}
+use Rattle.cqf_output.specs.Stops.{or_line}
 
 -- a scenario: a domain, the calls of its script in order, the seat of the Seals, the offers, and the background frames
 pub record Scenario : Type 0 where

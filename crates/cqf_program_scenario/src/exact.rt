@@ -9,7 +9,7 @@ ghost use Rattle.cqf_instants_run.specs.HistoryStarts.{IsLaidOutHistoryOf, SomeH
 ghost use Rattle.cqf_program_scenario.specs.Books.{IsBookOfScenario};
 ghost use Rattle.cqf_program_scenario.specs.Closing.{MayBeRun, scenario_given};
 ghost use Rattle.cqf_program_scenario.specs.Outcomes.{IsOutcomeOf};
-ghost use Rattle.cqf_model.specs.Limits.{most_rows};
+ghost use Rattle.cqf_model.specs.Limits.{most_offers};
 
 use crate::ExactBook;
 use crate::given::RunInput;
@@ -33,9 +33,9 @@ fn backed_of(
 ) -> Result<Vec<Started>, Memory>
     requires offers { AreOffers given.now.domain given.now.offers.items }
     requires order { StandInOrder given.now.offers.items }
-    requires few { length given.now.offers.items ≤ most_rows }
+    requires few { length given.now.offers.items ≤ most_offers }
     requires background { AreBackground given.now.domain given.now.background.items }
-    requires few_background { length given.now.background.items ≤ most_rows }
+    requires few_background { length given.now.background.items ≤ most_offers }
     requires history { SomeHistory given.now.domain cycles rows.now given.now.offers.items edge_verdicts.now }
     ensures { IfOk result (λ backed. (entries : List Recorded) → IsLaidOutHistoryOf given.now.domain cycles rows.now given.now.offers.items
         edge_verdicts.now entries →

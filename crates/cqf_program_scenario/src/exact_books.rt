@@ -4,12 +4,12 @@ ghost use Rattle.cqf_model.specs.declared.frames.Started.{Started as AStarted};
 ghost use Rattle.cqf_model.specs.Book.{Contents, contents_of};
 ghost use Rattle.cqf_program_scenario.specs.ExactBooks.{AreExactParts};
 ghost use Rattle.cqf_instants.specs.Progress.{AreStartsOf};
-ghost use Rattle.cqf_press.specs.Press.{Puts};
+ghost use Rattle.cqf_output.specs.Writer.{Puts};
 ghost use Rattle.cqf_report.specs.Books.{lines_of_starts, text_of_book};
 
 use cqf_instants::{Pass, gather_starts};
 use cqf_model::{Book, Dropped, Started};
-use cqf_press::{Press, Sink};
+use cqf_output::{Writer, Sink};
 use cqf_report::{put_book_header, put_drops, put_starts};
 use cqf_topology::Domain;
 use cqf_units::Memory;
@@ -52,9 +52,9 @@ impl ExactBook {
 
     /// Puts the text of the book of this domain, as `cqf_report::write_book` gives it: the header, the starts of streams' frames, those of
     /// background frames, and the drops. It allocates no memory. The time grows with the number of lines.
-    pub fn put<W: Sink>(self, press: &mut Press<'_, W>, domain: &Domain)
+    pub fn put<W: Sink>(self, writer: &mut Writer<'_, W>, domain: &Domain)
         ensures { (book : Contents) → AreExactParts self book →
-            Puts W.contents press.old press.new (text_of_book domain.now book) }
+            Puts W.contents writer.old writer.new (text_of_book domain.now book) }
     {
         let ExactBook {
             pass,
@@ -63,10 +63,10 @@ impl ExactBook {
         } = self;
         let background = background.as_slice();
         let drops = drops.as_slice();
-        put_book_header(press);
-        put_starts_of_pass(press, domain, pass);
-        put_starts(press, b"background", domain, background);
-        put_drops(press, domain, drops);
+        put_book_header(writer);
+        put_starts_of_pass(writer, domain, pass);
+        put_starts(writer, b"background", domain, background);
+        put_drops(writer, domain, drops);
     }
 
     /// Returns the book with all its starts in a list.
@@ -91,13 +91,13 @@ impl ExactBook {
 }
 
 /// Puts a line for each start that a pass yields, cycle by cycle.
-fn put_starts_of_pass<W: Sink>(press: &mut Press<'_, W>, domain: &Domain, pass: Pass)
+fn put_starts_of_pass<W: Sink>(writer: &mut Writer<'_, W>, domain: &Domain, pass: Pass)
     requires { pass.told ≡ 0 }
     ensures { (starts : List AStarted) → AreStartsOf pass.basis starts →
-        Puts W.contents press.old press.new (lines_of_starts (codes "start") domain.now starts) }
+        Puts W.contents writer.old writer.new (lines_of_starts (codes "start") domain.now starts) }
 {
     let mut pass = pass;
     while pass.next_cycle() {
-        put_starts(press, b"start", domain, pass.starts());
+        put_starts(writer, b"start", domain, pass.starts());
     }
 }

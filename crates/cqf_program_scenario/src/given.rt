@@ -12,15 +12,15 @@ ghost use Rattle.cqf_program_scenario.specs.Closing.{MayBeRun, scenario_given};
 ghost use Rattle.cqf_program_scenario.specs.Scenario.{background_of_part, frames_of_part, scenario_behind, scenario_input, scenario_of};
 ghost use Rattle.cqf_program_scenario.specs.Logged.{HasOrders};
 ghost use Rattle.cqf_admission.specs.Script.{script_of};
-ghost use Rattle.cqf_press.specs.Stops.{IsRefused, or_line};
-ghost use Rattle.cqf_model.specs.Limits.{most_rows};
+ghost use Rattle.cqf_output.specs.Stops.{IsRefused, or_line};
+ghost use Rattle.cqf_model.specs.Limits.{most_offers};
 
 use crate::{
     RunParts, background_part, domain_part, offers_part, run_parts, script_part, streams_part,
 };
 use cqf_admission::{Names, Ordered, administrators};
 use cqf_model::{Background, Limits, Offer};
-use cqf_press::Stop;
+use cqf_output::Stop;
 use cqf_report::offers_are_read_in_order;
 use cqf_topology::{Domain, PacedRequest};
 use cqf_units::Memory;
@@ -78,7 +78,7 @@ fn read_background_of(
 ) -> Result<Vec<Background>, Stop>
     ensures ok { IfOk result (λ frames. background_of_part domain.now (option_map (λ text. text.now) text.entry) ≡ Ok frames.items) }
     ensures good { IfOk result (λ frames. AreBackground domain.now frames.items) }
-    ensures few { IfOk result (λ frames. length frames.items ≤ most_rows) }
+    ensures few { IfOk result (λ frames. length frames.items ≤ most_offers) }
     ensures err { IfErr result (IsRefused (background_of_part domain.now (option_map (λ text. text.now) text.entry))) }
 {
     match text {
@@ -97,8 +97,8 @@ fn read_frames(
     ensures offers { IfOk result (λ frames. AreOffers domain.now frames.0.items) }
     ensures order { IfOk result (λ frames. StandInOrder frames.0.items) }
     ensures background { IfOk result (λ frames. AreBackground domain.now frames.1.items) }
-    ensures few_offers { IfOk result (λ frames. length frames.0.items ≤ most_rows) }
-    ensures few_background { IfOk result (λ frames. length frames.1.items ≤ most_rows) }
+    ensures few_offers { IfOk result (λ frames. length frames.0.items ≤ most_offers) }
+    ensures few_background { IfOk result (λ frames. length frames.1.items ≤ most_offers) }
     ensures err { IfErr result (IsRefused (frames_of_part domain.now (texts_of parts.entry))) }
 {
     offers_are_read_in_order();

@@ -13,8 +13,8 @@
 //!   from that. [`read_opened`] reads a scenario whose cycles are closed while it runs: what its bridges and administrators begin with ([`Opened`]).
 //! - **The book.** [`book_of_outcome`] makes it ready to be written, as an [`ExactBook`]. That is made of a pass, which yields the starts cycle by
 //!   cycle while the book is written, and of the background frames' starts and the drops, which are at hand. No list of all starts is kept. The
-//!   book is put on a press, or gathered into a list.
-//! - **Writing.** [`put_starts_of_port`] puts the text of a port's starts on a press, line by line, as `cqf_report` has it. It allocates no memory.
+//!   book is put on a writer, or gathered into a list.
+//! - **Writing.** [`put_starts_of_port`] puts the text of a port's starts on a writer, line by line, as `cqf_report` has it. It allocates no memory.
 //!
 //! In `specs/` are defined: the parts of an input (`Parts`), the line for a part's fault (`Lines`), the content of an input (`Scenario`), the
 //! history that its calls make (`Calls`), the meaning of its log (`Logged`), its book (`Books`, `Outcomes`), the book with the parts of an
@@ -25,7 +25,7 @@
 //! domain_part(alloc, limits, b"links = []\n") ends with status 1 and the line "cqf: domain: Missing cycle"
 //! a script of the one line "0 admit x" over two cycles has the history
 //!     seat 0 admits x, seat 1 closes cycle 0, seat 1 closes cycle 1
-//! ExactBook::new(pass, background, drops).put(&mut press, &domain);
+//! ExactBook::new(pass, background, drops).put(&mut writer, &domain);
 //!     puts "what,cycle,where,frame,octets,detail\nstart,1,a>s,1,64,125000\n"
 //! ```
 #![tactic(auto)]

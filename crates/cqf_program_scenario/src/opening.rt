@@ -7,7 +7,7 @@ ghost use Rattle.cqf_program_scenario.specs.Logged.{HasOrders};
 ghost use Rattle.cqf_program_scenario.specs.Opening.{IsOpened, IsOpenedInput};
 ghost use Rattle.cqf_program_scenario.specs.Scenario.{scenario_input};
 ghost use Rattle.cqf_admission.specs.Script.{called_of};
-ghost use Rattle.cqf_press.specs.Stops.{IsRefused};
+ghost use Rattle.cqf_output.specs.Stops.{IsRefused};
 ghost use Rattle.cqf_model.specs.Limits.{most_cycles};
 
 use crate::calls::apply_all;
@@ -15,7 +15,7 @@ use crate::given::{RunInput, read_given};
 use crate::parting::{Parted, part_calls};
 use cqf_admission::{Admission, Call, Command, calls_of};
 use cqf_model::{Background, Limits, Offer};
-use cqf_press::Stop;
+use cqf_output::Stop;
 use cqf_topology::Domain;
 use cqf_units::Memory;
 use std::alloc::Global;

@@ -1,11 +1,11 @@
 //! The parts of an input.
 ghost use Rattle.std.specs.Prelude.{◌≡◌, Ok, IfOk, IfErr};
 ghost use Rattle.cqf_text.specs.Parts.{parts_of};
-ghost use Rattle.cqf_press.specs.Stops.{EndsWith, IsRefused};
+ghost use Rattle.cqf_output.specs.Stops.{EndsWith, IsRefused};
 ghost use Rattle.cqf_program_scenario.specs.Parts.{one_part, parts_line, run_parts, two_parts};
 ghost use Rattle.cqf_program_scenario.specs.RunParts.{texts_of};
 
-use cqf_press::{REFUSED, Stop};
+use cqf_output::{REFUSED, Stop};
 use cqf_text::parts;
 use std::alloc::Global;
 

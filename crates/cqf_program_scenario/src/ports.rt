@@ -2,27 +2,27 @@
 
 ghost use Rattle.std.specs.Prelude.{◌<◌, ◌^◌, length, map};
 ghost use Rattle.cqf_port.specs.PortState.{start_of};
-ghost use Rattle.cqf_press.specs.Press.{Puts};
+ghost use Rattle.cqf_output.specs.Writer.{Puts};
 ghost use Rattle.cqf_report.specs.Starts.{lines_of_port, start_fields, text_of_starts};
 ghost use Rattle.cqf_report.specs.Written.{line_of_fields};
 ghost use Rattle.cqf_program_scenario.specs.PortLines.{AreTellable};
 ghost use Rattle.cqf_units.specs.Timing.{ticks_of_octet};
 
 use cqf_model::{Arrival, Start};
-use cqf_press::{Press, Sink};
+use cqf_output::{Writer, Sink};
 use cqf_report::{put_port_header, put_port_start};
 use cqf_units::{Nanos, Rate};
 
 /// Puts the line of a start, given by the index of its arrival and its instant, with the instant at which its frame ends at this rate.
 fn put_start_at<W: Sink>(
-    press: &mut Press<'_, W>,
+    writer: &mut Writer<'_, W>,
     arrivals: &[Arrival],
     start: (usize, u64),
     rate: Rate,
 )
     requires inside { start.0 < length arrivals.now }
     requires early { start.1 < 2 ^ 63 }
-    ensures { Puts W.contents press.old press.new (line_of_fields (start_fields (ticks_of_octet rate) (start_of arrivals.now start))) }
+    ensures { Puts W.contents writer.old writer.new (line_of_fields (start_fields (ticks_of_octet rate) (start_of arrivals.now start))) }
 {
     let (place, instant) = start;
     let arrival = arrivals[place];
@@ -32,35 +32,35 @@ fn put_start_at<W: Sink>(
         octets: arrival.octets,
         frame: arrival.frame,
     };
-    put_port_start(press, &started, rate);
+    put_port_start(writer, &started, rate);
 }
 
 /// Puts a line for each start.
 fn put_each<W: Sink>(
-    press: &mut Press<'_, W>,
+    writer: &mut Writer<'_, W>,
     arrivals: &[Arrival],
     starts: &[(usize, u64)],
     rate: Rate,
 )
     requires { AreTellable arrivals.now starts.now }
-    ensures { Puts W.contents press.old press.new (lines_of_port (ticks_of_octet rate) (map (start_of arrivals.now) starts.now)) }
+    ensures { Puts W.contents writer.old writer.new (lines_of_port (ticks_of_octet rate) (map (start_of arrivals.now) starts.now)) }
 {
     for start in starts {
-        put_start_at(press, arrivals, *start, rate);
+        put_start_at(writer, arrivals, *start, rate);
     }
 }
 
 /// Puts the text of a port's starts at a rate, as `cqf_report::write_starts` gives it. Each start is given by the index of its arrival
 /// among the arrivals, from 0, and its instant, before 2^63 ns.
 pub fn put_starts_of_port<W: Sink>(
-    press: &mut Press<'_, W>,
+    writer: &mut Writer<'_, W>,
     arrivals: &[Arrival],
     starts: &[(usize, u64)],
     rate: Rate,
 )
     requires { AreTellable arrivals.now starts.now }
-    ensures { Puts W.contents press.old press.new (text_of_starts (ticks_of_octet rate) (map (start_of arrivals.now) starts.now)) }
+    ensures { Puts W.contents writer.old writer.new (text_of_starts (ticks_of_octet rate) (map (start_of arrivals.now) starts.now)) }
 {
-    put_port_header(press);
-    put_each(press, arrivals, starts, rate);
+    put_port_header(writer);
+    put_each(writer, arrivals, starts, rate);
 }

@@ -9,15 +9,15 @@ ghost use Rattle.cqf_report.specs.Offers.{offers_of};
 ghost use Rattle.cqf_admission.specs.declared.orders.Ordered.{Ordered as AnOrdered};
 ghost use Rattle.cqf_admission.specs.Orders.{StandsIn, ordered_in};
 ghost use Rattle.cqf_admission.specs.Script.{AreFew, script_of};
-ghost use Rattle.cqf_press.specs.Stops.{EndsWith, IsRefused, fault_line, or_line};
+ghost use Rattle.cqf_output.specs.Stops.{EndsWith, IsRefused, fault_line, or_line};
 ghost use Rattle.cqf_topology.specs.DomainText.{domain_within};
 ghost use Rattle.cqf_topology.specs.PlannedText.{planned_of_text, planned_text};
 ghost use Rattle.cqf_topology.specs.PacedText.{paced_text, paced_of_text};
-ghost use Rattle.cqf_model.specs.Limits.{most_rows};
+ghost use Rattle.cqf_model.specs.Limits.{most_offers};
 
 use cqf_admission::{Names, Ordered, ScriptFault, read_orders};
 use cqf_model::{Background, Limits, Offer};
-use cqf_press::Stop;
+use cqf_output::Stop;
 use cqf_report::{TableFault, read_background, read_offers};
 use cqf_topology::{
     Domain, DomainFault, PacedRequest, Planned, StreamsFault, read_paced_streams,
@@ -127,7 +127,7 @@ pub fn script_part(
 pub fn offers_part(alloc: Global, domain: &Domain, text: &[u8]) -> Result<Vec<Offer>, Stop>
     ensures ok { IfOk result (λ offers. offers_of domain.now text.now ≡ Ok offers.items) }
     ensures good { IfOk result (λ offers. AreOffers domain.now offers.items) }
-    ensures few { IfOk result (λ offers. length offers.items ≤ most_rows) }
+    ensures few { IfOk result (λ offers. length offers.items ≤ most_offers) }
     ensures err { IfErr result (IsRefused (or_line offers_line (offers_of domain.now text.now))) }
 {
     match read_offers(alloc, domain, text) {
@@ -140,7 +140,7 @@ pub fn offers_part(alloc: Global, domain: &Domain, text: &[u8]) -> Result<Vec<Of
 pub fn background_part(alloc: Global, domain: &Domain, text: &[u8]) -> Result<Vec<Background>, Stop>
     ensures ok { IfOk result (λ frames. background_frames_of domain.now text.now ≡ Ok frames.items) }
     ensures good { IfOk result (λ frames. AreBackground domain.now frames.items) }
-    ensures few { IfOk result (λ frames. length frames.items ≤ most_rows) }
+    ensures few { IfOk result (λ frames. length frames.items ≤ most_offers) }
     ensures err { IfErr result (IsRefused (or_line background_line (background_frames_of domain.now text.now))) }
 {
     match read_background(alloc, domain, text) {

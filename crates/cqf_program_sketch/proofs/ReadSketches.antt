@@ -17,7 +17,7 @@ use Rattle.cqf_sketch.proofs.ReadLemmas.{draft_limits, sketch_readable}
 use Rattle.cqf_sketch.specs.StreamsText.{sketch_streams_of_text}
 use Rattle.cqf_program_plans.specs.Reserving.{flows_line}
 use Rattle.cqf_program_scenario.specs.Parts.{two_parts}
-use Rattle.cqf_press.specs.Stops.{or_line}
+use Rattle.cqf_output.specs.Stops.{or_line}
 use Rattle.cqf_program_placing.specs.Room.{MayBeWays, PlacedWhereThereIsRoom}
 use Rattle.cqf_program_placing.specs.Settled.{settled_of}
 use Rattle.cqf_program_sketch.specs.PlanLaws.{SketchesArePlacedByRoom}

@@ -4,7 +4,7 @@ use Rattle.std.specs.Prelude.{◌==◌}
 use Rattle.std.specs.Fmt.{decimal}
 use Rattle.std.specs.List.{join_with_byte}
 use Rattle.cqf_report.specs.Written.{line_of_fields}
-use Rattle.cqf_press.specs.Stops.{fault_line}
+use Rattle.cqf_output.specs.Stops.{fault_line}
 use Rattle.cqf_program_sketch.specs.declared.candidates.CandidateFault.{CandidateFault}
 use Rattle.cqf_program_sketch.specs.Choosing.{bad_line, candidate_fault_text}
 

@@ -3,7 +3,7 @@ use Rattle.std.specs.Prelude.{ℕ, ◌≡◌, ◌<◌, ◌==◌, ◌++◌, List,
 use Rattle.cqf_model.specs.Domain.{Domain}
 use Rattle.cqf_sketch.specs.SketchDomain.{SketchDomain, longest_guard}
 use Rattle.cqf_traffic.specs.FlowsText.{FlowText}
-use Rattle.cqf_press.specs.Stops.{fault_line}
+use Rattle.cqf_output.specs.Stops.{fault_line}
 use Rattle.cqf_program_placing.specs.Faults.{plan_fault_text}
 use Rattle.cqf_program_placing.specs.Placing.{PlacedStreams}
 use Rattle.cqf_program_placing.specs.Settled.{SettledStream}

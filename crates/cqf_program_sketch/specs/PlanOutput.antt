@@ -12,8 +12,8 @@ use Rattle.cqf_sketch.specs.SketchDomain.{SketchDomain, sketch_domain_of_text}
 use Rattle.cqf_sketch.specs.StreamsText.{sketch_streams_of_text}
 use Rattle.cqf_traffic.specs.FlowsText.{FlowText}
 use Rattle.cqf_plants.specs.Plants.{IsToldPlant}
-use Rattle.cqf_press.specs.declared.stops.Stop.{Stop}
-use Rattle.cqf_press.specs.Stops.{fault_line, or_line}
+use Rattle.cqf_output.specs.declared.stops.Stop.{Stop}
+use Rattle.cqf_output.specs.Stops.{fault_line, or_line}
 use Rattle.cqf_program_scenario.specs.Parts.{two_parts}
 use Rattle.cqf_program_plans.specs.Compile.Output.{stream_line}
 use Rattle.cqf_program_plans.specs.Reserving.{flows_line}

@@ -2,7 +2,7 @@
 ghost use Rattle.std.specs.Prelude.{◌≡◌, ◌≢◌, [], All, IfErr, IfOk, IfSome, Some, Ok, false, length, map, option_map, string_bytes};
 ghost use Rattle.cqf_program_plans.specs.Reserving.{flows_line};
 ghost use Rattle.cqf_program_placing.specs.Settled.{settled_of, settled_value};
-ghost use Rattle.cqf_press.specs.Stops.{EndsWith, IsRefused, or_line};
+ghost use Rattle.cqf_output.specs.Stops.{EndsWith, IsRefused, or_line};
 ghost use Rattle.cqf_sketch.specs.SketchDomain.{AreCandidates, sketch_domain_of_text};
 ghost use Rattle.cqf_sketch.specs.StreamsText.{sketch_streams_of_text, stream_text};
 ghost use Rattle.cqf_program_placing.specs.Placing.{BeginsEarly, outcome_value};
@@ -20,7 +20,7 @@ use crate::table::text_of_candidates;
 use crate::trying::{Tried, judge_all};
 use cqf_model::{Limits, Refused};
 use cqf_plants::write_plant;
-use cqf_press::{REFUSED, Stop};
+use cqf_output::{REFUSED, Stop};
 use cqf_program_placing::{PlanFault, Settled, Unsettled, settle};
 use cqf_program_plans::{flows_stop, stream_stop};
 use cqf_program_scenario::two_parts;

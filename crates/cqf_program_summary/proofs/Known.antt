@@ -12,8 +12,8 @@ use Rattle.cqf_topology.specs.declared.paced.PacedRequest.{PacedRequest}
 use Rattle.cqf_topology.specs.DomainText.{domain_within}
 use Rattle.cqf_topology.specs.PacedText.{PacedText, paced_of_text, paced_text}
 use Rattle.cqf_admission.specs.Asking.{asked_by, asked_paced}
-use Rattle.cqf_press.specs.declared.stops.Stop.{Stop}
-use Rattle.cqf_press.specs.Stops.{IsRefused, fault_line, or_line}
+use Rattle.cqf_output.specs.declared.stops.Stop.{Stop}
+use Rattle.cqf_output.specs.Stops.{IsRefused, fault_line, or_line}
 use Rattle.cqf_program_scenario.specs.Lines.{domain_line, streams_line}
 use Rattle.cqf_program_scenario.specs.Parts.{RunTexts}
 use Rattle.cqf_program_scenario.specs.Scenario.{Scenario, scenario_behind}

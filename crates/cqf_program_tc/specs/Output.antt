@@ -17,7 +17,7 @@ use Rattle.cqf_model.specs.declared.topology.Node.TheVariants.{Bridge, Station}
 use Rattle.cqf_model.specs.declared.topology.Row.{Row}
 use Rattle.cqf_model.specs.Domain.{Domain, node_named}
 use Rattle.cqf_model.specs.History.{Asked, held_in}
-use Rattle.cqf_press.specs.Stops.{fault_line, or_line}
+use Rattle.cqf_output.specs.Stops.{fault_line, or_line}
 use Rattle.cqf_program_plans.specs.Compile.Output.{admitted_from, compile_input}
 use Rattle.cqf_program_scenario.specs.Parts.{two_parts}
 use Rattle.cqf_program_tc.specs.Env.{env_text}

@@ -4,7 +4,7 @@ ghost use Rattle.std.specs.Prelude.{◌≡◌, ◌<◌, AllPairs, Ok, IfOk, IfEr
 ghost use Rattle.cqf_admission.specs.Asking.{asked_paced};
 ghost use Rattle.cqf_admission.specs.Turns.{AreOfGoodPaces};
 ghost use Rattle.cqf_model.specs.declared.topology.Row.{Row as ARow};
-ghost use Rattle.cqf_press.specs.Stops.{EndsWith, IsRefused};
+ghost use Rattle.cqf_output.specs.Stops.{EndsWith, IsRefused};
 ghost use Rattle.cqf_program_tc.specs.Output.{IsReadyPlan, addressed_input, bridge_named, env_of, env_of_input};
 ghost use Rattle.cqf_program_tc.specs.Output.{keys_of, rows_of, tc_of, tc_of_input, text_of_env, text_of_tc, unknown_bridge};
 ghost use Rattle.cqf_program_tc.specs.Rows.{places_in};
@@ -15,7 +15,7 @@ use crate::variables::{link_variables, stream_variables};
 use crate::words::write_gate_words;
 use cqf_addressing::{LinkInterfaces, StreamAddress, addresses_part, interfaces_part};
 use cqf_model::{Limits, Node, Row};
-use cqf_press::{REFUSED, Sheet, Stop};
+use cqf_output::{REFUSED, Buffer, Stop};
 use cqf_program_plans::{read_plan, rows_of_cycle_0};
 use cqf_program_scenario::two_parts;
 use cqf_topology::{Domain, PacedRequest};
@@ -108,12 +108,12 @@ fn script_ready(alloc: Global, software: bool, plan: ReadyPlan) -> Result<TcOutp
     }) }
 {
     let gate_words = write_gate_words(alloc, plan.domain.cycle_time().0 as u32)?;
-    let sheet = Sheet::new(alloc)?;
+    let buffer = Buffer::new(alloc)?;
     Ok(TcOutput {
         plan,
         gate_words,
         software,
-        sheet,
+        buffer,
     })
 }
 
@@ -224,11 +224,11 @@ fn file_ready(alloc: Global, plan: ReadyPlan, bridge: u16) -> Result<EnvOutput, 
       bridge = bridge;
     }) }
 {
-    let sheet = Sheet::new(alloc)?;
+    let buffer = Buffer::new(alloc)?;
     Ok(EnvOutput {
         plan,
         bridge,
-        sheet,
+        buffer,
     })
 }
 

@@ -4,7 +4,7 @@ ghost use Rattle.std.specs.Prelude.{◌≡◌};
 use crate::plan::Plan;
 use cqf_addressing::{LinkInterfaces, StreamAddress};
 use cqf_model::Row;
-use cqf_press::Sheet;
+use cqf_output::Buffer;
 use cqf_topology::Domain;
 use std::marker::Model;
 
@@ -41,13 +41,13 @@ impl ReadyPlan {
 }
 
 /// The output of `compile --format tc` before it is written: a plan, the words of the list of each stream's gate, whether the gates are in
-/// software, and a sheet.
+/// software, and a buffer.
 #[derive(Drop)]
 pub struct TcOutput {
     pub(crate) plan: ReadyPlan,
     pub(crate) gate_words: Vec<u8>,
     pub(crate) software: bool,
-    pub(crate) sheet: Sheet,
+    pub(crate) buffer: Buffer,
 }
 
 impl Model for TcOutput {
@@ -62,12 +62,12 @@ impl Model for TcOutput {
         o.gate_words.items };
 }
 
-/// The output of `compile --format env` before it is written: a plan, the number of a bridge, and a sheet.
+/// The output of `compile --format env` before it is written: a plan, the number of a bridge, and a buffer.
 #[derive(Drop)]
 pub struct EnvOutput {
     pub(crate) plan: ReadyPlan,
     pub(crate) bridge: u16,
-    pub(crate) sheet: Sheet,
+    pub(crate) buffer: Buffer,
 }
 
 impl Model for EnvOutput {

@@ -1,12 +1,12 @@
 //! The data of a script, in the form that its parts take.
 ghost use Rattle.std.specs.Prelude.{◌≡◌, ◌<◌, length, slice_index_or};
 ghost use Rattle.cqf_addressing.specs.Streams.{gate_index};
-ghost use Rattle.cqf_press.specs.Press.{Puts};
+ghost use Rattle.cqf_output.specs.Writer.{Puts};
 ghost use Rattle.cqf_program_tc.specs.Variables.{AreNamed, link_variable, stream_variable};
 
 use cqf_addressing::{StreamAddress, gate_index};
 use cqf_model::Row;
-use cqf_press::{Press, Sink};
+use cqf_output::{Writer, Sink};
 use cqf_topology::Domain;
 
 /// A domain, the rows of its streams, their addresses by number, and the variables of its links by number and of its rows by index.
@@ -40,11 +40,11 @@ fn link_variable<'r>(plan: Plan<'r>, link: u16) -> &'r [u8]
 }
 
 /// Puts the variable of a link, without its prefix; nothing for a link that the domain lacks.
-pub(crate) fn put_link_variable<W: Sink>(press: &mut Press<'_, W>, plan: Plan<'_>, link: u16)
+pub(crate) fn put_link_variable<W: Sink>(writer: &mut Writer<'_, W>, plan: Plan<'_>, link: u16)
     requires { AreNamed plan.domain.now plan.rows.now plan.links.now plan.streams.now }
-    ensures { Puts W.contents press.old press.new (link_variable plan.entry.domain.now link) }
+    ensures { Puts W.contents writer.old writer.new (link_variable plan.entry.domain.now link) }
 {
-    press.put(link_variable(plan, link));
+    writer.put(link_variable(plan, link));
 }
 
 /// Returns the stream of the row at this index.

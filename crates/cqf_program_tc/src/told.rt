@@ -1,7 +1,7 @@
 //! The script, written line by line.
 ghost use Rattle.cqf_addressing.specs.Streams.{gate_index};
-ghost use Rattle.cqf_press.specs.Edge.{HasTold, writing};
-ghost use Rattle.cqf_press.specs.Press.{Puts};
+ghost use Rattle.cqf_output.specs.Edge.{HasTold, writing};
+ghost use Rattle.cqf_output.specs.Writer.{Puts};
 ghost use Rattle.cqf_program_tc.specs.Output.{IsReadyPlan, text_of_tc};
 ghost use Rattle.cqf_program_tc.specs.Rows.{places_in};
 ghost use Rattle.cqf_program_tc.specs.Text.{bridges_text, functions_text, tc_text};
@@ -19,45 +19,45 @@ use crate::outputs::TcOutput;
 use crate::plan::Plan;
 use crate::program::put_program;
 use cqf_model::Row;
-use cqf_press::{Press, Sink, Told};
+use cqf_output::{Writer, Sink, Told};
 use cqf_topology::Domain;
 
 /// Puts one function per bridge.
-fn put_bridges<W: Sink>(press: &mut Press<'_, W>, plan: Plan<'_>, places: &[Vec<usize>])
+fn put_bridges<W: Sink>(writer: &mut Writer<'_, W>, plan: Plan<'_>, places: &[Vec<usize>])
     requires { IsReadyPlan plan.domain.now plan.rows.now (places_in places.now) plan.links.now plan.streams.now }
-    ensures { Puts W.contents press.old press.new
+    ensures { Puts W.contents writer.old writer.new
         (bridges_text plan.entry.domain.now (gate_index plan.entry.addresses.now) plan.entry.rows.now) }
 {
     for bridge in 0..plan.domain.bridges() {
         let here = places[usize::from(bridge)].as_slice();
-        put_bridge_function(press, plan, bridge, here);
+        put_bridge_function(writer, plan, bridge, here);
     }
 }
 
 /// Puts the functions that bridges call, with the words of the lists of gates.
 fn put_functions<W: Sink>(
-    press: &mut Press<'_, W>,
+    writer: &mut Writer<'_, W>,
     domain: &Domain,
     software: bool,
     rows: &[Row],
     gate_list: &[u8],
 )
     requires { gate_list.now ≡ gate_words domain.now.cycle_time }
-    ensures { Puts W.contents press.old press.new (functions_text domain.now software rows.now) }
+    ensures { Puts W.contents writer.old writer.new (functions_text domain.now software rows.now) }
 {
-    put_checks(press);
-    put_program(press, domain, software);
-    put_link_note(press, domain);
-    put_link_function(press, domain, software);
-    put_old_gates_function(press, domain);
-    put_no_gates_function(press);
-    put_gate_function(press, domain, software, gate_list);
-    put_list_gates(press, software, rows);
+    put_checks(writer);
+    put_program(writer, domain, software);
+    put_link_note(writer, domain);
+    put_link_function(writer, domain, software);
+    put_old_gates_function(writer, domain);
+    put_no_gates_function(writer);
+    put_gate_function(writer, domain, software, gate_list);
+    put_list_gates(writer, software, rows);
 }
 
 /// Puts the script of a plan, with the words of the lists of gates. It is known which streams leave each bridge.
 fn put_script<W: Sink>(
-    press: &mut Press<'_, W>,
+    writer: &mut Writer<'_, W>,
     plan: Plan<'_>,
     software: bool,
     places: &[Vec<usize>],
@@ -65,16 +65,16 @@ fn put_script<W: Sink>(
 )
     requires ready { IsReadyPlan plan.domain.now plan.rows.now (places_in places.now) plan.links.now plan.streams.now }
     requires words { gate_list.now ≡ gate_words plan.domain.now.cycle_time }
-    ensures { Puts W.contents press.old press.new
+    ensures { Puts W.contents writer.old writer.new
         (tc_text plan.entry.domain.now software (gate_index plan.entry.addresses.now) plan.entry.rows.now) }
 {
-    put_usage(press, plan.domain, plan.rows);
-    put_notes(press, software);
-    put_opening(press, plan.domain);
-    put_given(press, plan.domain, plan.rows);
-    put_functions(press, plan.domain, software, plan.rows, gate_list);
-    put_bridges(press, plan, places);
-    put_choice(press, plan.domain, software);
+    put_usage(writer, plan.domain, plan.rows);
+    put_notes(writer, software);
+    put_opening(writer, plan.domain);
+    put_given(writer, plan.domain, plan.rows);
+    put_functions(writer, plan.domain, software, plan.rows, gate_list);
+    put_bridges(writer, plan, places);
+    put_choice(writer, plan.domain, software);
 }
 
 impl TcOutput {
@@ -86,16 +86,16 @@ impl TcOutput {
             plan,
             gate_words,
             software,
-            sheet,
+            buffer,
         } = self;
-        let mut press = Press::new(told, sheet);
+        let mut writer = Writer::new(told, buffer);
         put_script(
-            &mut press,
+            &mut writer,
             plan.as_plan(),
             software,
             plan.places.as_slice(),
             gate_words.as_slice(),
         );
-        let _told = press.close();
+        let _told = writer.close();
     }
 }

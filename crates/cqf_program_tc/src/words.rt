@@ -3,32 +3,32 @@ ghost use Rattle.std.specs.Prelude.{ℕ, ◌≡◌, ◌<◌, ◌^◌, ◌++◌, 
 ghost use Rattle.cqf_gates.specs.GateListText.{line_of_gates};
 ghost use Rattle.cqf_model.specs.Paces.{each_cycle};
 ghost use Rattle.cqf_gates.specs.ReservedSpans.{reserved_spans};
-ghost use Rattle.cqf_press.specs.Press.{Puts};
+ghost use Rattle.cqf_output.specs.Writer.{Puts};
 ghost use Rattle.cqf_program_tc.specs.Words.{gate_of_words, gate_words, tx_of_words, tx_words};
 
 use cqf_compile::put_gates;
 use cqf_gates::TxList;
-use cqf_press::{Press, Sink};
+use cqf_output::{Writer, Sink};
 use cqf_units::Memory;
 use std::alloc::{AllocError, Global};
 
 /// Puts the words of an entry of a port's list.
-fn put_entry<W: Sink>(press: &mut Press<'_, W>, states: u8, interval: u32)
-    ensures words { Puts W.contents press.old press.new (codes " sched-entry S " ++ line_of_gates (states, interval)) }
+fn put_entry<W: Sink>(writer: &mut Writer<'_, W>, states: u8, interval: u32)
+    ensures words { Puts W.contents writer.old writer.new (codes " sched-entry S " ++ line_of_gates (states, interval)) }
     ensures ranges { (states < 256) × (interval < 2 ^ 32) }
 {
-    press.put(b" sched-entry S ");
-    put_gates(press, states, interval);
+    writer.put(b" sched-entry S ");
+    put_gates(writer, states, interval);
 }
 
 /// Puts the words of `tc` that set the list of a port, each after a space: for each entry `sched-entry S`, the states in two upper-case
 /// hexadecimal digits, in which bit k is class k, and the interval in nanoseconds. Read back, they give the same list (man tc-taprio).
-pub(crate) fn put_tx_words<W: Sink>(press: &mut Press<'_, W>, list: &TxList)
-    ensures words { Puts W.contents press.old press.new (tx_words list.now) }
+pub(crate) fn put_tx_words<W: Sink>(writer: &mut Writer<'_, W>, list: &TxList)
+    ensures words { Puts W.contents writer.old writer.new (tx_words list.now) }
     ensures again { tx_of_words (tx_words list.now) ≡ Some (Ok list.now) }
 {
     for entry in list.entries() {
-        put_entry(press, entry.0, entry.1);
+        put_entry(writer, entry.0, entry.1);
     }
 }
 

@@ -10,22 +10,22 @@ use Rattle.cqf_model.specs.Domain.{Domain, IsAccepted}
 use Rattle.cqf_model.specs.Headline.{IsAccountOf}
 use Rattle.cqf_model.specs.History.{Act, Recorded}
 use Rattle.cqf_admission.specs.declared.entries.Command.{Command}
-use Rattle.cqf_laws_account.specs.Taped.{TapesTell, TapesTellTheBook}
-use Rattle.cqf_tape.specs.Tapes.{MayBeTold, told_from}
+use Rattle.cqf_laws_account.specs.Traced.{TracesTell, TracesTellTheBook}
+use Rattle.cqf_trace.specs.Traces.{MayBeTold, told_from}
 use Rattle.cqf_program_runs.specs.Run.Output.{run_text}
 use Rattle.cqf_program_scenario.specs.Opening.{IsOpenedInput, opening_history}
 use Rattle.cqf_program_scenario.specs.Parted.{acts_of_each}
 use Rattle.cqf_program_scenario.specs.Parting.{AreCommandsBehind}
 use Rattle.cqf_program_scenario.specs.Scenario.{scenario_input}
 use Rattle.cqf_program_scenario.specs.declared.opening.Opened.{Opened}
-use Rattle.cqf_press.specs.Stops.{EndsWith, IsRefused, fault_line}
-use Rattle.cqf_press.specs.declared.stops.Stop.{Stop}
+use Rattle.cqf_output.specs.Stops.{EndsWith, IsRefused, fault_line}
+use Rattle.cqf_output.specs.declared.stops.Stop.{Stop}
 use Rattle.cqf_program_threads.specs.ThreadsOutput.{EndsThreads, IsAccountOfInput, IsFaultOfInput, IsThreadsOutput}
-use Rattle.cqf_worker.specs.Account.{IsTapedAccount, all_asked, entries_of}
+use Rattle.cqf_worker.specs.Account.{IsTracedAccount, all_asked, entries_of}
 use Rattle.cqf_worker.specs.Failing.{IsConductFault}
 use Rattle.cqf_worker_loops.specs.Commands.{acts_asked}
 use Rattle.cqf_worker.specs.Faults.{conduct_fault_text}
-use Rattle.cqf_worker.specs.declared.account.TapedAccount.{TapedAccount}
+use Rattle.cqf_worker.specs.declared.account.TracedAccount.{TracedAccount}
 use Rattle.cqf_worker.specs.declared.faults.ConductFault.{ConductFault}
 use Rattle.cqf_worker.specs.declared.faults.ConductFault.TheVariants.{Memory, Bridge, DeskDisagrees, BookDisagrees, ChannelLost, Spawn}
 
@@ -37,24 +37,24 @@ commands_in lists = map (λ (commands : Vec Command Global). commands.items) lis
 asked_of : (lists : List (Vec Command Global)) → acts_of_each lists ≡ all_asked (commands_in lists)
 asked_of lists = sym (map-map acts_asked (λ (commands : Vec Command Global). commands.items) lists)
 
--- an account by tapes of what was opened of an input is one of the input's scenario
-pub IsAccountOfInput-opened : (limits : Limits) (cycles : ℕ) (input : List ℕ) (made : Opened) (account : TapedAccount) (offers : List Offer) (frames : List Background)
+-- an account by traces of what was opened of an input is one of the input's scenario
+pub IsAccountOfInput-opened : (limits : Limits) (cycles : ℕ) (input : List ℕ) (made : Opened) (account : TracedAccount) (offers : List Offer) (frames : List Background)
     → IsOpenedInput limits cycles input made → offers ≡ made.offers.items → frames ≡ made.background.items
-    → IsTapedAccount made.domain made.admission.entries offers frames cycles (commands_in made.commands.items) account
+    → IsTracedAccount made.domain made.admission.entries offers frames cycles (commands_in made.commands.items) account
     → IsAccountOfInput limits cycles input made.domain account
 IsAccountOfInput-opened limits cycles input made account offers frames opened same_offers same_frames is =
     let s = opened.scenario in
     let o = opened.opened in
     let admins = commands_in made.commands.items in
-    let of_opening : IsTapedAccount made.domain (opening_history s) offers frames cycles admins account =
-    subst (λ (entries : List Recorded). IsTapedAccount made.domain entries offers frames cycles admins account) o.entries is in
+    let of_opening : IsTracedAccount made.domain (opening_history s) offers frames cycles admins account =
+    subst (λ (entries : List Recorded). IsTracedAccount made.domain entries offers frames cycles admins account) o.entries is in
     record {
       scenario = s;
       holds = opened.holds;
       domain = o.domain;
       commands = admins;
       asked = subst (λ (lists : List (List Act)). AreCommandsBehind s.calls s.sealer lists) (asked_of made.commands.items) o.commands;
-      is_account = subst₂ (λ (offers : List Offer) (frames : List Background). IsTapedAccount made.domain (opening_history s) offers frames
+      is_account = subst₂ (λ (offers : List Offer) (frames : List Background). IsTracedAccount made.domain (opening_history s) offers frames
           cycles admins account)
           (same_offers ∙ o.offers) (same_frames ∙ o.background) of_opening;
     }
@@ -82,18 +82,18 @@ IsFaultOfInput-opened limits cycles input made fault d entries offers frames ope
       };
     }
 
--- the tapes of such an account yield its book
-module _ (limits : Limits) (cycles : ℕ) (input : List ℕ) (d : Domain) (account : TapedAccount)
-    (of : IsAccountOfInput limits cycles input d account) (law : TapesTellTheBook) (accepted : IsAccepted d) where
-  tells : TapesTell d cycles account.tapes of.is_account.book
-  tells = law d cycles account.tapes of.is_account.book accepted of.is_account.some of.is_account.its_tapes
+-- the traces of such an account yield its book
+module _ (limits : Limits) (cycles : ℕ) (input : List ℕ) (d : Domain) (account : TracedAccount)
+    (of : IsAccountOfInput limits cycles input d account) (law : TracesTellTheBook) (accepted : IsAccepted d) where
+  tells : TracesTell d cycles account.traces of.is_account.book
+  tells = law d cycles account.traces of.is_account.book accepted of.is_account.some of.is_account.its_traces
 
   -- without any sorting
-  pub may_be_told : MayBeTold d account.tapes
+  pub may_be_told : MayBeTold d account.traces
   may_be_told = tells.may
 
-  -- the text of its history and of the book of its tapes is the output
-  pub IsThreadsOutput-written : (text : List ℕ) → text ≡ run_text d (entries_of account.history) (told_from d cycles account.tapes) →
+  -- the text of its history and of the book of its traces is the output
+  pub IsThreadsOutput-written : (text : List ℕ) → text ≡ run_text d (entries_of account.history) (told_from d cycles account.traces) →
       IsThreadsOutput limits cycles input text
   IsThreadsOutput-written text written =
       let s = of.scenario in

@@ -1,4 +1,4 @@
--- Marks of one cycle on a link's tape, as a book has them.
+-- Marks of one cycle on a link's trace, as a book has them.
 use Rattle.std.proofs.Common.{◌≡◌, ◌∙◌, ◌+◌, ◌<◌, ◌++◌, ℕ, List, [], ◌∷◌, ap, eqb-true, filter, get_or, inl, inr, length, map, refl, sym, take}
 use Rattle.std.proofs.lemmas.Bool.{cases_Bool, cond-false, cond-true}
 use Rattle.std.proofs.lemmas.Grind.{flat_map-append}
@@ -7,8 +7,8 @@ use Rattle.cqf_model.specs.declared.frames.Started.{Started}
 use Rattle.cqf_model.specs.Domain.{Domain, cycle_of}
 use Rattle.cqf_report.specs.Books.{lines_of_starts, started_fields}
 use Rattle.cqf_report.specs.Written.{line_of_fields}
-use Rattle.cqf_tape.specs.declared.tape.Mark.{Mark}
-use Rattle.cqf_tape.specs.Tapes.{is_in, started_by, started_in, told_on}
+use Rattle.cqf_trace.specs.declared.trace.Mark.{Mark}
+use Rattle.cqf_trace.specs.Traces.{is_in, started_by, started_in, told_on}
 
 module _ (d : Domain) (cycle link : ℕ) where
   -- each of them is of the cycle

@@ -1,4 +1,4 @@
--- Indexes in a list of tapes, one for each, that advance cycle by cycle.
+-- Indexes in a list of traces, one for each, that advance cycle by cycle.
 use Rattle.std.proofs.Common.{◌≡◌, ℕ, ◌+◌, ◌<◌, ◌≤◌, ◌∙◌, List, length, replicate, set, ap, arith, inl, inr, subst, sym}
 use Rattle.std.specs.Prelude.{slice_index}
 use Rattle.std.proofs.lemmas.Bool.{cases_eq}
@@ -6,10 +6,10 @@ use Rattle.std.proofs.lemmas.List.{get_or-replicate, get_or-set_other, get_or-se
 use Rattle.cqf_lists.proofs.EachBelow.{length-singles}
 use Rattle.cqf_model.specs.Domain.{Domain, IsAccepted}
 use Rattle.cqf_model.proofs.Represented.{few_bridges, few_links}
-use Rattle.cqf_tape.specs.declared.tapes.TransmissionKind.{TransmissionKind}
-use Rattle.cqf_tape.specs.declared.tapes.Tapes.{Tapes}
-use Rattle.cqf_tape.specs.Tapes.{IsDropsEndBefore, IsEndBefore, MayBeTold, StandByNumber, drops_at, first_links, link_of_tape, marks_at}
-use Rattle.cqf_tape.specs.Telling.{AreDropPlaces, ArePlaces}
+use Rattle.cqf_trace.specs.declared.traces.TransmissionKind.{TransmissionKind}
+use Rattle.cqf_trace.specs.declared.traces.Traces.{Traces}
+use Rattle.cqf_trace.specs.Traces.{IsDropsEndBefore, IsEndBefore, MayBeTold, StandByNumber, drops_at, first_links, link_of_trace, marks_at}
+use Rattle.cqf_trace.specs.Telling.{AreDropPlaces, ArePlaces}
 
 -- of `count` indexes, those before one have advanced, and the others haven't
 pub record HaveGoneOn (before after : ℕ → ℕ → Type 0) (count at : ℕ) (places : List ℕ) : Type 0 where
@@ -43,56 +43,56 @@ module _ (before after : ℕ → ℕ → Type 0) (count : ℕ) (places : List �
   }
 
 -- the indexes at which a cycle's marks end, by link, and its drops, by bridge
-abbrev pub ends_by_link : Domain → TransmissionKind → Tapes → ℕ → ℕ → ℕ → Type 0
-ends_by_link d kind tapes cycle link place = IsEndBefore d cycle (marks_at kind tapes link) place
+abbrev pub ends_by_link : Domain → TransmissionKind → Traces → ℕ → ℕ → ℕ → Type 0
+ends_by_link d kind traces cycle link place = IsEndBefore d cycle (marks_at kind traces link) place
 
-abbrev pub ends_by_bridge : Tapes → ℕ → ℕ → ℕ → Type 0
-ends_by_bridge tapes cycle bridge place = IsDropsEndBefore cycle (drops_at tapes bridge) place
+abbrev pub ends_by_bridge : Traces → ℕ → ℕ → ℕ → Type 0
+ends_by_bridge traces cycle bridge place = IsDropsEndBefore cycle (drops_at traces bridge) place
 
 -- the indexes of the first links, or bridges, are after the cycle, and those of the others before it
-abbrev pub AreBehindLinks : Domain → TransmissionKind → Tapes → ℕ → ℕ → List ℕ → Type 0
-AreBehindLinks d kind tapes cycle link places =
-    HaveGoneOn (ends_by_link d kind tapes cycle) (ends_by_link d kind tapes (cycle + 1)) (length d.links) link places
+abbrev pub AreBehindLinks : Domain → TransmissionKind → Traces → ℕ → ℕ → List ℕ → Type 0
+AreBehindLinks d kind traces cycle link places =
+    HaveGoneOn (ends_by_link d kind traces cycle) (ends_by_link d kind traces (cycle + 1)) (length d.links) link places
 
-abbrev pub AreBehindBridges : Domain → Tapes → ℕ → ℕ → List ℕ → Type 0
-AreBehindBridges d tapes cycle bridge places =
-    HaveGoneOn (ends_by_bridge tapes cycle) (ends_by_bridge tapes (cycle + 1)) (length d.bridges) bridge places
+abbrev pub AreBehindBridges : Domain → Traces → ℕ → ℕ → List ℕ → Type 0
+AreBehindBridges d traces cycle bridge places =
+    HaveGoneOn (ends_by_bridge traces cycle) (ends_by_bridge traces (cycle + 1)) (length d.bridges) bridge places
 
-module _ (d : Domain) (kind : TransmissionKind) (tapes : Tapes) (places : List ℕ) where
+module _ (d : Domain) (kind : TransmissionKind) (traces : Traces) (places : List ℕ) where
   -- before the first cycle nothing is written
-  pub first_places : IsAccepted d → places ≡ replicate 4096 0 → ArePlaces d kind tapes 0 places
+  pub first_places : IsAccepted d → places ≡ replicate 4096 0 → ArePlaces d kind traces 0 places
   first_places accepted are = record {
     many = omega (arith, few_links d accepted, ap length are, length-replicate {A = ℕ} 4096 0);
     ends = λ link inside.
-        subst (IsEndBefore d 0 (marks_at kind tapes link))
+        subst (IsEndBefore d 0 (marks_at kind traces link))
         (sym (ap (λ (xs : List ℕ). slice_index xs link) are ∙ get_or-replicate {A = ℕ} 4096 link 0 0 (omega (arith, inside, few_links d accepted))))
         (record { within = omega arith; before = λ k m _ below. absurd (omega (arith, below)); behind = λ k m _ _. omega arith });
   }
 
   -- before a cycle no index has advanced
-  pub links_begin : (cycle : ℕ) → ArePlaces d kind tapes cycle places → AreBehindLinks d kind tapes cycle 0 places
-  links_begin cycle are = none_gone (ends_by_link d kind tapes cycle) (ends_by_link d kind tapes (cycle + 1)) (length d.links) places are.many are.ends
+  pub links_begin : (cycle : ℕ) → ArePlaces d kind traces cycle places → AreBehindLinks d kind traces cycle 0 places
+  links_begin cycle are = none_gone (ends_by_link d kind traces cycle) (ends_by_link d kind traces (cycle + 1)) (length d.links) places are.many are.ends
 
-module _ (d : Domain) (tapes : Tapes) (places : List ℕ) where
+module _ (d : Domain) (traces : Traces) (places : List ℕ) where
   -- and the same for drops
-  pub first_drop_places : IsAccepted d → places ≡ replicate 1024 0 → AreDropPlaces d tapes 0 places
+  pub first_drop_places : IsAccepted d → places ≡ replicate 1024 0 → AreDropPlaces d traces 0 places
   first_drop_places accepted are = record {
     many = omega (arith, few_bridges d accepted, ap length are, length-replicate {A = ℕ} 1024 0);
     ends = λ bridge inside.
-        subst (IsDropsEndBefore 0 (drops_at tapes bridge))
+        subst (IsDropsEndBefore 0 (drops_at traces bridge))
         (sym (ap (λ (xs : List ℕ). slice_index xs bridge) are ∙ get_or-replicate {A = ℕ} 1024 bridge 0 0 (omega (arith, inside, few_bridges d accepted))))
         (record { within = omega arith; before = λ k x _ below. absurd (omega (arith, below)); behind = λ k x _ _. omega arith });
   }
 
-  pub bridges_begin : (cycle : ℕ) → AreDropPlaces d tapes cycle places → AreBehindBridges d tapes cycle 0 places
-  bridges_begin cycle are = none_gone (ends_by_bridge tapes cycle) (ends_by_bridge tapes (cycle + 1)) (length d.bridges) places are.many are.ends
+  pub bridges_begin : (cycle : ℕ) → AreDropPlaces d traces cycle places → AreBehindBridges d traces cycle 0 places
+  bridges_begin cycle are = none_gone (ends_by_bridge traces cycle) (ends_by_bridge traces (cycle + 1)) (length d.bridges) places are.many are.ends
 
-module _ (d : Domain) (tapes : Tapes) (may : MayBeTold d tapes) where
-  -- there is a tape for each link
-  pub as_many_tapes : length tapes.links.items ≡ length d.links
-  as_many_tapes =
-      sym (length-map tapes.links.items link_of_tape) ∙ ap length may.each_link ∙ length-singles (λ (link : ℕ). link) (length d.links)
+module _ (d : Domain) (traces : Traces) (may : MayBeTold d traces) where
+  -- there is a trace for each link
+  pub as_many_traces : length traces.links.items ≡ length d.links
+  as_many_traces =
+      sym (length-map traces.links.items link_of_trace) ∙ ap length may.each_link ∙ length-singles (λ (link : ℕ). link) (length d.links)
 
   -- by number
-  pub by_number : StandByNumber tapes
-  by_number = may.each_link ∙ ap first_links (sym as_many_tapes)
+  pub by_number : StandByNumber traces
+  by_number = may.each_link ∙ ap first_links (sym as_many_traces)

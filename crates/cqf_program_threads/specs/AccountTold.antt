@@ -5,6 +5,6 @@ use Rattle.cqf_program_threads.specs.declared.threads_outputs.ThreadsOutput.{Thr
 use Rattle.cqf_program_threads.specs.PagedBooks.{contents_told}
 use Rattle.cqf_worker.specs.Account.{entries_of}
 
--- the text of an output: that of its account's history and of the book of the tapes
+-- the text of an output: that of its account's history and of the book of the traces
 abbrev pub text_of_account : ThreadsOutput → List ℕ
 text_of_account output = run_text output.book.domain (entries_of output.history) (contents_told output.book)

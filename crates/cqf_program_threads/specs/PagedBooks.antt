@@ -1,16 +1,16 @@
--- A book by its tapes, and its contents, cycle by cycle.
+-- A book by its traces, and its contents, cycle by cycle.
 use Rattle.std.specs.Prelude.{ℕ}
 use Rattle.cqf_model.specs.Book.{Contents}
 use Rattle.cqf_model.specs.Domain.{Domain}
-use Rattle.cqf_tape.specs.declared.tapes.Tapes.{Tapes}
-use Rattle.cqf_tape.specs.Tapes.{told_from}
+use Rattle.cqf_trace.specs.declared.traces.Traces.{Traces}
+use Rattle.cqf_trace.specs.Traces.{told_from}
 
--- tapes of some cycles of a domain
-pub record ByTapes : Type 0 where
+-- traces of some cycles of a domain
+pub record ByTraces : Type 0 where
   pub domain : Domain
   pub cycles : ℕ
-  pub tapes : Tapes
+  pub traces : Traces
 
--- the book of the tapes
-abbrev pub contents_told : ByTapes → Contents
-contents_told book = told_from book.domain book.cycles book.tapes
+-- the book of the traces
+abbrev pub contents_told : ByTraces → Contents
+contents_told book = told_from book.domain book.cycles book.traces

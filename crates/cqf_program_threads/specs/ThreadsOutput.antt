@@ -10,12 +10,12 @@ use Rattle.cqf_program_runs.specs.Run.Output.{run_text}
 use Rattle.cqf_program_scenario.specs.Opening.{opening_history}
 use Rattle.cqf_program_scenario.specs.Parting.{AreCommandsBehind}
 use Rattle.cqf_program_scenario.specs.Scenario.{Scenario, scenario_input}
-use Rattle.cqf_press.specs.Stops.{fault_line}
-use Rattle.cqf_press.specs.declared.stops.Stop.{Stop}
-use Rattle.cqf_worker.specs.Account.{IsTapedAccount, all_asked}
+use Rattle.cqf_output.specs.Stops.{fault_line}
+use Rattle.cqf_output.specs.declared.stops.Stop.{Stop}
+use Rattle.cqf_worker.specs.Account.{IsTracedAccount, all_asked}
 use Rattle.cqf_worker.specs.Failing.{IsConductFault}
 use Rattle.cqf_worker.specs.Faults.{conduct_fault_text}
-use Rattle.cqf_worker.specs.declared.account.TapedAccount.{TapedAccount}
+use Rattle.cqf_worker.specs.declared.account.TracedAccount.{TracedAccount}
 use Rattle.cqf_worker.specs.declared.faults.ConductFault.{ConductFault}
 use Rattle.cqf_worker.specs.declared.faults.ConductFault.TheVariants.{Memory}
 
@@ -26,14 +26,14 @@ pub record IsAccountOfScenario (cycles : ℕ) (s : Scenario) (entries : List Rec
   pub asked : AreCommandsBehind s.calls s.sealer (all_asked commands)
   pub is_account : IsAccountOf s.domain (opening_history s) s.offers s.background cycles (all_asked commands) entries book
 
--- an account, by tapes, of an input's scenario; and the scenario's domain
-pub record IsAccountOfInput (limits : Limits) (cycles : ℕ) (input : List ℕ) (d : Domain) (account : TapedAccount) : Type 0 where
+-- an account, by traces, of an input's scenario; and the scenario's domain
+pub record IsAccountOfInput (limits : Limits) (cycles : ℕ) (input : List ℕ) (d : Domain) (account : TracedAccount) : Type 0 where
   pub scenario : Scenario
   pub holds : scenario_input limits cycles input ≡ Ok scenario
   pub domain : d ≡ scenario.domain
   pub commands : List (List Command)
   pub asked : AreCommandsBehind scenario.calls scenario.sealer (all_asked commands)
-  pub is_account : IsTapedAccount d (opening_history scenario) scenario.offers scenario.background cycles commands account
+  pub is_account : IsTracedAccount d (opening_history scenario) scenario.offers scenario.background cycles commands account
 
 -- a possible fault of a run of a scenario over some cycles that begins so and in which each administrator makes its
 -- calls

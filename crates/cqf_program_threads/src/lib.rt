@@ -1,15 +1,15 @@
 //! The command `run` with `--threads`: a scenario, run on a thread for each bridge and each administrator. Its output
-//! is written from the tapes that the bridges kept; nothing is gathered or sorted.
+//! is written from the traces that the bridges kept; nothing is gathered or sorted.
 //!
 //! - [`threads_output`] returns the command's output for its input, that is the history and the book of an account of
 //!   the input's scenario; or the stop with the line of the first fault of the input or of the run.
 //!   [`ThreadsOutput::tell`] writes it and allocates no memory.
-//! - A `PagedBook` is the tapes of some cycles of a domain. On each tape the transmissions of either kind are in order
-//!   of instant. `put_paged_book` puts the text of the book of these tapes on a press, cycle by cycle and link by link.
+//! - A `PagedBook` is the traces of some cycles of a domain. On each trace the transmissions of either kind are in order
+//!   of instant. `put_paged_book` puts the text of the book of these traces on a writer, cycle by cycle and link by link.
 //!
 //! `specs/ThreadsOutput.antt` defines when a text `IsThreadsOutput`, and how the command `EndsThreads`;
 //! `specs/PagedBooks.antt` defines the book that is written (`contents_told`). By
-//! `cqf_laws_account::tapes_tell_the_book` it is the book of these tapes.
+//! `cqf_laws_account::traces_tell_the_book` it is the book of these traces.
 //!
 //! ```text
 //! threads_output(rt, alloc, 2, b"..\n%%\nstreams = [{ name = \"x\", .. }]\n%%\n0 admit x\n%%\nat,bridge,stream,octets\n0,a,x,64\n")

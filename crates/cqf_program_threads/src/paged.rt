@@ -1,44 +1,44 @@
-//! A book, given by its tapes.
+//! A book, given by its traces.
 ghost use Rattle.std.specs.Prelude.{◌≡◌, ◌≤◌};
 ghost use Rattle.cqf_model.specs.Limits.{most_cycles};
-ghost use Rattle.cqf_tape.specs.Tapes.{MayBeTold};
+ghost use Rattle.cqf_trace.specs.Traces.{MayBeTold};
 
-use cqf_tape::Tapes;
+use cqf_trace::Traces;
 use cqf_topology::Domain;
 use std::marker::Model;
 
-/// A book of some cycles of a domain, given by its tapes. On each tape the transmissions are in order of instant.
+/// A book of some cycles of a domain, given by its traces. On each trace the transmissions are in order of instant.
 #[derive(Drop)]
 pub struct PagedBook {
     domain: Domain,
     cycles: u32,
-    tapes: Tapes,
+    traces: Traces,
 }
 
 impl Model for PagedBook {
     ghost use Rattle.std.specs.Prelude.{◌≤◌};
     ghost use Rattle.cqf_model.specs.Limits.{most_cycles};
-    ghost use Rattle.cqf_tape.specs.Tapes.{MayBeTold};
-    ghost use Rattle.cqf_program_threads.specs.PagedBooks.{ByTapes};
+    ghost use Rattle.cqf_trace.specs.Traces.{MayBeTold};
+    ghost use Rattle.cqf_program_threads.specs.PagedBooks.{ByTraces};
 
-    ghost Value = { ByTapes };
+    ghost Value = { ByTraces };
 
-    ghost view = { λ book. record { domain = book.domain; cycles = book.cycles; tapes = book.tapes } };
+    ghost view = { λ book. record { domain = book.domain; cycles = book.cycles; traces = book.traces } };
 
-    ghost invariant = { λ book. (book.cycles ≤ most_cycles) × MayBeTold book.domain book.tapes };
+    ghost invariant = { λ book. (book.cycles ≤ most_cycles) × MayBeTold book.domain book.traces };
 }
 
 impl PagedBook {
-    /// Makes the book of `cycles` cycles of the domain with these tapes.
-    pub fn new(domain: Domain, cycles: u32, tapes: Tapes) -> PagedBook
+    /// Makes the book of `cycles` cycles of the domain with these traces.
+    pub fn new(domain: Domain, cycles: u32, traces: Traces) -> PagedBook
         requires few { cycles ≤ most_cycles }
-        requires tapes { MayBeTold domain tapes }
-        ensures { result ≡ record { domain = domain; cycles = cycles; tapes = tapes } }
+        requires traces { MayBeTold domain traces }
+        ensures { result ≡ record { domain = domain; cycles = cycles; traces = traces } }
     {
         PagedBook {
             domain,
             cycles,
-            tapes,
+            traces,
         }
     }
 
@@ -57,11 +57,11 @@ impl PagedBook {
         self.cycles
     }
 
-    /// Returns the tapes.
-    pub(crate) fn tapes(&self) -> &Tapes
-        ensures value { result.now ≡ self.now.tapes }
+    /// Returns the traces.
+    pub(crate) fn traces(&self) -> &Traces
+        ensures value { result.now ≡ self.now.traces }
         ensures may { MayBeTold self.now.domain result.now }
     {
-        &self.tapes
+        &self.traces
     }
 }

@@ -1,32 +1,32 @@
-//! A book, written from its tapes: cycle by cycle and link by link, each transmission once.
+//! A book, written from its traces: cycle by cycle and link by link, each transmission once.
 ghost use Rattle.std.specs.Prelude.{◌+◌, ◌<◌, length};
 ghost use Rattle.cqf_model.specs.Limits.{most_cycles};
-ghost use Rattle.cqf_press.specs.Press.{Puts};
+ghost use Rattle.cqf_output.specs.Writer.{Puts};
 ghost use Rattle.cqf_report.specs.Books.{lines_of_drops, lines_of_starts, text_of_book};
-ghost use Rattle.cqf_tape.specs.Tapes.{IsEndBefore, IsInOrder, MayBeTold, drops_at_bridges, drops_in_cycles};
-ghost use Rattle.cqf_tape.specs.Tapes.{told_in_cycles, told_on, told_on_links};
-ghost use Rattle.cqf_tape.specs.Telling.{AreDropPlaces, ArePlaces};
+ghost use Rattle.cqf_trace.specs.Traces.{IsEndBefore, IsInOrder, MayBeTold, drops_at_bridges, drops_in_cycles};
+ghost use Rattle.cqf_trace.specs.Traces.{told_in_cycles, told_on, told_on_links};
+ghost use Rattle.cqf_trace.specs.Telling.{AreDropPlaces, ArePlaces};
 ghost use Rattle.cqf_program_threads.specs.PagedBooks.{contents_told};
 
 use crate::paged::PagedBook;
-use cqf_press::{Press, Sink};
+use cqf_output::{Writer, Sink};
 use cqf_report::{put_book_header, put_drops, put_starts};
-use cqf_tape::{Mark, Tapes, TransmissionKind, drops_end_of, end_of, started_on};
+use cqf_trace::{Mark, Traces, TransmissionKind, drops_end_of, end_of, started_on};
 use cqf_topology::Domain;
 use cqf_units::Cycle;
 
-/// The transmissions to write: those of a kind, with their first word, on the tapes of a domain.
+/// The transmissions to write: those of a kind, with their first word, on the traces of a domain.
 #[derive(Clone, Copy)]
 struct ToldTransmissions<'w, 'd, 't> {
     what: &'w [u8],
     kind: TransmissionKind,
     domain: &'d Domain,
-    tapes: &'t Tapes,
+    traces: &'t Traces,
 }
 
-/// Puts a line for each mark of a cycle on a link's tape, and returns the index at which these marks end.
+/// Puts a line for each mark of a cycle on a link's trace, and returns the index at which these marks end.
 fn put_on_link<W: Sink>(
-    press: &mut Press<'_, W>,
+    writer: &mut Writer<'_, W>,
     part: ToldTransmissions<'_, '_, '_>,
     cycle: Cycle,
     link: u16,
@@ -37,14 +37,14 @@ fn put_on_link<W: Sink>(
     requires order { IsInOrder marks.now }
     requires before { IsEndBefore part.domain.now cycle.0 marks.now from }
     ensures behind { IsEndBefore part.entry.domain.now (cycle.0 + 1) marks.now result }
-    ensures puts { Puts W.contents press.old press.new
+    ensures puts { Puts W.contents writer.old writer.new
         (lines_of_starts part.entry.what.now part.entry.domain.now (told_on part.entry.domain.now cycle.0 link marks.now)) }
 {
     let end = end_of(part.domain, cycle, marks, from);
     let own = &marks[from..end];
     for mark in own {
         let started = [started_on(cycle, link, *mark)];
-        put_starts(press, part.what, part.domain, &started);
+        put_starts(writer, part.what, part.domain, &started);
     }
     end
 }
@@ -52,95 +52,95 @@ fn put_on_link<W: Sink>(
 /// Puts a line for each mark of a cycle, link by link. `places` are the indexes at which the cycles before end, and
 /// afterwards those at which this cycle ends.
 fn put_cycle<W: Sink>(
-    press: &mut Press<'_, W>,
+    writer: &mut Writer<'_, W>,
     part: ToldTransmissions<'_, '_, '_>,
     cycle: Cycle,
     places: &mut [usize; 4096],
 )
     requires early { cycle.0 < most_cycles }
-    requires tapes { MayBeTold part.domain.now part.tapes.now }
-    requires before { ArePlaces part.domain.now part.kind part.tapes.now cycle.0 places.old }
-    ensures behind { ArePlaces part.entry.domain.now part.entry.kind part.entry.tapes.now (cycle.0 + 1) places.new }
-    ensures puts { Puts W.contents press.old press.new (lines_of_starts part.entry.what.now part.entry.domain.now
-        (told_on_links part.entry.domain.now part.entry.kind part.entry.tapes.now cycle.0 (length part.entry.domain.now.links))) }
+    requires traces { MayBeTold part.domain.now part.traces.now }
+    requires before { ArePlaces part.domain.now part.kind part.traces.now cycle.0 places.old }
+    ensures behind { ArePlaces part.entry.domain.now part.entry.kind part.entry.traces.now (cycle.0 + 1) places.new }
+    ensures puts { Puts W.contents writer.old writer.new (lines_of_starts part.entry.what.now part.entry.domain.now
+        (told_on_links part.entry.domain.now part.entry.kind part.entry.traces.now cycle.0 (length part.entry.domain.now.links))) }
 {
     for link in 0..part.domain.links() {
-        let marks = part.tapes.marks(part.kind, link);
+        let marks = part.traces.marks(part.kind, link);
         let place = usize::from(link);
         let from = places[place];
-        places[place] = put_on_link(press, part, cycle, link, marks, from);
+        places[place] = put_on_link(writer, part, cycle, link, marks, from);
     }
 }
 
 /// Puts a line for each transmission of a kind, cycle by cycle.
 fn put_starts_of_kind<W: Sink>(
-    press: &mut Press<'_, W>,
+    writer: &mut Writer<'_, W>,
     what: &[u8],
     kind: TransmissionKind,
     book: &PagedBook,
 )
-    ensures { Puts W.contents press.old press.new
-        (lines_of_starts what.now book.now.domain (told_in_cycles book.now.domain kind book.now.tapes book.now.cycles)) }
+    ensures { Puts W.contents writer.old writer.new
+        (lines_of_starts what.now book.now.domain (told_in_cycles book.now.domain kind book.now.traces book.now.cycles)) }
 {
     let part = ToldTransmissions {
         what,
         kind,
         domain: book.domain(),
-        tapes: book.tapes(),
+        traces: book.traces(),
     };
     part.domain.know();
     let mut places = [0; 4096];
     for cycle in 0..book.cycles() {
-        put_cycle(press, part, Cycle(cycle), &mut places);
+        put_cycle(writer, part, Cycle(cycle), &mut places);
     }
 }
 
 /// Puts a line for each drop of a cycle, bridge by bridge. `places` are the indexes at which the cycles before end, and
 /// afterwards those at which this cycle ends.
 fn put_drops_of_cycle<W: Sink>(
-    press: &mut Press<'_, W>,
+    writer: &mut Writer<'_, W>,
     domain: &Domain,
-    tapes: &Tapes,
+    traces: &Traces,
     cycle: Cycle,
     places: &mut [usize; 1024],
 )
-    requires tapes { MayBeTold domain.now tapes.now }
-    requires before { AreDropPlaces domain.now tapes.now cycle.0 places.old }
-    ensures behind { AreDropPlaces domain.now tapes.now (cycle.0 + 1) places.new }
-    ensures puts { Puts W.contents press.old press.new
-        (lines_of_drops domain.now (drops_at_bridges tapes.now cycle.0 (length domain.now.bridges))) }
+    requires traces { MayBeTold domain.now traces.now }
+    requires before { AreDropPlaces domain.now traces.now cycle.0 places.old }
+    ensures behind { AreDropPlaces domain.now traces.now (cycle.0 + 1) places.new }
+    ensures puts { Puts W.contents writer.old writer.new
+        (lines_of_drops domain.now (drops_at_bridges traces.now cycle.0 (length domain.now.bridges))) }
 {
     for bridge in 0..domain.bridges() {
-        let drops = tapes.drops(bridge);
+        let drops = traces.drops(bridge);
         let place = usize::from(bridge);
         let from = places[place];
         let end = drops_end_of(cycle, drops, from);
-        put_drops(press, domain, &drops[from..end]);
+        put_drops(writer, domain, &drops[from..end]);
         places[place] = end;
     }
 }
 
 /// Puts a line for each drop, cycle by cycle.
-fn put_all_drops<W: Sink>(press: &mut Press<'_, W>, book: &PagedBook)
-    ensures { Puts W.contents press.old press.new
-        (lines_of_drops book.now.domain (drops_in_cycles book.now.domain book.now.tapes book.now.cycles)) }
+fn put_all_drops<W: Sink>(writer: &mut Writer<'_, W>, book: &PagedBook)
+    ensures { Puts W.contents writer.old writer.new
+        (lines_of_drops book.now.domain (drops_in_cycles book.now.domain book.now.traces book.now.cycles)) }
 {
     let domain = book.domain();
     domain.know();
     let mut places = [0; 1024];
     for cycle in 0..book.cycles() {
-        put_drops_of_cycle(press, domain, book.tapes(), Cycle(cycle), &mut places);
+        put_drops_of_cycle(writer, domain, book.traces(), Cycle(cycle), &mut places);
     }
 }
 
-/// Puts the text of the book of the tapes, as `cqf_report::write_book` writes it: its header, the starts of streams'
+/// Puts the text of the book of the traces, as `cqf_report::write_book` writes it: its header, the starts of streams'
 /// frames, those of background frames, and the drops. Allocates no memory. The time grows with the lines, and with the
 /// cycles times the links.
-pub fn put_paged_book<W: Sink>(press: &mut Press<'_, W>, book: &PagedBook)
-    ensures { Puts W.contents press.old press.new (text_of_book book.now.domain (contents_told book.now)) }
+pub fn put_paged_book<W: Sink>(writer: &mut Writer<'_, W>, book: &PagedBook)
+    ensures { Puts W.contents writer.old writer.new (text_of_book book.now.domain (contents_told book.now)) }
 {
-    put_book_header(press);
-    put_starts_of_kind(press, b"start", TransmissionKind::Stream, book);
-    put_starts_of_kind(press, b"background", TransmissionKind::Background, book);
-    put_all_drops(press, book);
+    put_book_header(writer);
+    put_starts_of_kind(writer, b"start", TransmissionKind::Stream, book);
+    put_starts_of_kind(writer, b"background", TransmissionKind::Background, book);
+    put_all_drops(writer, book);
 }

@@ -1,12 +1,12 @@
 //! The command `run` with `--threads`: the history and the book of an account.
 ghost use Rattle.std.specs.Prelude.{◌≡◌, ◌≢◌, ◌≤◌, ◌++◌, [], IfErr, IfOk, codes, map, string_bytes};
 ghost use Rattle.cqf_admission.specs.Admission.{recorded_of};
-ghost use Rattle.cqf_press.specs.Edge.{HasTold, writing};
-ghost use Rattle.cqf_press.specs.Press.{Puts};
+ghost use Rattle.cqf_output.specs.Edge.{HasTold, writing};
+ghost use Rattle.cqf_output.specs.Writer.{Puts};
 ghost use Rattle.cqf_report.specs.Books.{text_of_book};
 ghost use Rattle.cqf_program_runs.specs.Run.Output.{run_text};
 ghost use Rattle.cqf_program_scenario.specs.Opening.{IsOpenedInput};
-ghost use Rattle.cqf_press.specs.Stops.{EndsWith, fault_line, line_of};
+ghost use Rattle.cqf_output.specs.Stops.{EndsWith, fault_line, line_of};
 ghost use Rattle.cqf_worker.specs.Faults.{conduct_fault_text};
 ghost use Rattle.cqf_program_threads.specs.AccountTold.{text_of_account};
 ghost use Rattle.cqf_program_threads.specs.PagedBooks.{contents_told};
@@ -16,13 +16,13 @@ ghost use Rattle.cqf_model.specs.Limits.{most_cycles};
 use crate::threads_outputs::ThreadsOutput;
 use crate::{PagedBook, put_paged_book};
 use cqf_admission::Entry;
-use cqf_laws_account::tapes_tell_the_book;
+use cqf_laws_account::traces_tell_the_book;
 use cqf_model::Limits;
-use cqf_press::{FAULT, Press, Sheet, Sink, Stop, Told};
+use cqf_output::{FAULT, Writer, Buffer, Sink, Stop, Told};
 use cqf_program_scenario::{Opened, read_opened};
 use cqf_report::put_history;
 use cqf_topology::Domain;
-use cqf_worker::{ConductFault, Free, TapedAccount, conduct_tapes};
+use cqf_worker::{ConductFault, Free, TracedAccount, conduct_traces};
 use std::alloc::{AllocError, Global};
 use std::sync::Wait;
 use std::thread::Threads;
@@ -47,7 +47,7 @@ fn fault_stop(alloc: Global, fault: ConductFault) -> Stop
     }
 }
 
-/// Runs what was opened of the input. Returns its domain and the account of the run, by tapes; or the run's fault.
+/// Runs what was opened of the input. Returns its domain and the account of the run, by traces; or the run's fault.
 fn conduct_opened(
     rt: &(impl Threads + Wait + Sync),
     alloc: Global,
@@ -55,7 +55,7 @@ fn conduct_opened(
     cycles: u32,
     input: &[u8],
     opened: Opened,
-) -> Result<(Domain, TapedAccount), ConductFault>
+) -> Result<(Domain, TracedAccount), ConductFault>
     requires short { cycles ≤ most_cycles }
     requires opened { IsOpenedInput limits cycles input.now opened }
     ensures ok { IfOk result (λ ran. IsAccountOfInput limits cycles input.now ran.0 ran.1) }
@@ -68,7 +68,7 @@ fn conduct_opened(
         offers,
         background,
     } = opened;
-    match conduct_tapes(
+    match conduct_traces(
         rt,
         alloc,
         &domain,
@@ -84,20 +84,20 @@ fn conduct_opened(
     }
 }
 
-/// Puts a line `%%`, followed by the text of the book of the tapes.
-fn put_rest<W: Sink>(press: &mut Press<'_, W>, book: &PagedBook)
-    ensures { Puts W.contents press.old press.new (line_of (codes "%%") ++ text_of_book book.now.domain (contents_told book.now)) }
+/// Puts a line `%%`, followed by the text of the book of the traces.
+fn put_rest<W: Sink>(writer: &mut Writer<'_, W>, book: &PagedBook)
+    ensures { Puts W.contents writer.old writer.new (line_of (codes "%%") ++ text_of_book book.now.domain (contents_told book.now)) }
 {
-    press.put(b"%%\n");
-    put_paged_book(press, book);
+    writer.put(b"%%\n");
+    put_paged_book(writer, book);
 }
 
-/// Puts the texts of a history and of the book of the tapes, separated by a line `%%`.
-fn put_account<W: Sink>(press: &mut Press<'_, W>, history: &[Entry], book: &PagedBook)
-    ensures { Puts W.contents press.old press.new (run_text book.now.domain (map recorded_of history.now) (contents_told book.now)) }
+/// Puts the texts of a history and of the book of the traces, separated by a line `%%`.
+fn put_account<W: Sink>(writer: &mut Writer<'_, W>, history: &[Entry], book: &PagedBook)
+    ensures { Puts W.contents writer.old writer.new (run_text book.now.domain (map recorded_of history.now) (contents_told book.now)) }
 {
-    put_history(press, history);
-    put_rest(press, book);
+    put_history(writer, history);
+    put_rest(writer, book);
 }
 
 impl ThreadsOutput {
@@ -109,12 +109,12 @@ impl ThreadsOutput {
         let ThreadsOutput {
             history,
             book,
-            sheet,
+            buffer,
         } = self;
-        let mut press = Press::new(told, sheet);
+        let mut writer = Writer::new(told, buffer);
         let history = history.entries.as_slice();
-        put_account(&mut press, history, &book);
-        let _told = press.close();
+        put_account(&mut writer, history, &book);
+        let _told = writer.close();
     }
 }
 
@@ -145,19 +145,19 @@ pub fn threads_output(
         Ok(opened) => opened,
         Err(stop) => return Err(stop),
     };
-    tapes_tell_the_book();
+    traces_tell_the_book();
     let (domain, account) = match conduct_opened(rt, alloc, limits, cycles, input, opened) {
         Ok(ran) => ran,
         Err(fault) => return Err(fault_stop(alloc, fault)),
     };
     domain.know();
-    let TapedAccount { history, tapes } = account;
-    let book = PagedBook::new(domain, cycles, tapes);
-    match Sheet::new(alloc) {
-        Ok(sheet) => Ok(ThreadsOutput {
+    let TracedAccount { history, traces } = account;
+    let book = PagedBook::new(domain, cycles, traces);
+    match Buffer::new(alloc) {
+        Ok(buffer) => Ok(ThreadsOutput {
             history,
             book,
-            sheet,
+            buffer,
         }),
         Err(_) => Err(Stop::memory(alloc)),
     }

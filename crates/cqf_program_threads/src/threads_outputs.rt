@@ -2,13 +2,13 @@
 
 use crate::PagedBook;
 use cqf_desk::History;
-use cqf_press::Sheet;
+use cqf_output::Buffer;
 
-/// The data of the output of `run --threads`: the history of a run, its book by the tapes that the bridges kept, and a
-/// sheet.
+/// The data of the output of `run --threads`: the history of a run, its book by the traces that the bridges kept, and a
+/// buffer.
 #[derive(Drop)]
 pub struct ThreadsOutput {
     pub(crate) history: History,
     pub(crate) book: PagedBook,
-    pub(crate) sheet: Sheet,
+    pub(crate) buffer: Buffer,
 }

@@ -1,6 +1,6 @@
 -- Lines that grow.
 use Rattle.std.proofs.Common.{◌≡◌, ℕ, ◌++◌, List, [], ◌∷◌, ap, codes, sym, ◌∙◌, append_assoc, append-nil}
-use Rattle.cqf_press.specs.Stops.{line_of}
+use Rattle.cqf_output.specs.Stops.{line_of}
 use Rattle.cqf_program_words.specs.Shown.{Lengthens}
 
 -- nothing follows them yet

@@ -17,8 +17,8 @@ use Rattle.cqf_program_words.specs.declared.words.Format.{Format}
 use Rattle.cqf_program_words.specs.declared.words.Job.{Job}
 use Rattle.cqf_program_words.specs.declared.words.Job.TheVariants.{Check, Compile, Deliveries, Hops, Latency, Line}
 use Rattle.cqf_program_words.specs.declared.words.Job.TheVariants.{Load, Offers, Plan, Port, Report, Run, Summary}
-use Rattle.cqf_press.specs.Stops.{EndsWith, line_of}
-use Rattle.cqf_press.specs.declared.stops.Stop.{Stop}
+use Rattle.cqf_output.specs.Stops.{EndsWith, line_of}
+use Rattle.cqf_output.specs.declared.stops.Stop.{Stop}
 use Rattle.cqf_program_words.specs.Candidates.{AreNamed}
 use Rattle.cqf_program_words.specs.Commands.{cqf_app}
 use Rattle.cqf_program_words.specs.Mistakes.{mistake_of}

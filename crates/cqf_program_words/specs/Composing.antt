@@ -1,7 +1,7 @@
 -- The input that is made from the texts of files.
 use Rattle.std.specs.Prelude.{ℕ, ◌==◌, ◌||◌, ◌&&◌, ◌++◌, Bool, false, not, List, [], ◌∷◌, if◌then◌else◌, codes, length, nat_eq}
 use Rattle.std.specs.List.{ends_with, flat_map}
-use Rattle.cqf_press.specs.Stops.{line_of}
+use Rattle.cqf_output.specs.Stops.{line_of}
 use Rattle.cqf_text.specs.Parts.{parts_of}
 use Rattle.cqf_program_words.specs.declared.words.Job.{Job}
 use Rattle.cqf_program_words.specs.Words.{takes_domain}

@@ -3,8 +3,8 @@ use Rattle.std.specs.Prelude.{ℕ, ◌≡◌, ◌⊎◌, ◌++◌, ◌&&◌, Boo
 use Rattle.std.specs.List.{list_all}
 use Rattle.std.specs.Str.{chars}
 use Rattle.clap.specs.Words.{Text}
-use Rattle.cqf_press.specs.Stops.{line_of}
-use Rattle.cqf_press.specs.declared.stops.Stop.{Stop}
+use Rattle.cqf_output.specs.Stops.{line_of}
+use Rattle.cqf_output.specs.declared.stops.Stop.{Stop}
 
 -- a printable character of ASCII. A terminal may do something else with other characters than print them, or print what looks like another
 abbrev pub is_plain : ℕ → Bool

@@ -3,13 +3,13 @@ ghost use Rattle.std.specs.Prelude.{◌≡◌, ◌⊎◌, ◌++◌, [], IfOk, co
 ghost use Rattle.clap.specs.declared.error.kind.ErrorKind.TheVariants.{InvalidValue};
 ghost use Rattle.clap.specs.Words.{kind_of, subcommand_rows_of};
 ghost use Rattle.cqf_program_words.specs.Words.{EndsBy};
-ghost use Rattle.cqf_press.specs.Stops.{EndsWith, line_of};
+ghost use Rattle.cqf_output.specs.Stops.{EndsWith, line_of};
 ghost use Rattle.cqf_program_words.specs.Mistakes.{mistake_of};
 
 use crate::mistakes::mistake_of;
 use clap::error::ErrorKind;
 use clap::{ArgMatches, Command};
-use cqf_press::{DONE, Stop, USAGE};
+use cqf_output::{DONE, Stop, USAGE};
 use cqf_units::Memory;
 use std::alloc::Global;
 

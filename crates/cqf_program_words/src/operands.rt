@@ -1,11 +1,11 @@
 //! The files that the words of a command line name.
 ghost use Rattle.std.specs.Prelude.{◌≡◌, IfErr, IfOk, OnErr, OnOk, codes, false, map, string_bytes, true};
-ghost use Rattle.cqf_press.specs.Stops.{EndsWith, line_of};
+ghost use Rattle.cqf_output.specs.Stops.{EndsWith, line_of};
 ghost use Rattle.cqf_program_words.specs.Operands.{behind_word, ends_options, is_option, is_standard, is_standard_twice, names_file};
 ghost use Rattle.cqf_program_words.specs.Operands.{split_of, split_so_far, with_word};
 
 use crate::commands::{is_command, wants_value};
-use cqf_press::{Stop, USAGE};
+use cqf_output::{Stop, USAGE};
 use std::alloc::{AllocError, Global};
 
 /// What the next word is read as.

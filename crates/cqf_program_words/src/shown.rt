@@ -5,7 +5,7 @@ ghost use Rattle.std.specs.Str.{chars};
 ghost use Rattle.cqf_program_words.specs.Shown.{EndsShown, Lengthens, ShowsBehind, ShowsLine, ShowsWords, are_printable, is_plain, is_printable};
 ghost use Rattle.cqf_program_words.specs.Shown.{is_shown_whole, no_command, no_words};
 
-use cqf_press::{FAULT, Stop, USAGE};
+use cqf_output::{FAULT, Stop, USAGE};
 use cqf_units::Memory;
 use std::alloc::Global;
 

@@ -21,7 +21,7 @@ use crate::options::LAST_SEED;
 use crate::shown::stop_of_words;
 use clap::ArgMatches;
 use cqf_model::{LARGE, LAST_UNTIL, Limits, MOST_CYCLES};
-use cqf_press::Stop;
+use cqf_output::Stop;
 use cqf_units::{Name, Rate};
 use std::alloc::{AllocError, Global};
 

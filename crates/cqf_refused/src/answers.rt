@@ -4,7 +4,7 @@ ghost use Rattle.cqf_program_engine.specs.Run.{IsWithin, is_threaded};
 
 use crate::program::is_wanting;
 use cqf_model::PROFILE;
-use cqf_press::Stop;
+use cqf_output::Stop;
 use cqf_program_engine::answer;
 use cqf_program_words::{Format, Job};
 use cqf_refused_values::{Told, mark, once, twice};

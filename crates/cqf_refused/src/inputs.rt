@@ -2,7 +2,7 @@
 ghost use Rattle.std.specs.Prelude.{⊤};
 
 use crate::program::is_wanting;
-use cqf_press::Stop;
+use cqf_output::Stop;
 use cqf_program_engine::{Heard, MOST_BYTES, Source, read_input};
 use cqf_refused_values::{Told, mark, once, twice};
 use std::alloc::Global;

@@ -1,7 +1,7 @@
 //! Trials of the program's own calls, over readers and writers in memory. Each call is made between two marks, and
 //! repeated if it was refused for lack of memory. A reader that was read can't be reused, so the repetition reads a
 //! fresh one with the same bytes.
-use cqf_press::{NO_MEMORY, Stop};
+use cqf_output::{NO_MEMORY, Stop};
 use cqf_refused_values::{Told, names_of, told_by};
 use std::alloc::Global;
 use std::sync::Wait;

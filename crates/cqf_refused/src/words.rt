@@ -1,6 +1,6 @@
 //! Reading of words.
 use crate::program::is_wanting;
-use cqf_press::{DONE, Stop, USAGE};
+use cqf_output::{DONE, Stop, USAGE};
 use cqf_program_words::{Job, read_words};
 use cqf_refused_values::{Told, mark, once, twice};
 use std::alloc::Global;

@@ -5,7 +5,7 @@ ghost use Rattle.cqf_worker.specs.Wires.{AreWired, Wiring, pipe_of_tables, table
 use cqf_bridge::Agenda;
 use cqf_model::Offer;
 use cqf_refused_values::{Told, domain_of, mark, once, trial, twice};
-use cqf_tape::Reel;
+use cqf_trace::BridgeTrace;
 use cqf_test_fixtures::{are_offers, line, offers_of};
 use cqf_topology::Domain;
 use cqf_units::{Cycle, Memory};
@@ -86,10 +86,10 @@ fn workers_of(alloc: Global, domain: &Domain) -> Option<Laid>
     }
 }
 
-/// Whether three reels were returned.
-fn is_shut(closed: &Result<Vec<Reel>, ClosingFault>) -> bool {
+/// Whether three bridge traces were returned.
+fn is_shut(closed: &Result<Vec<BridgeTrace>, ClosingFault>) -> bool {
     match closed {
-        Ok(reels) => reels.len() == 3 && reels.iter().all(|reel| reel.drops.is_empty()),
+        Ok(bridge_traces) => bridge_traces.len() == 3 && bridge_traces.iter().all(|bridge_trace| bridge_trace.drops.is_empty()),
         Err(_) => false,
     }
 }

@@ -27,8 +27,8 @@ use Rattle.cqf_model.specs.declared.topology.Link.{Link}
 use Rattle.cqf_model.specs.declared.topology.Row.{Row}
 use Rattle.cqf_model.specs.Domain.{Domain, enters, leaves, node_is}
 use Rattle.cqf_model.specs.Table.{row_of}
-use Rattle.cqf_tape.specs.declared.tape.Mark.{Mark}
-use Rattle.cqf_tape.specs.Tapes.{mark_of_sent}
+use Rattle.cqf_trace.specs.declared.trace.Mark.{Mark}
+use Rattle.cqf_trace.specs.Traces.{mark_of_sent}
 use Rattle.cqf_relay.specs.declared.edge.Edge.{Edge}
 use Rattle.cqf_relay.specs.declared.inlet.Inlet.{Inlet}
 use Rattle.cqf_relay.specs.declared.leads.By.{By}
@@ -42,7 +42,7 @@ use Rattle.cqf_relay.specs.declared.pending.Pending.{Pending}
 use Rattle.cqf_relay.specs.declared.queue.Queued.{Queued}
 use Rattle.cqf_relay.specs.declared.relay.Relay.{Relay}
 use Rattle.cqf_relay.specs.declared.wire.Wire.{Wire}
-use Rattle.cqf_relay.specs.Stretches.{Sendings, batch_at, moving_between, moving_in}
+use Rattle.cqf_relay.specs.Segments.{Sendings, batch_at, moving_between, moving_in}
 use Rattle.cqf_relay.specs.Leading.{by_at, by_row, leads, same_by}
 use Rattle.cqf_relay.specs.Logs.{is_in}
 use Rattle.cqf_relay.specs.Offering.{came_of_going}
@@ -227,7 +227,7 @@ pub record HasGone (d : Domain) (bridge : ℕ) (come : Come) (until : ℕ) (send
   pub most : until ≤ most_of after
   pub as_far : after.sent ≡ before.sent + count
   pub leads : after.leads ≡ before.leads
-  pub link : after.tape.link ≡ before.tape.link
+  pub link : after.trace.link ≡ before.trace.link
 
 -- a bridge at which this has arrived, and which has kept all from a cycle on
 module _ (d : Domain) (bridge : ℕ) (come : Come) (least : ℕ) (inlets : List Inlet) (edge : Edge) (into : map link_in inlets ≡ links_into d bridge)
@@ -291,21 +291,21 @@ module _ (d : Domain) (bridge : ℕ) (come : Come) (least : ℕ) (inlets : List 
       sents = sends_of before.wire before.sent 0 (map came_of goes.sorted)
 
       -- what it needs has arrived
-      led_has_come : (m : ℕ) → enters d m bridge ≡ true → leads (all_rows come.tables) m before.tape.link ≡ true → before.sent ≤ come.upto m
+      led_has_come : (m : ℕ) → enters d m bridge ≡ true → leads (all_rows come.tables) m before.trace.link ≡ true → before.sent ≤ come.upto m
       led_has_come m enter led =
           let w = inlet_there m enter in
-          let needed = is.knows.needs w.0.link ∙ ap (λ (k : ℕ). leads (all_rows come.tables) k before.tape.link) w.2 ∙ led in
+          let needed = is.knows.needs w.0.link ∙ ap (λ (k : ℕ). leads (all_rows come.tables) k before.trace.link) w.2 ∙ led in
           let reached = All-contains
           (λ (inlet : Inlet). list_any (λ it. it == inlet.link) before.leads.needs.items ≡ true → until ≤ inlet.upto + 1) inlets w.0 come_so_far w.1 needed in
           let upto = (All-contains (IsInletOf come least) inlets w.0 are_inlets w.1).upto ∙ ap come.upto w.2 in
           omega (arith, reached, upto, less)
 
       -- what waited for it, after the first cycle
-      waited : (cycle : ℕ) → before.sent ≡ cycle + 1 → IsPermutation (comes_to d bridge come (all_rows come.tables) before.tape.link cycle) goes.sorted
+      waited : (cycle : ℕ) → before.sent ≡ cycle + 1 → IsPermutation (comes_to d bridge come (all_rows come.tables) before.trace.link cycle) goes.sorted
       waited cycle e =
           let next : before.sent ≡ suc cycle = omega (arith, e) in
           let kept : least ≤ cycle = omega (arith, early, e) in
-          subst (λ (queue : List Queued). IsPermutation queue goes.sorted) (queue_is before.tape.link cycle before.leads is.knows kept)
+          subst (λ (queue : List Queued). IsPermutation queue goes.sorted) (queue_is before.trace.link cycle before.leads is.knows kept)
           (subst (λ (n : ℕ). IsPermutation (waits_for before.leads inlets edge.log n) goes.sorted) next (goes.is_queue all_by_cycle is.knows.fits))
 
       -- in the first cycle nothing
@@ -316,7 +316,7 @@ module _ (d : Domain) (bridge : ℕ) (come : Come) (least : ℕ) (inlets : List 
           ap (λ (queue : List Queued). sends_of before.wire before.sent 0 (map came_of queue)) none
 
       -- the link has gone on to the next cycle
-      one_further : (cycle : ℕ) → before.sent ≡ cycle + 1 → GoesOnBy d bridge come before.tape.link cycle sents
+      one_further : (cycle : ℕ) → before.sent ≡ cycle + 1 → GoesOnBy d bridge come before.trace.link cycle sents
       one_further cycle e = record {
         count = length come.tables;
         had_table = omega (arith, less, tables, e);
@@ -329,34 +329,34 @@ module _ (d : Domain) (bridge : ℕ) (come : Come) (least : ℕ) (inlets : List 
       }
 
       -- and so it has in all its cycles
-      gone_further : HasGoneOnBy d bridge come before.tape.link (sends ++ sents ∷ [])
+      gone_further : HasGoneOnBy d bridge come before.trace.link (sends ++ sents ∷ [])
       gone_further = record {
         first = elim (cases_eq (length sends) 0) [
           | inl none ↦ batch_behind sends sents 0 (sym none) ∙ first_empty (is.as_far ∙ none)
           | inr some ↦ batch_before sends sents 0 (omega (arith, some)) ∙ is.gone.first
         ];
         next = λ cycle below. elim (cases_lt (cycle + 1) (length sends)) [
-          | inl inside ↦ subst (GoesOnBy d bridge come before.tape.link cycle) (sym (batch_before sends sents (cycle + 1) inside))
+          | inl inside ↦ subst (GoesOnBy d bridge come before.trace.link cycle) (sym (batch_before sends sents (cycle + 1) inside))
               (is.gone.next cycle inside)
           | inr last ↦
               let at : cycle + 1 ≡ length sends = omega (arith, last, below, length_push sends sents) in
-              subst (GoesOnBy d bridge come before.tape.link cycle) (sym (batch_behind sends sents (cycle + 1) at))
+              subst (GoesOnBy d bridge come before.trace.link cycle) (sym (batch_behind sends sents (cycle + 1) at))
               (one_further cycle (is.as_far ∙ sym at))
         ];
       }
 
       -- what is pending for it afterwards
       pends_further : until ≤ most_of before → before.wire.onward ≡ true →
-          IsPending d before.tape.link (sends ++ sents ∷ []) before.told (length sends + 1) after.pending.base after.pending.frames.items
+          IsPending d before.trace.link (sends ++ sents ∷ []) before.told (length sends + 1) after.pending.base after.pending.frames.items
       pends_further most onward =
           let frames = before.pending.frames.items in
           let base = before.pending.base in
           let near : before.sent < most_of before = omega (arith, less, most) in
-          let pending : IsPending d before.tape.link sends before.told before.sent base frames =
+          let pending : IsPending d before.trace.link sends before.told before.sent base frames =
           record { is = is.pends onward; near = is.counts onward } in
-          pending_more d before.tape.link before.told sends sents base after.pending.base frames after.pending.frames.items
+          pending_more d before.trace.link before.told sends sents base after.pending.base frames after.pending.frames.items
           (omega (arith, is.handed, is.as_far))
-          (subst (λ (n : ℕ). IsPending d before.tape.link sends before.told n base frames) is.as_far pending)
+          (subst (λ (n : ℕ). IsPending d before.trace.link sends before.told n base frames) is.as_far pending)
           (subst (λ (n : ℕ). n < most_behind frames n base) is.as_far near)
           (subst (λ (n : ℕ). after.pending.base ≡ base_with frames base n sents) is.as_far (goes.adds.base onward))
           (goes.adds.pends onward
@@ -364,7 +364,7 @@ module _ (d : Domain) (bridge : ℕ) (come : Come) (least : ℕ) (inlets : List 
 
       -- it still has what is pending if it hands on
       pends_as_it_is : until ≤ most_of before → after.wire.onward ≡ true →
-          IsPending d after.tape.link (sends ++ sents ∷ []) after.told after.sent after.pending.base after.pending.frames.items
+          IsPending d after.trace.link (sends ++ sents ∷ []) after.told after.sent after.pending.base after.pending.frames.items
       pends_as_it_is most onward =
           let same = goes.adds.same in
           let list = sends ++ sents ∷ [] in
@@ -373,8 +373,8 @@ module _ (d : Domain) (bridge : ℕ) (come : Come) (least : ℕ) (inlets : List 
           let onward_before = ap (λ (wire : Wire). wire.onward) (sym same.wire) ∙ onward in
           let as_far : length sends + 1 ≡ after.sent = omega (arith, goes.as_far, is.as_far) in
           subst (λ (k : ℕ). IsPending d k list after.told after.sent base frames) (sym same.link)
-          (subst (λ (n : ℕ). IsPending d before.tape.link list n after.sent base frames) (sym goes.adds.told)
-          (subst (λ (n : ℕ). IsPending d before.tape.link list before.told n base frames) as_far (pends_further most onward_before)))
+          (subst (λ (n : ℕ). IsPending d before.trace.link list n after.sent base frames) (sym goes.adds.told)
+          (subst (λ (n : ℕ). IsPending d before.trace.link list before.told n base frames) as_far (pends_further most onward_before)))
 
       -- the link's state holds with the additional cycle
       pub outlet_more : until ≤ most_of before → IsOutletOf d bridge come (sends ++ sents ∷ []) after
@@ -385,7 +385,7 @@ module _ (d : Domain) (bridge : ℕ) (come : Come) (least : ℕ) (inlets : List 
           record {
             wire = same.wire ∙ is.wire ∙ ap (wire_on d) (sym same.link);
             knows = subst (λ (k : ℕ). KnowsRows k come.tables after.leads) (sym same.link)
-                (subst (KnowsRows before.tape.link come.tables) (sym same.leads) is.knows);
+                (subst (KnowsRows before.trace.link come.tables) (sym same.leads) is.knows);
             as_far = omega (arith, goes.as_far, is.as_far, length_push sends sents);
             handed = omega (arith, goes.adds.told, goes.as_far, is.handed);
             pends = λ onward. (pends_as_it_is most onward).is;
@@ -514,11 +514,11 @@ module _ (place : ℕ) (before after : Relay) (goes : SendsOn place before after
     (stands : StandsSo d come sends before) where
   -- the link that goes on, by number
   abbrev link : ℕ
-  link = goes.outlet.tape.link
+  link = goes.outlet.trace.link
 
   -- its state before
   stood : IsOutletOf d before.number come (sends link) goes.outlet
-  stood = All-contains (λ (outlet : Outlet). IsOutletOf d before.number come (sends outlet.tape.link) outlet) before.outlets.items goes.outlet
+  stood = All-contains (λ (outlet : Outlet). IsOutletOf d before.number come (sends outlet.trace.link) outlet) before.outlets.items goes.outlet
       stands.outlets (contains_at before.outlets.items place goes.outlet goes.was)
 
   -- how far it has gone on
@@ -540,17 +540,17 @@ module _ (place : ℕ) (before after : Relay) (goes : SendsOn place before after
   ascend = subst (AllPairs (λ (a b : ℕ). a < b)) (sym stands.from) (numbers_ascend (λ (l : ℕ). leaves d l before.number) (length d.links))
 
   -- the state of each link holds with what it has sent afterwards
-  outlets_then : All (λ (outlet : Outlet). IsOutletOf d before.number come (then_sent outlet.tape.link) outlet) (set before.outlets.items place goes.gone)
+  outlets_then : All (λ (outlet : Outlet). IsOutletOf d before.number come (then_sent outlet.trace.link) outlet) (set before.outlets.items place goes.gone)
   outlets_then =
-      let so = λ (all : Sendings) (outlet : Outlet). IsOutletOf d before.number come (all outlet.tape.link) outlet in
+      let so = λ (all : Sendings) (outlet : Outlet). IsOutletOf d before.number come (all outlet.trace.link) outlet in
       all_but_one (so sends) (so then_sent) link_out before.outlets.items place goes.outlet goes.gone ascend goes.was stands.outlets
       (λ outlet other is. subst (λ (list : List (List Sent)). IsOutletOf d before.number come list outlet)
-      (sym (cond-false (outlet.tape.link == link) (sends outlet.tape.link ++ gone_far.rest) (sends outlet.tape.link)
-      (ne_eqb outlet.tape.link link other))) is)
+      (sym (cond-false (outlet.trace.link == link) (sends outlet.trace.link ++ gone_far.rest) (sends outlet.trace.link)
+      (ne_eqb outlet.trace.link link other))) is)
       (subst (λ (list : List (List Sent)). IsOutletOf d before.number come list goes.gone)
       (ap (λ (k : ℕ). sends k ++ gone_far.rest) (sym gone_far.link)
-      ∙ sym (cond-true (goes.gone.tape.link == link) (sends goes.gone.tape.link ++ gone_far.rest) (sends goes.gone.tape.link)
-      (eq-eqb goes.gone.tape.link link gone_far.link))) gone_far.is)
+      ∙ sym (cond-true (goes.gone.trace.link == link) (sends goes.gone.trace.link ++ gone_far.rest) (sends goes.gone.trace.link)
+      (eq-eqb goes.gone.trace.link link gone_far.link))) gone_far.is)
 
   -- the bridge's state holds with it
   stands_then : StandsSo d come then_sent after
@@ -585,9 +585,9 @@ module _ (place : ℕ) (before after : Relay) (goes : SendsOn place before after
     inlets = subst (λ (list : Vec Inlet Global). All (IsInletOf come stands.least) list.items) (sym goes.same.inlets) stands.inlets;
     edge = subst (λ (n : ℕ). IsEdgeOf d n come stands.least after.edge) (sym goes.same.number)
         (subst (IsEdgeOf d before.number come stands.least) (sym goes.same.edge) stands.edge);
-    outlets = subst (λ (n : ℕ). All (λ (outlet : Outlet). IsOutletOf d n come (then_sent outlet.tape.link) outlet) after.outlets.items)
+    outlets = subst (λ (n : ℕ). All (λ (outlet : Outlet). IsOutletOf d n come (then_sent outlet.trace.link) outlet) after.outlets.items)
         (sym goes.same.number)
-        (subst (All (λ (outlet : Outlet). IsOutletOf d before.number come (then_sent outlet.tape.link) outlet)) (sym goes.is) outlets_then);
+        (subst (All (λ (outlet : Outlet). IsOutletOf d before.number come (then_sent outlet.trace.link) outlet)) (sym goes.is) outlets_then);
   }
 
   -- and it has sent more

@@ -15,18 +15,18 @@ use Rattle.cqf_lists.proofs.Written.{map_kept, slice_get-set_same}
 use Rattle.cqf_model.specs.declared.frames.Sent.{Sent}
 use Rattle.cqf_model.specs.declared.topology.Row.{Row}
 use Rattle.cqf_model.specs.Domain.{Domain}
-use Rattle.cqf_tape.specs.declared.tape.Tape.{Tape}
+use Rattle.cqf_trace.specs.declared.trace.Trace.{Trace}
 use Rattle.cqf_relay.specs.declared.edge.Edge.{Edge}
 use Rattle.cqf_relay.specs.declared.inlet.Inlet.{Inlet}
 use Rattle.cqf_relay.specs.declared.leads.Leads.{Leads}
 use Rattle.cqf_relay.specs.declared.log.ArrivedFrame.{ArrivedFrame}
-use Rattle.cqf_relay.specs.declared.moving.Stretch.{Stretch}
+use Rattle.cqf_relay.specs.declared.moving.Segment.{Segment}
 use Rattle.cqf_relay.specs.declared.outlet.Outlet.{Outlet}
 use Rattle.cqf_relay.specs.declared.relay.Relay.{Relay}
 use Rattle.cqf_relay.specs.declared.wire.Wire.{Wire}
-use Rattle.cqf_relay.specs.Stretches.{IsNextStretch, IsStretchOf, Sendings, batch_at, frames_of, moving_between, moving_in}
-use Rattle.cqf_relay.specs.Logs.{ByCycle, came_by_stretch}
-use Rattle.cqf_relay.specs.Sending.{IsSameLink, IsTidy, KeepsStretchBack, TakesPending}
+use Rattle.cqf_relay.specs.Segments.{IsNextSegment, IsSegmentOf, Sendings, batch_at, frames_of, moving_between, moving_in}
+use Rattle.cqf_relay.specs.Logs.{ByCycle, came_by_segment}
+use Rattle.cqf_relay.specs.Sending.{IsSameLink, IsTidy, KeepsSegmentBack, TakesPending}
 use Rattle.cqf_relay.specs.Standing.{AreKnown, Come, HandsOn, HasGoneOnBy, IsEdgeOf, IsInletOf, IsOutletOf, IsSameButLinks, IsWithin, KeepsBack, KnowsRows}
 use Rattle.cqf_relay.specs.Standing.{StandsSo, StaysAs, link_in, link_out, links_from, links_into}
 use Rattle.cqf_relay.specs.Standing.{told_by, wire_on, wire_out}
@@ -54,37 +54,37 @@ same_between d sends l m first base begin told upto sent link from begins ends =
     ∙ ap (λ (i : ℕ). moving_between d m sends base told i) ends
 
 -- a link that is the same knows the same rows
-pub knows_same : (tables : List (List Row)) (before after : Outlet) → IsSameLink before after → KnowsRows before.tape.link tables before.leads →
-    KnowsRows after.tape.link tables after.leads
+pub knows_same : (tables : List (List Row)) (before after : Outlet) → IsSameLink before after → KnowsRows before.trace.link tables before.leads →
+    KnowsRows after.trace.link tables after.leads
 knows_same tables before after same knows =
-    subst (λ (l : ℕ). KnowsRows l tables after.leads) (sym same.link) (subst (λ (known : Leads). KnowsRows before.tape.link tables known) (sym same.leads) knows)
+    subst (λ (l : ℕ). KnowsRows l tables after.leads) (sym same.link) (subst (λ (known : Leads). KnowsRows before.trace.link tables known) (sym same.leads) knows)
 
 -- a link that hands on what it sent is in the same state, with nothing more to hand on
-pub outlet_hands : (d : Domain) (bridge : ℕ) (come : Come) (sends : List (List Sent)) (before after : Outlet) (stretch : Stretch) →
-    TakesPending before after stretch → IsOutletOf d bridge come sends before → IsOutletOf d bridge come sends after
-outlet_hands d bridge come sends before after stretch takes stands = record {
+pub outlet_hands : (d : Domain) (bridge : ℕ) (come : Come) (sends : List (List Sent)) (before after : Outlet) (segment : Segment) →
+    TakesPending before after segment → IsOutletOf d bridge come sends before → IsOutletOf d bridge come sends after
+outlet_hands d bridge come sends before after segment takes stands = record {
   wire = takes.same.wire ∙ stands.wire ∙ ap (wire_on d) (sym takes.same.link);
   knows = knows_same come.tables before after takes.same stands.knows;
   as_far = takes.as_far ∙ stands.as_far;
   handed = omega (arith, takes.told, takes.as_far);
-  pends = λ onward. takes.none ∙ sym (none_between d after.tape.link sends after.pending.base after.told after.sent (takes.told ∙ sym takes.as_far));
+  pends = λ onward. takes.none ∙ sym (none_between d after.trace.link sends after.pending.base after.told after.sent (takes.told ∙ sym takes.as_far));
   counts = λ onward cycle from upto some. absurd (omega (arith, from, upto, takes.told, takes.as_far));
-  marked = ap (λ (tape : Tape). tape.starts.items) takes.tape ∙ stands.marked;
-  no_background = ap (λ (tape : Tape). tape.background.items) takes.tape ∙ stands.no_background;
+  marked = ap (λ (trace : Trace). trace.starts.items) takes.trace ∙ stands.marked;
+  no_background = ap (λ (trace : Trace). trace.background.items) takes.trace ∙ stands.no_background;
   gone = subst (λ (l : ℕ). HasGoneOnBy d bridge come l sends) (sym takes.same.link) stands.gone;
 }
 
 -- a link that takes back what it handed on is in the state before that
-pub outlet_again : (d : Domain) (bridge : ℕ) (come : Come) (sends : List (List Sent)) (older before after : Outlet) (told : ℕ) (stretch : Stretch) →
-    TakesPending older before stretch → KeepsStretchBack told stretch before after → told ≡ older.told → IsOutletOf d bridge come sends older →
+pub outlet_again : (d : Domain) (bridge : ℕ) (come : Come) (sends : List (List Sent)) (older before after : Outlet) (told : ℕ) (segment : Segment) →
+    TakesPending older before segment → KeepsSegmentBack told segment before after → told ≡ older.told → IsOutletOf d bridge come sends older →
     IsOutletOf d bridge come sends after
-outlet_again d bridge come sends older before after told stretch takes keeps by_then stands =
-    let link : after.tape.link ≡ older.tape.link = keeps.same.link ∙ takes.same.link in
+outlet_again d bridge come sends older before after told segment takes keeps by_then stands =
+    let link : after.trace.link ≡ older.trace.link = keeps.same.link ∙ takes.same.link in
     let wire : after.wire ≡ older.wire = keeps.same.wire ∙ takes.same.wire in
     let base : after.pending.base ≡ older.pending.base = keeps.base ∙ takes.from in
     let told_is : after.told ≡ older.told = keeps.told_by_then ∙ by_then in
     let sent_is : after.sent ≡ older.sent = keeps.as_far ∙ takes.as_far in
-    let tape : after.tape ≡ older.tape = keeps.tape ∙ takes.tape in
+    let trace : after.trace ≡ older.trace = keeps.trace ∙ takes.trace in
     let on : after.wire.onward ≡ true → older.wire.onward ≡ true = λ (yes : after.wire.onward ≡ true). ap (λ (w : Wire). w.onward) (sym wire) ∙ yes in
     record {
       wire = wire ∙ stands.wire ∙ ap (wire_on d) (sym link);
@@ -95,22 +95,22 @@ outlet_again d bridge come sends older before after told stretch takes keeps by_
           keeps.frames
           ∙ takes.frames
           ∙ stands.pends (on onward)
-          ∙ sym (same_between d sends after.tape.link older.tape.link after.pending.base older.pending.base after.told older.told after.sent older.sent link
+          ∙ sym (same_between d sends after.trace.link older.trace.link after.pending.base older.pending.base after.told older.told after.sent older.sent link
           base told_is sent_is);
       counts = λ onward cycle from upto some.
           let counted = stands.counts (on onward) cycle (omega (arith, from, told_is)) (omega (arith, upto, sent_is)) some in
           (omega (arith, counted.0, base), omega (arith, counted.1, base));
-      marked = ap (λ (tape : Tape). tape.starts.items) tape ∙ stands.marked;
-      no_background = ap (λ (tape : Tape). tape.background.items) tape ∙ stands.no_background;
+      marked = ap (λ (trace : Trace). trace.starts.items) trace ∙ stands.marked;
+      no_background = ap (λ (trace : Trace). trace.background.items) trace ∙ stands.no_background;
       gone = subst (λ (l : ℕ). HasGoneOnBy d bridge come l sends) (sym link) stands.gone;
     }
 
 -- what a link hands on is what it sent
-pub outlet_gives : (d : Domain) (bridge : ℕ) (come : Come) (sends : List (List Sent)) (before after : Outlet) (stretch : Stretch) → TakesPending before after stretch →
-    IsOutletOf d bridge come sends before → before.wire.onward ≡ true → IsStretchOf d before.tape.link sends before.told stretch × (stretch.upto ≡ length sends)
-outlet_gives d bridge come sends before after stretch takes stands onward =
-    let ends : stretch.upto ≡ length sends = takes.upto ∙ stands.as_far in
-    let is : IsStretchOf d before.tape.link sends before.told stretch = record {
+pub outlet_gives : (d : Domain) (bridge : ℕ) (come : Come) (sends : List (List Sent)) (before after : Outlet) (segment : Segment) → TakesPending before after segment →
+    IsOutletOf d bridge come sends before → before.wire.onward ≡ true → IsSegmentOf d before.trace.link sends before.told segment × (segment.upto ≡ length sends)
+outlet_gives d bridge come sends before after segment takes stands onward =
+    let ends : segment.upto ≡ length sends = takes.upto ∙ stands.as_far in
+    let is : IsSegmentOf d before.trace.link sends before.told segment = record {
       behind = omega (arith, takes.upto, stands.handed);
       within = omega (arith, ends);
       counts = λ cycle from upto some.
@@ -118,20 +118,20 @@ outlet_gives d bridge come sends before after stretch takes stands onward =
           omega (arith, takes.from, counted.0);
       carries = takes.frames
           ∙ stands.pends onward
-          ∙ sym (same_between d sends before.tape.link before.tape.link stretch.from before.pending.base before.told before.told stretch.upto before.sent refl takes.from
+          ∙ sym (same_between d sends before.trace.link before.trace.link segment.from before.pending.base before.told before.told segment.upto before.sent refl takes.from
           refl takes.upto);
     } in
     (is, ends)
 
 -- and may come next at its end
-pub outlet_gives_next : (before after : Outlet) (stretch : Stretch) → TakesPending before after stretch → IsTidy before → IsNextStretch before.told stretch
-outlet_gives_next before after stretch takes tidy =
-    let frames : frames_of stretch ≡ map (came_by_stretch before.pending.base) before.pending.frames.items =
-    ap (λ (from : ℕ). map (came_by_stretch from) stretch.frames.items) takes.from ∙ ap (map (came_by_stretch before.pending.base)) takes.frames in
+pub outlet_gives_next : (before after : Outlet) (segment : Segment) → TakesPending before after segment → IsTidy before → IsNextSegment before.told segment
+outlet_gives_next before after segment takes tidy =
+    let frames : frames_of segment ≡ map (came_by_segment before.pending.base) before.pending.frames.items =
+    ap (λ (from : ℕ). map (came_by_segment from) segment.frames.items) takes.from ∙ ap (map (came_by_segment before.pending.base)) takes.frames in
     record {
       behind = omega (arith, takes.upto, tidy.handed);
       by_cycle = subst ByCycle (sym frames) tidy.by_cycle;
-      within = subst (λ (upto : ℕ). All (λ (came : ArrivedFrame). (before.told ≤ came.cycle) × (came.cycle < upto)) (frames_of stretch)) (sym takes.upto)
+      within = subst (λ (upto : ℕ). All (λ (came : ArrivedFrame). (before.told ≤ came.cycle) × (came.cycle < upto)) (frames_of segment)) (sym takes.upto)
           (subst (All (λ (came : ArrivedFrame). (before.told ≤ came.cycle) × (came.cycle < before.sent))) (sym frames) tidy.within);
     }
 
@@ -151,9 +151,9 @@ same_but_twice older before after early late = record {
 
 -- if one link is in an allowed state, has sent as much and knows the same rows, the bridge is in the same state
 pub relay_with : (d : Domain) (come : Come) (sends : Sendings) (before after : Relay) (place : ℕ) (old new : Outlet) → IsSameButLinks before after →
-    slice_get before.outlets.items place ≡ Some old → after.outlets.items ≡ set before.outlets.items place new → new.tape.link ≡ old.tape.link →
+    slice_get before.outlets.items place ≡ Some old → after.outlets.items ≡ set before.outlets.items place new → new.trace.link ≡ old.trace.link →
     new.leads ≡ old.leads → new.sent ≡ old.sent →
-    (IsOutletOf d before.number come (sends old.tape.link) old → IsOutletOf d before.number come (sends old.tape.link) new) → StandsSo d come sends before →
+    (IsOutletOf d before.number come (sends old.trace.link) old → IsOutletOf d before.number come (sends old.trace.link) new) → StandsSo d come sends before →
     StandsSo d come sends after
 relay_with d come sends before after place old new same was is link known sent one stands =
     let room : All (λ (outlet : Outlet). length outlet.leads.rows.items ≤ before.known) after.outlets.items =
@@ -179,11 +179,11 @@ relay_with d come sends before after place old new same was is link known sent o
       inlets = subst (λ (inlets : Vec Inlet Global). All (IsInletOf come stands.least) inlets.items) (sym same.inlets) stands.inlets;
       edge = subst (λ (bridge : ℕ). IsEdgeOf d bridge come stands.least after.edge) (sym same.number)
           (subst (λ (edge : Edge). IsEdgeOf d before.number come stands.least edge) (sym same.edge) stands.edge);
-      outlets = subst (λ (bridge : ℕ). All (λ (outlet : Outlet). IsOutletOf d bridge come (sends outlet.tape.link) outlet) after.outlets.items) (sym same.number)
-          (subst (All (λ (outlet : Outlet). IsOutletOf d before.number come (sends outlet.tape.link) outlet)) (sym is)
-          (All-set (λ (outlet : Outlet). IsOutletOf d before.number come (sends outlet.tape.link) outlet) before.outlets.items place new
+      outlets = subst (λ (bridge : ℕ). All (λ (outlet : Outlet). IsOutletOf d bridge come (sends outlet.trace.link) outlet) after.outlets.items) (sym same.number)
+          (subst (All (λ (outlet : Outlet). IsOutletOf d before.number come (sends outlet.trace.link) outlet)) (sym is)
+          (All-set (λ (outlet : Outlet). IsOutletOf d before.number come (sends outlet.trace.link) outlet) before.outlets.items place new
           (subst (λ (l : ℕ). IsOutletOf d before.number come (sends l) new) (sym link)
-          (one (all_at (λ (outlet : Outlet). IsOutletOf d before.number come (sends outlet.tape.link) outlet) before.outlets.items place old stands.outlets was)))
+          (one (all_at (λ (outlet : Outlet). IsOutletOf d before.number come (sends outlet.trace.link) outlet) before.outlets.items place old stands.outlets was)))
           stands.outlets));
     }
 
@@ -193,29 +193,29 @@ pub all_with : (P : Outlet → Type 0) (before after : List Outlet) (place : ℕ
 all_with P before after place new is one each = subst (All P) (sym is) (All-set P before place new one each)
 
 -- a bridge stays the same when one of its links hands on what it sent
-pub stays_handing : (place : ℕ) (before after : Relay) (old new : Outlet) (stretch : Stretch) → IsSameButLinks before after →
-    slice_get before.outlets.items place ≡ Some old → after.outlets.items ≡ set before.outlets.items place new → TakesPending old new stretch →
+pub stays_handing : (place : ℕ) (before after : Relay) (old new : Outlet) (segment : Segment) → IsSameButLinks before after →
+    slice_get before.outlets.items place ≡ Some old → after.outlets.items ≡ set before.outlets.items place new → TakesPending old new segment →
     StaysAs before after
-stays_handing place before after old new stretch same was is takes = record {
+stays_handing place before after old new segment same was is takes = record {
   domain = same.domain;
   number = same.number;
   cycles = same.cycles;
   links_in = ap (λ (inlets : Vec Inlet Global). map link_in inlets.items) same.inlets;
   links_out = ap (map link_out) is ∙ map_kept link_out before.outlets.items place old new was takes.same.link;
   wires = ap (map wire_out) is ∙ map_kept wire_out before.outlets.items place old new was takes.same.wire;
-  tidy = all_with IsTidy before.outlets.items after.outlets.items place new is (hands_tidy old new stretch takes);
+  tidy = all_with IsTidy before.outlets.items after.outlets.items place new is (hands_tidy old new segment takes);
   within = λ within.
       all_with (IsWithin before.cycles) before.outlets.items after.outlets.items place new is
       (omega (arith, takes.as_far, all_at (IsWithin before.cycles) before.outlets.items place old within was)) within;
 }
 
 -- and has handed it on
-pub relay_hands_on : (place : ℕ) (before after : Relay) (old new : Outlet) (stretch : Stretch) → IsSameButLinks before after →
-    slice_get before.outlets.items place ≡ Some old → after.outlets.items ≡ set before.outlets.items place new → TakesPending old new stretch →
-    HandsOn place before after stretch
-relay_hands_on place before after old new stretch same was is takes = record {
+pub relay_hands_on : (place : ℕ) (before after : Relay) (old new : Outlet) (segment : Segment) → IsSameButLinks before after →
+    slice_get before.outlets.items place ≡ Some old → after.outlets.items ≡ set before.outlets.items place new → TakesPending old new segment →
+    HandsOn place before after segment
+relay_hands_on place before after old new segment same was is takes = record {
   same = same;
-  stays = stays_handing place before after old new stretch same was is takes;
+  stays = stays_handing place before after old new segment same was is takes;
   outlet = old;
   was = was;
   handed = new;
@@ -226,26 +226,26 @@ relay_hands_on place before after old new stretch same was is takes = record {
       ∙ ap (λ (told : ℕ). set (told_by before) place told) (takes.told ∙ sym takes.upto);
   stands = λ d come sends stands.
       relay_with d come sends before after place old new same was is takes.same.link takes.same.leads takes.as_far
-      (outlet_hands d before.number come (sends old.tape.link) old new stretch takes) stands;
-  is_stretch = λ d come sends outlet stands there.
+      (outlet_hands d before.number come (sends old.trace.link) old new segment takes) stands;
+  is_segment = λ d come sends outlet stands there.
       subst
-      (λ (it : Outlet). it.wire.onward ≡ true → IsStretchOf d it.tape.link (sends it.tape.link) it.told stretch × (stretch.upto ≡ length (sends it.tape.link)))
+      (λ (it : Outlet). it.wire.onward ≡ true → IsSegmentOf d it.trace.link (sends it.trace.link) it.told segment × (segment.upto ≡ length (sends it.trace.link)))
       (same_Some old outlet (sym was ∙ there))
-      (outlet_gives d before.number come (sends old.tape.link) old new stretch takes
-      (all_at (λ (it : Outlet). IsOutletOf d before.number come (sends it.tape.link) it) before.outlets.items place old stands.outlets was));
-  is_next = outlet_gives_next old new stretch takes;
+      (outlet_gives d before.number come (sends old.trace.link) old new segment takes
+      (all_at (λ (it : Outlet). IsOutletOf d before.number come (sends it.trace.link) it) before.outlets.items place old stands.outlets was));
+  is_next = outlet_gives_next old new segment takes;
 }
 
-module _ (place told : ℕ) (stretch : Stretch) (older before after : Relay) (old new : Outlet) (same : IsSameButLinks before after)
+module _ (place told : ℕ) (segment : Segment) (older before after : Relay) (old new : Outlet) (same : IsSameButLinks before after)
     (was : slice_get before.outlets.items place ≡ Some old) (is : after.outlets.items ≡ set before.outlets.items place new)
-    (keeps : KeepsStretchBack told stretch old new) (hands : HandsOn place older before stretch) (by_then : slice_get (told_by older) place ≡ Some told) where
+    (keeps : KeepsSegmentBack told segment old new) (hands : HandsOn place older before segment) (by_then : slice_get (told_by older) place ≡ Some told) where
   -- what a bridge's link takes back is what that link handed on
-  back_to_it : KeepsStretchBack told stretch hands.handed new
+  back_to_it : KeepsSegmentBack told segment hands.handed new
   back_to_it =
       let inside : place < length older.outlets.items = slice_get_within older.outlets.items place hands.outlet hands.was in
       let there : slice_get before.outlets.items place ≡ Some hands.handed =
       ap (λ (xs : List Outlet). slice_get xs place) hands.is ∙ slice_get-set_same older.outlets.items place hands.handed inside in
-      subst (λ (it : Outlet). KeepsStretchBack told stretch it new) (same_Some old hands.handed (sym was ∙ there)) keeps
+      subst (λ (it : Outlet). KeepsSegmentBack told segment it new) (same_Some old hands.handed (sym was ∙ there)) keeps
 
   -- no other link has changed since
   set_since : after.outlets.items ≡ set older.outlets.items place new
@@ -265,20 +265,20 @@ module _ (place told : ℕ) (stretch : Stretch) (older before after : Relay) (ol
       (back_to_it.same.link ∙ hands.takes.same.link)
       (back_to_it.same.leads ∙ hands.takes.same.leads)
       (back_to_it.as_far ∙ hands.takes.as_far)
-      (outlet_again d older.number come (sends hands.outlet.tape.link) hands.outlet hands.handed new told stretch hands.takes back_to_it told_then)
+      (outlet_again d older.number come (sends hands.outlet.trace.link) hands.outlet hands.handed new told segment hands.takes back_to_it told_then)
 
   -- and its links are tidy if they were so then
   pub tidy_again : All IsTidy older.outlets.items → All IsTidy after.outlets.items
   tidy_again tidy =
       all_with IsTidy older.outlets.items after.outlets.items place new set_since
-      (back_tidy hands.outlet hands.handed new told stretch hands.takes back_to_it told_then
+      (back_tidy hands.outlet hands.handed new told segment hands.takes back_to_it told_then
       (all_at IsTidy older.outlets.items place hands.outlet tidy hands.was)) tidy
 
 -- a bridge with one link that takes back what it handed on
-pub relay_keeps_back : (place told : ℕ) (stretch : Stretch) (before after : Relay) (old new : Outlet) → IsSameButLinks before after →
-    slice_get before.outlets.items place ≡ Some old → after.outlets.items ≡ set before.outlets.items place new → KeepsStretchBack told stretch old new →
-    KeepsBack place told stretch before after
-relay_keeps_back place told stretch before after old new same was is keeps = record {
+pub relay_keeps_back : (place told : ℕ) (segment : Segment) (before after : Relay) (old new : Outlet) → IsSameButLinks before after →
+    slice_get before.outlets.items place ≡ Some old → after.outlets.items ≡ set before.outlets.items place new → KeepsSegmentBack told segment old new →
+    KeepsBack place told segment before after
+relay_keeps_back place told segment before after old new same was is keeps = record {
   same = same;
   links = ap (map link_out) is ∙ map_kept link_out before.outlets.items place old new was keeps.same.link;
   wires = ap (map wire_out) is ∙ map_kept wire_out before.outlets.items place old new was keeps.same.wire;
@@ -290,12 +290,12 @@ relay_keeps_back place told stretch before after old new same was is keeps = rec
   told_by_then = ap (map (λ (outlet : Outlet). outlet.told)) is
       ∙ map-set (λ (outlet : Outlet). outlet.told) before.outlets.items place new
       ∙ ap (λ (told : ℕ). set (told_by before) place told) keeps.told_by_then;
-  again = λ older. stands_again place told stretch older before after old new same was is keeps;
-  tidy_again = λ older. tidy_again place told stretch older before after old new same was is keeps;
+  again = λ older. stands_again place told segment older before after old new same was is keeps;
+  tidy_again = λ older. tidy_again place told segment older before after old new same was is keeps;
 }
 
 -- ---- what is sent, taken from the links one by one
 
--- the tapes so far, with those of the links to come, are those of all
-pub record AreTapesUpTo (tapes : List Tape) (rest all : List Outlet) : Type 0 where
-  pub parts : tapes ++ map (λ (outlet : Outlet). outlet.tape) rest ≡ map (λ (outlet : Outlet). outlet.tape) all
+-- the traces so far, with those of the links to come, are those of all
+pub record AreTracesUpTo (traces : List Trace) (rest all : List Outlet) : Type 0 where
+  pub parts : traces ++ map (λ (outlet : Outlet). outlet.trace) rest ≡ map (λ (outlet : Outlet). outlet.trace) all

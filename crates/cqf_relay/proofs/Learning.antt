@@ -249,12 +249,12 @@ fits_learned l known (row ∷ rows) before after learn come room fits =
 
 -- what stays of a link when it learns rows
 pub record HasLearned (rows : List Row) (before after : Outlet) : Type 0 where
-  pub leads : LearnsAll before.tape.link rows before.leads after.leads
+  pub leads : LearnsAll before.trace.link rows before.leads after.leads
   pub wire : after.wire ≡ before.wire
   pub sent : after.sent ≡ before.sent
   pub told : after.told ≡ before.told
   pub pending : after.pending ≡ before.pending
-  pub tape : after.tape ≡ before.tape
+  pub trace : after.trace ≡ before.trace
 
 -- there are as many links as before
 pub count_learned : (rows : List Row) (before after : List Outlet) → LearnEach rows before after → length after ≡ length before
@@ -273,7 +273,7 @@ pub each_learned : (rows : List Row) (before after : List Outlet) → LearnEach 
 each_learned [] before after learn place learned is = record {
   outlet = learned;
   was = ap (λ (all : List Outlet). slice_get all place) (sym learn) ∙ is;
-  has = record { leads = refl; wire = refl; sent = refl; told = refl; pending = refl; tape = refl };
+  has = record { leads = refl; wire = refl; sent = refl; told = refl; pending = refl; trace = refl };
 }
 each_learned (row ∷ rows) before after learn place learned is =
     let mid = each_learned rows learn.0 after learn.2 place learned is in
@@ -288,13 +288,13 @@ each_learned (row ∷ rows) before after learn place learned is =
         leads = (
           mid.outlet.leads,
           one.leads,
-          subst (λ (l : ℕ). LearnsAll l rows mid.outlet.leads learned.leads) (ap (λ tape. tape.link) one.tape) mid.has.leads,
+          subst (λ (l : ℕ). LearnsAll l rows mid.outlet.leads learned.leads) (ap (λ trace. trace.link) one.trace) mid.has.leads,
         );
         wire = mid.has.wire ∙ one.wire;
         sent = mid.has.sent ∙ one.sent;
         told = mid.has.told ∙ one.told;
         pending = mid.has.pending ∙ one.pending;
-        tape = mid.has.tape ∙ one.tape;
+        trace = mid.has.trace ∙ one.trace;
       };
     }
 

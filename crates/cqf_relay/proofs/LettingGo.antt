@@ -18,7 +18,7 @@ use Rattle.cqf_relay.specs.declared.inlet.Inlet.{Inlet}
 use Rattle.cqf_relay.specs.declared.log.ArrivedFrame.{ArrivedFrame}
 use Rattle.cqf_relay.specs.declared.outlet.Outlet.{Outlet}
 use Rattle.cqf_relay.specs.declared.relay.Relay.{Relay}
-use Rattle.cqf_relay.specs.Stretches.{Sendings}
+use Rattle.cqf_relay.specs.Segments.{Sendings}
 use Rattle.cqf_relay.specs.Logs.{KeepsFrom, is_in}
 use Rattle.cqf_relay.specs.Offering.{CountsUpto}
 use Rattle.cqf_relay.specs.Sending.{IsTidy}
@@ -156,8 +156,8 @@ relay_lets_go d come sends least before after go stands =
       inlets = all_let_go come least stands.least new before.inlets.items after.inlets.items least_in old_in go.inlets stands.inlets;
       edge = subst (λ (bridge : ℕ). IsEdgeOf d bridge come new after.edge) (sym go.number)
           (edge_lets_go d before.number come least stands.least new before.edge after.edge least_in old_in go.edge_number go.used go.log stands.edge);
-      outlets = subst (λ (bridge : ℕ). All (λ (outlet : Outlet). IsOutletOf d bridge come (sends outlet.tape.link) outlet) after.outlets.items) (sym go.number)
-          (subst (λ (outlets : Vec Outlet Global). All (λ (outlet : Outlet). IsOutletOf d before.number come (sends outlet.tape.link) outlet) outlets.items)
+      outlets = subst (λ (bridge : ℕ). All (λ (outlet : Outlet). IsOutletOf d bridge come (sends outlet.trace.link) outlet) after.outlets.items) (sym go.number)
+          (subst (λ (outlets : Vec Outlet Global). All (λ (outlet : Outlet). IsOutletOf d before.number come (sends outlet.trace.link) outlet) outlets.items)
           (sym go.outlets) stands.outlets);
     }
   where

@@ -9,5 +9,5 @@ mod Offers
 mod Sends
 pub mod Sources
 mod TableTaken
-mod TakenStretches
+mod TakenSegments
 mod Tidy

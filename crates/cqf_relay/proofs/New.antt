@@ -19,7 +19,7 @@ use Rattle.cqf_relay.specs.declared.log.ArrivedFrame.{ArrivedFrame}
 use Rattle.cqf_relay.specs.declared.outlet.Outlet.{Outlet}
 use Rattle.cqf_relay.specs.declared.relay.Relay.{Relay}
 use Rattle.cqf_relay.specs.declared.wire.Wire.{Wire}
-use Rattle.cqf_relay.specs.Stretches.{batch_at, moving_in}
+use Rattle.cqf_relay.specs.Segments.{batch_at, moving_in}
 use Rattle.cqf_relay.specs.Leading.{by_at}
 use Rattle.cqf_relay.specs.Logs.{cycle_of_came, is_in}
 use Rattle.cqf_relay.specs.Offering.{CountsUpto}
@@ -142,14 +142,14 @@ knows_none l outlet no_rows no_needs = record {
 -- a link that has sent nothing
 new_outlet_stands : (d : Domain) (bridge : ℕ) (outlet : Outlet) → IsNewOutletOf d outlet → IsOutletOf d bridge nothing_yet [] outlet
 new_outlet_stands d bridge outlet is = record {
-  wire = is.new.wire ∙ sym (wire_of_link d outlet.tape.link is.link is.is_link);
-  knows = knows_none outlet.tape.link outlet is.new.no_rows is.new.no_needs;
+  wire = is.new.wire ∙ sym (wire_of_link d outlet.trace.link is.link is.is_link);
+  knows = knows_none outlet.trace.link outlet is.new.no_rows is.new.no_needs;
   as_far = is.new.sent;
   handed = omega (arith, is.new.told, is.new.sent);
   pends = λ _.
       let none : outlet.sent - outlet.told ≡ 0 = omega (arith, is.new.told, is.new.sent) in
       is.new.pending
-      ∙ sym (ap (each_below (λ k. map (moving_in d outlet.tape.link outlet.pending.base (outlet.told + k)) (batch_at [] (outlet.told + k)))) none);
+      ∙ sym (ap (each_below (λ k. map (moving_in d outlet.trace.link outlet.pending.base (outlet.told + k)) (batch_at [] (outlet.told + k)))) none);
   counts = λ _ cycle _ early _. absurd (omega (arith, early, is.new.sent));
   marked = is.new.starts;
   no_background = is.new.background;

@@ -7,8 +7,8 @@ use Rattle.std.proofs.lemmas.List.{append-nil, map-append, take_all, take_more}
 use Rattle.cqf_model.specs.declared.frames.Sent.{Sent}
 use Rattle.cqf_units.specs.Timing.{ending_of, slot_of, time_of}
 use Rattle.cqf_units.proofs.Times.{slot_joins}
-use Rattle.cqf_tape.specs.declared.tape.Mark.{Mark}
-use Rattle.cqf_tape.specs.Tapes.{mark_of_sent}
+use Rattle.cqf_trace.specs.declared.trace.Mark.{Mark}
+use Rattle.cqf_trace.specs.Traces.{mark_of_sent}
 use Rattle.cqf_relay.specs.declared.inlet.Inlet.{Inlet}
 use Rattle.cqf_relay.specs.declared.leads.Leads.{Leads}
 use Rattle.cqf_relay.specs.declared.log.ArrivedFrame.{ArrivedFrame}
@@ -64,7 +64,7 @@ pub adds_nothing : (cycle : ℕ) (outlet : Outlet) → Adds cycle [] outlet outl
 adds_nothing cycle outlet = record {
   same = same_link outlet;
   told = refl;
-  marked = sym (append-nil outlet.tape.starts.items);
+  marked = sym (append-nil outlet.trace.starts.items);
   base = λ onward. refl;
   pends = λ onward. sym (append-nil outlet.pending.frames.items);
   ends = λ ends. refl;
@@ -115,8 +115,8 @@ module _ (cycle : ℕ) (s t : List Sent) (a b e : Outlet) (one : Adds cycle s a 
     told = two.told ∙ one.told;
     marked = two.marked
         ∙ ap (λ (xs : List Mark). xs ++ map mark_of_sent t) one.marked
-        ∙ append_assoc a.tape.starts.items (map mark_of_sent s) (map mark_of_sent t)
-        ∙ ap (λ (xs : List Mark). a.tape.starts.items ++ xs) (sym (map-append mark_of_sent s t));
+        ∙ append_assoc a.trace.starts.items (map mark_of_sent s) (map mark_of_sent t)
+        ∙ ap (λ (xs : List Mark). a.trace.starts.items ++ xs) (sym (map-append mark_of_sent s t));
     base = λ onward.
         base_between onward
         ∙ base_stays a.pending.frames.items a.pending.base cycle s t b.pending.base (moving_on a.wire b.pending.base cycle) (one.base onward);
@@ -190,7 +190,7 @@ whole_from_cycle begins offset octets octet_time delay = numbers (time_of (octet
     numbers : (sent : ℕ) → offset + (sent + delay) ≡ begins + offset + sent + delay - begins
     numbers sent = omega arith
 
--- a frame on the tape, and on its way
+-- a frame on the trace, and on its way
 abbrev pub mark_at : ArrivedFrame → ℕ → Mark
 mark_at came at = record { start = record { 0 = at }; frame = came.frame; octets = came.octets }
 
@@ -199,11 +199,11 @@ moving_at came at after = record { at = at; frame = came.frame; row = came.row; 
 
 module _ (cycle offset : ℕ) (came : ArrivedFrame) (before after : Outlet) (wire : after.wire ≡ before.wire) (leads : after.leads ≡ before.leads)
     (sent : after.sent ≡ before.sent) (told : after.told ≡ before.told) where
-  -- a frame that has room is on the tape, and is to be handed on if its link ends in another bridge
+  -- a frame that has room is on the trace, and is to be handed on if its link ends in another bridge
   pub sends_one : (begins time taken : ℕ) → begins ≡ cycle * before.wire.cycle_time → time ≡ time_on before.wire came.octets →
       taken ≡ slot_of came.octets before.wire.octet_time → has_room_on before.wire offset came.octets ≡ true →
-      before.wire.cycle_time < 2 ^ 32 → before.wire.octet_time < 2 ^ 32 → after.tape.link ≡ before.tape.link → after.tape.background.items ≡ before.tape.background.items →
-      after.tape.starts.items ≡ before.tape.starts.items ++ mark_at came (begins + offset) ∷ [] →
+      before.wire.cycle_time < 2 ^ 32 → before.wire.octet_time < 2 ^ 32 → after.trace.link ≡ before.trace.link → after.trace.background.items ≡ before.trace.background.items →
+      after.trace.starts.items ≡ before.trace.starts.items ++ mark_at came (begins + offset) ∷ [] →
       (before.wire.onward ≡ true → Hands cycle (moving_at came (offset + time) 0) before.pending after.pending) →
       (before.wire.onward ≡ false → after.pending ≡ before.pending) → SendsOne cycle offset came before after (offset + taken)
   sends_one begins time taken begins_is time_is taken_is room long few link background marked handed left =
@@ -222,7 +222,7 @@ module _ (cycle offset : ℕ) (came : ArrivedFrame) (before after : Outlet) (wir
         adds = subst (λ (xs : List Sent). Adds cycle xs before after) is (record {
           same = record { wire = wire; leads = leads; link = link; background = background };
           told = told;
-          marked = marked ∙ ap (λ (n : ℕ). before.tape.starts.items ++ mark_at came (n + offset) ∷ []) begins_is;
+          marked = marked ∙ ap (λ (n : ℕ). before.trace.starts.items ++ mark_at came (n + offset) ∷ []) begins_is;
           base = λ onward. (handed onward).base;
           pends = moves;
           ends = left;

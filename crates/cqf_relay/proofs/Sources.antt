@@ -29,13 +29,13 @@ use Rattle.cqf_relay.specs.declared.leads.By.TheVariants.{Nothing, Edge, Link}
 use Rattle.cqf_relay.specs.declared.leads.Leads.{Leads}
 use Rattle.cqf_relay.specs.declared.log.ArrivedFrame.{ArrivedFrame}
 use Rattle.cqf_relay.specs.declared.log.SourceLog.{SourceLog}
-use Rattle.cqf_relay.specs.declared.moving.Stretch.{Stretch}
+use Rattle.cqf_relay.specs.declared.moving.Segment.{Segment}
 use Rattle.cqf_relay.specs.declared.queue.Queued.{Queued}
-use Rattle.cqf_relay.specs.Stretches.{IsNextStretch, IsStretchOf, batch_at, came_in, frames_of, moving_in}
+use Rattle.cqf_relay.specs.Segments.{IsNextSegment, IsSegmentOf, batch_at, came_in, frames_of, moving_in}
 use Rattle.cqf_relay.specs.Leading.{LearnsRow, by_at, is_link, is_some, same_by}
-use Rattle.cqf_relay.specs.Logs.{ByCycle, KeepsFrom, came_by_stretch, cycle_of_came, is_in}
+use Rattle.cqf_relay.specs.Logs.{ByCycle, KeepsFrom, came_by_segment, cycle_of_came, is_in}
 use Rattle.cqf_relay.specs.Queues.{AreByCycle, AreLeads, goes_from, queue_of, queued, queued_by}
-use Rattle.cqf_relay.specs.Standing.{Come, IsInletOf, MayHaveCome, with_stretch}
+use Rattle.cqf_relay.specs.Standing.{Come, IsInletOf, MayHaveCome, with_segment}
 
 module _ {X : Type 0} where
   -- if all elements before and after a section fail a test, and all in it pass, the test keeps the section
@@ -246,130 +246,130 @@ pairs_alike : {X : Type 0} (key : X → ℕ) (k : ℕ) (xs : List X) → ((x : X
 pairs_alike key k xs same i j d l within =
     omega (arith, same (get_or xs i d) (Contains-get_or xs i d (omega (arith, l, within))), same (get_or xs j d) (Contains-get_or xs j d within))
 
-module _ (d : Domain) (m : ℕ) (sends : List (List Sent)) (begin : ℕ) (stretch : Stretch) (so : IsStretchOf d m sends begin stretch) (few : stretch.upto ≤ 4294967295) where
+module _ (d : Domain) (m : ℕ) (sends : List (List Sent)) (begin : ℕ) (segment : Segment) (so : IsSegmentOf d m sends begin segment) (few : segment.upto ≤ 4294967295) where
   -- what a link sent in the cycle of a number after the first, as it arrives
   abbrev batch_of : ℕ → List ArrivedFrame
   batch_of k = map (came_in d m (begin + k)) (batch_at sends (begin + k))
 
-  -- a frame of the stretch arrives as the link sent it
-  comes_as_sent : (k : ℕ) (sent : Sent) → stretch.from ≤ k → k < stretch.upto → came_by_stretch stretch.from (moving_in d m stretch.from k sent) ≡ came_in d m k sent
+  -- a frame of the segment arrives as the link sent it
+  comes_as_sent : (k : ℕ) (sent : Sent) → segment.from ≤ k → k < segment.upto → came_by_segment segment.from (moving_in d m segment.from k sent) ≡ came_in d m k sent
   comes_as_sent k sent counted before =
-      let same : min (stretch.from + (k - stretch.from)) 4294967295 ≡ k = omega (arith, counted, before, few) in
+      let same : min (segment.from + (k - segment.from)) 4294967295 ≡ k = omega (arith, counted, before, few) in
       let of_cycle : ℕ → ArrivedFrame = λ n.
       record { cycle = n; at = whole_at d m sent - k * d.cycle_time; frame = sent.frame; row = sent.stream; octets = sent.octets } in
       ap of_cycle same
 
   -- and so do those of a cycle
-  batch_comes : (k : ℕ) → begin ≤ k → k < stretch.upto →
-      map (came_by_stretch stretch.from) (map (moving_in d m stretch.from k) (batch_at sends k)) ≡ map (came_in d m k) (batch_at sends k)
+  batch_comes : (k : ℕ) → begin ≤ k → k < segment.upto →
+      map (came_by_segment segment.from) (map (moving_in d m segment.from k) (batch_at sends k)) ≡ map (came_in d m k) (batch_at sends k)
   batch_comes k from before = each_comes (batch_at sends k) (so.counts k from before)
     where
       -- frames arrive as they were sent if their cycle is counted
-      each_comes : (batch : List Sent) → ((batch ≡ [] → ⊥) → stretch.from ≤ k) →
-          map (came_by_stretch stretch.from) (map (moving_in d m stretch.from k) batch) ≡ map (came_in d m k) batch
+      each_comes : (batch : List Sent) → ((batch ≡ [] → ⊥) → segment.from ≤ k) →
+          map (came_by_segment segment.from) (map (moving_in d m segment.from k) batch) ≡ map (came_in d m k) batch
       each_comes [] counts = refl
       each_comes (x ∷ xs) counts =
-          map-map (came_by_stretch stretch.from) (moving_in d m stretch.from k) (x ∷ xs)
+          map-map (came_by_segment segment.from) (moving_in d m segment.from k) (x ∷ xs)
           ∙ (λ i. map (λ (sent : Sent). comes_as_sent k sent (counts (λ e. cc)) before i) (x ∷ xs))
 
-  -- a stretch's frames are what the link sent, cycle by cycle
-  pub frames_come : frames_of stretch ≡ each_below (λ k. map (came_in d m (begin + k)) (batch_at sends (begin + k))) (stretch.upto - begin)
+  -- a segment's frames are what the link sent, cycle by cycle
+  pub frames_come : frames_of segment ≡ each_below (λ k. map (came_in d m (begin + k)) (batch_at sends (begin + k))) (segment.upto - begin)
   frames_come =
-      ap (map (came_by_stretch stretch.from)) so.carries
-      ∙ map_below (came_by_stretch stretch.from) (λ k. map (moving_in d m stretch.from (begin + k)) (batch_at sends (begin + k))) (stretch.upto - begin)
-      ∙ same_below (λ k. map (came_by_stretch stretch.from) (map (moving_in d m stretch.from (begin + k)) (batch_at sends (begin + k))))
-      (λ k. map (came_in d m (begin + k)) (batch_at sends (begin + k))) (stretch.upto - begin)
+      ap (map (came_by_segment segment.from)) so.carries
+      ∙ map_below (came_by_segment segment.from) (λ k. map (moving_in d m segment.from (begin + k)) (batch_at sends (begin + k))) (segment.upto - begin)
+      ∙ same_below (λ k. map (came_by_segment segment.from) (map (moving_in d m segment.from (begin + k)) (batch_at sends (begin + k))))
+      (λ k. map (came_in d m (begin + k)) (batch_at sends (begin + k))) (segment.upto - begin)
       (λ k l. batch_comes (begin + k) (omega arith) (omega (arith, l)))
 
   -- what was sent in a cycle arrives in it
   cycle_of_sent : (k : ℕ) (came : ArrivedFrame) → Contains (map (came_in d m k) (batch_at sends k)) came → came.cycle ≡ k
   cycle_of_sent k came h = sym (ap cycle_of_came (contains_from_map (came_in d m k) (batch_at sends k) came h).2)
 
-  -- in each cycle that a stretch carries, its frames are what the link sent in it
-  pub stretch_in_cycle : (cycle : ℕ) → begin ≤ cycle → cycle < stretch.upto → filter (is_in cycle) (frames_of stretch) ≡ map (came_in d m cycle) (batch_at sends cycle)
-  stretch_in_cycle cycle from before =
+  -- in each cycle that a segment carries, its frames are what the link sent in it
+  pub segment_in_cycle : (cycle : ℕ) → begin ≤ cycle → cycle < segment.upto → filter (is_in cycle) (frames_of segment) ≡ map (came_in d m cycle) (batch_at sends cycle)
+  segment_in_cycle cycle from before =
       let at : begin + (cycle - begin) ≡ cycle = omega (arith, from) in
       ap (filter (is_in cycle)) frames_come
-      ∙ filter_one (is_in cycle) (λ k. map (came_in d m (begin + k)) (batch_at sends (begin + k))) (stretch.upto - begin) (cycle - begin)
+      ∙ filter_one (is_in cycle) (λ k. map (came_in d m (begin + k)) (batch_at sends (begin + k))) (segment.upto - begin) (cycle - begin)
       (omega (arith, from, before))
       (λ j came differ h. ne_eqb came.cycle cycle (λ e. differ (omega (arith, e, from, cycle_of_sent (begin + j) came h))))
       ∙ ap (λ (k : ℕ). filter (is_in cycle) (map (came_in d m k) (batch_at sends k))) at
       ∙ filter_each (is_in cycle) (map (came_in d m cycle) (batch_at sends cycle)) (λ came h. eq-eqb came.cycle cycle (cycle_of_sent cycle came h))
 
   -- each of its frames is of a cycle that it carries
-  pub stretch_within : (came : ArrivedFrame) → Contains (frames_of stretch) came → (begin ≤ came.cycle) × (came.cycle < stretch.upto)
-  stretch_within came h =
-      let r = contains_from_below batch_of (stretch.upto - begin) came (subst (λ (xs : List ArrivedFrame). Contains xs came) frames_come h) in
+  pub segment_within : (came : ArrivedFrame) → Contains (frames_of segment) came → (begin ≤ came.cycle) × (came.cycle < segment.upto)
+  segment_within came h =
+      let r = contains_from_below batch_of (segment.upto - begin) came (subst (λ (xs : List ArrivedFrame). Contains xs came) frames_come h) in
       let at : came.cycle ≡ begin + r.0 = cycle_of_sent (begin + r.0) came r.2 in
       (omega (arith, at), omega (arith, at, r.1))
 
   -- so it has none of other cycles
-  pub stretch_not_in_cycle : (cycle : ℕ) → (cycle < begin) ⊎ (stretch.upto ≤ cycle) → filter (is_in cycle) (frames_of stretch) ≡ []
-  stretch_not_in_cycle cycle outside = filter_none (is_in cycle) (frames_of stretch) (λ came h. ne_eqb came.cycle cycle (other came h))
+  pub segment_not_in_cycle : (cycle : ℕ) → (cycle < begin) ⊎ (segment.upto ≤ cycle) → filter (is_in cycle) (frames_of segment) ≡ []
+  segment_not_in_cycle cycle outside = filter_none (is_in cycle) (frames_of segment) (λ came h. ne_eqb came.cycle cycle (other came h))
     where
       -- none of its frames is of the cycle
-      other : (came : ArrivedFrame) → Contains (frames_of stretch) came → came.cycle ≡ cycle → ⊥
+      other : (came : ArrivedFrame) → Contains (frames_of segment) came → came.cycle ≡ cycle → ⊥
       other came h e =
-          let within = stretch_within came h in
+          let within = segment_within came h in
           elim outside [
             | inl before ↦ omega (arith, e, before, within.0)
             | inr behind ↦ omega (arith, e, behind, within.1)
           ]
 
   -- and it may come next, after what arrived before its first cycle
-  pub stretch_is_next : IsNextStretch begin stretch
-  stretch_is_next =
+  pub segment_is_next : IsNextSegment begin segment
+  segment_is_next =
       record {
         behind = so.behind;
         by_cycle =
-            subst ByCycle (sym frames_come) (rises cycle_of_came (each_below batch_of (stretch.upto - begin))
-            (pairs_below (λ (x y : ArrivedFrame). x.cycle ≤ y.cycle) batch_of (stretch.upto - begin)
+            subst ByCycle (sym frames_come) (rises cycle_of_came (each_below batch_of (segment.upto - begin))
+            (pairs_below (λ (x y : ArrivedFrame). x.cycle ≤ y.cycle) batch_of (segment.upto - begin)
             (λ k l. pairs_alike cycle_of_came (begin + k) (batch_of k) (cycle_of_sent (begin + k)))
             (λ j k x y l below hx hy. omega (arith, l, cycle_of_sent (begin + j) x hx, cycle_of_sent (begin + k) y hy))));
-        within = all_from_members (λ (came : ArrivedFrame). (begin ≤ came.cycle) × (came.cycle < stretch.upto)) (frames_of stretch) stretch_within;
+        within = all_from_members (λ (came : ArrivedFrame). (begin ≤ came.cycle) × (came.cycle < segment.upto)) (frames_of segment) segment_within;
       }
 
--- what may have arrived, followed by a stretch that may come next, may have arrived
-pub stretch_may_come : (begin : ℕ) (brought : List ArrivedFrame) (stretch : Stretch) → MayHaveCome begin brought → IsNextStretch begin stretch →
-    MayHaveCome stretch.upto (brought ++ frames_of stretch)
-stretch_may_come begin brought stretch may next =
+-- what may have arrived, followed by a segment that may come next, may have arrived
+pub segment_may_come : (begin : ℕ) (brought : List ArrivedFrame) (segment : Segment) → MayHaveCome begin brought → IsNextSegment begin segment →
+    MayHaveCome segment.upto (brought ++ frames_of segment)
+segment_may_come begin brought segment may next =
     record {
-      by_cycle = behind_by_cycle begin brought (frames_of stretch) may.by_cycle may.within next.by_cycle (λ k z inside. (next.within k z inside).0);
+      by_cycle = behind_by_cycle begin brought (frames_of segment) may.by_cycle may.within next.by_cycle (λ k z inside. (next.within k z inside).0);
       within =
-          All-append (λ (came : ArrivedFrame). came.cycle < stretch.upto) brought (frames_of stretch) (λ k z inside. omega (arith, may.within k z inside, next.behind))
+          All-append (λ (came : ArrivedFrame). came.cycle < segment.upto) brought (frames_of segment) (λ k z inside. omega (arith, may.within k z inside, next.behind))
           (λ k z inside. (next.within k z inside).1);
     }
 
--- an inlet that takes a stretch that may come next has what its link brought with it
-pub inlet_takes : (come : Come) (least : ℕ) (before after : Inlet) (stretch : Stretch) → IsInletOf come least before → IsNextStretch before.upto stretch →
-    after.link ≡ before.link → after.upto ≡ stretch.upto → after.log.frames.items ≡ before.log.frames.items ++ frames_of stretch →
-    IsInletOf (with_stretch come before.link stretch) least after
-inlet_takes come least before after stretch is next link upto log =
+-- an inlet that takes a segment that may come next has what its link brought with it
+pub inlet_takes : (come : Come) (least : ℕ) (before after : Inlet) (segment : Segment) → IsInletOf come least before → IsNextSegment before.upto segment →
+    after.link ≡ before.link → after.upto ≡ segment.upto → after.log.frames.items ≡ before.log.frames.items ++ frames_of segment →
+    IsInletOf (with_segment come before.link segment) least after
+inlet_takes come least before after segment is next link upto log =
     let m = before.link in
     let own : (after.link == m) ≡ true = eq-eqb after.link m link in
-    let more : (with_stretch come m stretch).brought after.link ≡ come.brought m ++ frames_of stretch =
-    cond-true (after.link == m) (come.brought after.link ++ frames_of stretch) (come.brought after.link) own
-    ∙ ap (λ (k : ℕ). come.brought k ++ frames_of stretch) link in
-    let later : (with_stretch come m stretch).upto after.link ≡ stretch.upto = cond-true (after.link == m) stretch.upto (come.upto after.link) own in
-    let next_of : IsNextStretch (come.upto m) stretch = subst (λ (n : ℕ). IsNextStretch n stretch) is.upto next in
-    let may : MayHaveCome stretch.upto ((with_stretch come m stretch).brought after.link) =
-    subst (MayHaveCome stretch.upto) (sym more) (stretch_may_come (come.upto m) (come.brought m) stretch is.may next_of) in
-    let held : MayHaveCome stretch.upto after.log.frames.items =
-    subst (MayHaveCome stretch.upto) (sym log) (stretch_may_come before.upto before.log.frames.items stretch is.held next) in
+    let more : (with_segment come m segment).brought after.link ≡ come.brought m ++ frames_of segment =
+    cond-true (after.link == m) (come.brought after.link ++ frames_of segment) (come.brought after.link) own
+    ∙ ap (λ (k : ℕ). come.brought k ++ frames_of segment) link in
+    let later : (with_segment come m segment).upto after.link ≡ segment.upto = cond-true (after.link == m) segment.upto (come.upto after.link) own in
+    let next_of : IsNextSegment (come.upto m) segment = subst (λ (n : ℕ). IsNextSegment n segment) is.upto next in
+    let may : MayHaveCome segment.upto ((with_segment come m segment).brought after.link) =
+    subst (MayHaveCome segment.upto) (sym more) (segment_may_come (come.upto m) (come.brought m) segment is.may next_of) in
+    let held : MayHaveCome segment.upto after.log.frames.items =
+    subst (MayHaveCome segment.upto) (sym log) (segment_may_come before.upto before.log.frames.items segment is.held next) in
     record {
       upto = upto ∙ sym later;
-      may = subst (λ (n : ℕ). MayHaveCome n ((with_stretch come m stretch).brought after.link)) (sym later) may;
+      may = subst (λ (n : ℕ). MayHaveCome n ((with_segment come m segment).brought after.link)) (sym later) may;
       held = subst (λ (n : ℕ). MayHaveCome n after.log.frames.items) (sym upto) held;
       holds = λ cycle from.
           ap (filter (is_in cycle)) log
-          ∙ filter-append (is_in cycle) before.log.frames.items (frames_of stretch)
-          ∙ ap (λ (xs : List ArrivedFrame). xs ++ filter (is_in cycle) (frames_of stretch)) (is.holds cycle from)
-          ∙ sym (ap (filter (is_in cycle)) more ∙ filter-append (is_in cycle) (come.brought m) (frames_of stretch));
+          ∙ filter-append (is_in cycle) before.log.frames.items (frames_of segment)
+          ∙ ap (λ (xs : List ArrivedFrame). xs ++ filter (is_in cycle) (frames_of segment)) (is.holds cycle from)
+          ∙ sym (ap (filter (is_in cycle)) more ∙ filter-append (is_in cycle) (come.brought m) (frames_of segment));
     }
 
--- so one that takes a stretch of what its link sent after what arrived before has what its link brought with it
-pub inlet_takes_sent : (d : Domain) (sends : List (List Sent)) (come : Come) (least : ℕ) (before after : Inlet) (stretch : Stretch) → IsInletOf come least before →
-    IsStretchOf d before.link sends before.upto stretch → stretch.upto ≤ 4294967295 → after.link ≡ before.link → after.upto ≡ stretch.upto →
-    after.log.frames.items ≡ before.log.frames.items ++ frames_of stretch → IsInletOf (with_stretch come before.link stretch) least after
-inlet_takes_sent d sends come least before after stretch is so few link upto log =
-    inlet_takes come least before after stretch is (stretch_is_next d before.link sends before.upto stretch so few) link upto log
+-- so one that takes a segment of what its link sent after what arrived before has what its link brought with it
+pub inlet_takes_sent : (d : Domain) (sends : List (List Sent)) (come : Come) (least : ℕ) (before after : Inlet) (segment : Segment) → IsInletOf come least before →
+    IsSegmentOf d before.link sends before.upto segment → segment.upto ≤ 4294967295 → after.link ≡ before.link → after.upto ≡ segment.upto →
+    after.log.frames.items ≡ before.log.frames.items ++ frames_of segment → IsInletOf (with_segment come before.link segment) least after
+inlet_takes_sent d sends come least before after segment is so few link upto log =
+    inlet_takes come least before after segment is (segment_is_next d before.link sends before.upto segment so few) link upto log

@@ -23,7 +23,7 @@ use Rattle.cqf_relay.specs.declared.outlet.Outlet.{Outlet}
 use Rattle.cqf_relay.specs.declared.pending.Pending.{Pending}
 use Rattle.cqf_relay.specs.declared.queue.Queued.{Queued}
 use Rattle.cqf_relay.specs.declared.relay.Relay.{Relay}
-use Rattle.cqf_relay.specs.Stretches.{Sendings, batch_at, moving_between}
+use Rattle.cqf_relay.specs.Segments.{Sendings, batch_at, moving_between}
 use Rattle.cqf_relay.specs.Leading.{leads}
 use Rattle.cqf_relay.specs.Logs.{cycle_of_came, is_in}
 use Rattle.cqf_relay.specs.Offering.{CountsUpto, Going, TakesOffers, came_of_going, covered_behind, dropped_behind}
@@ -241,7 +241,7 @@ kept_learning f kept (row ∷ rows) before after learn =
 -- the links stay when they learn
 links_learned : (rows : List Row) (before after : List Outlet) → LearnEach rows before after → map link_out after ≡ map link_out before
 links_learned rows before after learn =
-    kept_learning link_out (λ row outlet learned learns. ap (λ tape. tape.link) learns.tape) rows before after learn
+    kept_learning link_out (λ row outlet learned learns. ap (λ trace. trace.link) learns.trace) rows before after learn
 
 -- and so do their wires
 wires_learned : (rows : List Row) (before after : List Outlet) → LearnEach rows before after → map wire_out after ≡ map wire_out before
@@ -294,13 +294,13 @@ module _ (d : Domain) (bridge : ℕ) (come : Come) (table : List Row) (offers : 
       length before.leads.rows.items ≤ known → HasLearned (new_rows known table) before after →
       IsOutletOf d bridge (with_table come table offers) sends after
   outlet_with sends before after stood room has =
-      let link : after.tape.link ≡ before.tape.link = ap (λ tape. tape.link) has.tape in
+      let link : after.trace.link ≡ before.trace.link = ap (λ trace. trace.link) has.trace in
       let onward : after.wire.onward ≡ before.wire.onward = ap (λ wire. wire.onward) has.wire in
       let base : after.pending.base ≡ before.pending.base = ap (λ (pending : Pending). pending.base) has.pending in
       record {
         wire = has.wire ∙ stood.wire ∙ ap (wire_on d) (sym link);
         knows = subst (λ (l : ℕ). KnowsRows l (come.tables ++ table ∷ []) after.leads) (sym link)
-            (knows_with d come.tables table known may below last before.tape.link before.leads after.leads stood.knows room has.leads);
+            (knows_with d come.tables table known may below last before.trace.link before.leads after.leads stood.knows room has.leads);
         as_far = has.sent ∙ stood.as_far;
         handed = omega (arith, has.sent, has.told, stood.handed);
         pends = λ is.
@@ -309,10 +309,10 @@ module _ (d : Domain) (bridge : ℕ) (come : Come) (table : List Row) (offers : 
         counts = λ is cycle begun early some.
             let was = stood.counts (sym onward ∙ is) cycle (omega (arith, has.told, begun)) (omega (arith, has.sent, early)) some in
             (omega (arith, base, was.0), omega (arith, base, was.1));
-        marked = ap (λ tape. tape.starts.items) has.tape ∙ stood.marked;
-        no_background = ap (λ tape. tape.background.items) has.tape ∙ stood.no_background;
+        marked = ap (λ trace. trace.starts.items) has.trace ∙ stood.marked;
+        no_background = ap (λ trace. trace.background.items) has.trace ∙ stood.no_background;
         gone = subst (λ (l : ℕ). HasGoneOnBy d bridge (with_table come table offers) l sends) (sym link)
-            (gone_with d bridge before.tape.link come table offers sends long stood.gone);
+            (gone_with d bridge before.trace.link come table offers sends long stood.gone);
       }
 
   -- a row of all tables with the next one is of the earlier ones, or of the next one
@@ -347,7 +347,7 @@ module _ (d : Domain) (bridge : ℕ) (come : Come) (table : List Row) (offers : 
     ];
     room = all_from_members (λ (outlet : Outlet). length outlet.leads.rows.items ≤ known_behind known (new_rows known table)) after (λ outlet there.
         let was = was_one (new_rows known table) before after learn outlet there in
-        room_learned was.outlet.tape.link known (new_rows known table) was.outlet.leads outlet.leads was.has.leads behind
+        room_learned was.outlet.trace.link known (new_rows known table) was.outlet.leads outlet.leads was.has.leads behind
         (All-contains (λ (it : Outlet). length it.leads.rows.items ≤ known) before was.outlet stood.room was.there));
   }
     where
@@ -399,15 +399,15 @@ module _ (table : List Row) (offers : List Offered) (before learned : Relay) (ed
             (edge_with d before.number stood.least come table offers before.edge edge stood.offers_taken stood.edge
             (subst (λ (cycle : ℕ). TakesOffers d cycle table offers before.edge edge) stood.tables_taken
             (subst (λ (it : Domain). TakesOffers it before.tables table offers before.edge edge) stood.of_domain takes)));
-        outlets = all_from_members (λ (outlet : Outlet). IsOutletOf d learned.number (with_table come table offers) (sends outlet.tape.link) outlet)
+        outlets = all_from_members (λ (outlet : Outlet). IsOutletOf d learned.number (with_table come table offers) (sends outlet.trace.link) outlet)
             learned.outlets.items (λ outlet there.
             let was = was_one new before.outlets.items learned.outlets.items learn.learn outlet there in
-            let link : outlet.tape.link ≡ was.outlet.tape.link = ap (λ tape. tape.link) was.has.tape in
-            subst (λ (bridge : ℕ). IsOutletOf d bridge (with_table come table offers) (sends outlet.tape.link) outlet) (sym learn.number)
+            let link : outlet.trace.link ≡ was.outlet.trace.link = ap (λ trace. trace.link) was.has.trace in
+            subst (λ (bridge : ℕ). IsOutletOf d bridge (with_table come table offers) (sends outlet.trace.link) outlet) (sym learn.number)
             (subst (λ (l : ℕ). IsOutletOf d before.number (with_table come table offers) (sends l) outlet) (sym link)
             (outlet_with d before.number come table offers before.known may stood.offers_taken stood.rows.below stood.rows.last
-            (sends was.outlet.tape.link) was.outlet outlet
-            (All-contains (λ (it : Outlet). IsOutletOf d before.number come (sends it.tape.link) it) before.outlets.items was.outlet stood.outlets was.there)
+            (sends was.outlet.trace.link) was.outlet outlet
+            (All-contains (λ (it : Outlet). IsOutletOf d before.number come (sends it.trace.link) it) before.outlets.items was.outlet stood.outlets was.there)
             (All-contains (λ (it : Outlet). length it.leads.rows.items ≤ before.known) before.outlets.items was.outlet stood.rows.room was.there)
             was.has)));
       }

@@ -7,13 +7,13 @@ use Rattle.cqf_model.specs.declared.frames.Sent.{Sent}
 use Rattle.cqf_relay.specs.declared.inlet.Inlet.{Inlet}
 use Rattle.cqf_relay.specs.declared.log.ArrivedFrame.{ArrivedFrame}
 use Rattle.cqf_relay.specs.declared.log.SourceLog.{SourceLog}
-use Rattle.cqf_relay.specs.declared.moving.Stretch.{Stretch}
+use Rattle.cqf_relay.specs.declared.moving.Segment.{Segment}
 use Rattle.cqf_relay.specs.declared.moving.Moving.{Moving}
 use Rattle.cqf_relay.specs.declared.outlet.Outlet.{Outlet}
 use Rattle.cqf_relay.specs.declared.pending.Pending.{Pending}
 use Rattle.cqf_relay.specs.declared.wire.Wire.{Wire}
-use Rattle.cqf_relay.specs.Logs.{ByCycle, came_by_stretch, cycle_of_came}
-use Rattle.cqf_relay.specs.Sending.{IsTidy, KeepsStretchBack, SendsCycles, SendsMore, SendsOneCycle, TakesPending, base_with, moving_on}
+use Rattle.cqf_relay.specs.Logs.{ByCycle, came_by_segment, cycle_of_came}
+use Rattle.cqf_relay.specs.Sending.{IsTidy, KeepsSegmentBack, SendsCycles, SendsMore, SendsOneCycle, TakesPending, base_with, moving_on}
 
 -- frames of one cycle, appended to others of cycles up to that one, are in order of cycle with them
 by_cycle_behind : (old new : List ArrivedFrame) (cycle : ℕ) → ByCycle old → All (λ (x : ArrivedFrame). x.cycle ≤ cycle) old → All (λ (x : ArrivedFrame). x.cycle ≡ cycle) new →
@@ -59,8 +59,8 @@ coming_cycle base cycle = min (base + min (cycle - base) 65535) last_cycle
 
 -- frames that are to be handed on, of a link that has sent and handed on up to these cycles
 pub record ArePending (told sent base : ℕ) (frames : List Moving) : Type 0 where
-  pub by_cycle : ByCycle (map (came_by_stretch base) frames)
-  pub within : All (λ (came : ArrivedFrame). (told ≤ came.cycle) × (came.cycle < sent)) (map (came_by_stretch base) frames)
+  pub by_cycle : ByCycle (map (came_by_segment base) frames)
+  pub within : All (λ (came : ArrivedFrame). (told ≤ came.cycle) × (came.cycle < sent)) (map (came_by_segment base) frames)
   pub counted : All (λ (moving : Moving). moving.after ≤ 65535) frames
 
 -- what a link sends in its next cycle follows what it is to hand on
@@ -72,16 +72,16 @@ comes_behind told cycle base after early handed before few =
 module _ (told cycle base : ℕ) (frames : List Moving) (wire : Wire) (sents : List Sent) (are : ArePending told cycle base frames) where
   -- so they are pending too
   more_pending : told ≤ coming_cycle base cycle → coming_cycle base cycle < cycle + 1 →
-      All (λ (x : ArrivedFrame). x.cycle ≤ coming_cycle base cycle) (map (came_by_stretch base) frames) →
+      All (λ (x : ArrivedFrame). x.cycle ≤ coming_cycle base cycle) (map (came_by_segment base) frames) →
       ArePending told (cycle + 1) base (frames ++ map (moving_on wire base cycle) sents)
   more_pending handed early below =
-      let old = map (came_by_stretch base) frames in
+      let old = map (came_by_segment base) frames in
       let moving = map (moving_on wire base cycle) sents in
-      let new = map (came_by_stretch base) moving in
-      let parts : map (came_by_stretch base) (frames ++ moving) ≡ old ++ new = map-append (came_by_stretch base) frames moving in
+      let new = map (came_by_segment base) moving in
+      let parts : map (came_by_segment base) (frames ++ moving) ≡ old ++ new = map-append (came_by_segment base) frames moving in
       let same : All (λ (x : ArrivedFrame). x.cycle ≡ coming_cycle base cycle) new =
-      All-map (λ (x : ArrivedFrame). x.cycle ≡ coming_cycle base cycle) (came_by_stretch base) moving
-      (All-map (λ (x : Moving). (came_by_stretch base x).cycle ≡ coming_cycle base cycle) (moving_on wire base cycle) sents (λ k d inside. refl)) in
+      All-map (λ (x : ArrivedFrame). x.cycle ≡ coming_cycle base cycle) (came_by_segment base) moving
+      (All-map (λ (x : Moving). (came_by_segment base x).cycle ≡ coming_cycle base cycle) (moving_on wire base cycle) sents (λ k d inside. refl)) in
       let Within : ArrivedFrame → Type 0 = λ came. (told ≤ came.cycle) × (came.cycle < cycle + 1) in
       let few : All (λ (x : Moving). x.after ≤ 65535) moving =
       All-map (λ (x : Moving). x.after ≤ 65535) (moving_on wire base cycle) sents (λ k d inside. omega arith) in
@@ -112,13 +112,13 @@ pending_stay told cycle base after [] wire (x ∷ sents) handed early is are =
     (All-nil (λ (x : ArrivedFrame). x.cycle ≤ coming_cycle after cycle))
 pending_stay told cycle base after (m ∷ frames) wire sents handed early is are =
     let same : after ≡ base = is ∙ base_of_some m frames base cycle sents in
-    let each = all_of_map (λ (came : ArrivedFrame). (told ≤ came.cycle) × (came.cycle < cycle)) (came_by_stretch base) (m ∷ frames) are.within in
+    let each = all_of_map (λ (came : ArrivedFrame). (told ≤ came.cycle) × (came.cycle < cycle)) (came_by_segment base) (m ∷ frames) are.within in
     let behind = λ (k : ℕ) (d : Moving) (inside : k < length (m ∷ frames)).
     comes_behind told cycle base (get_or (m ∷ frames) k d).after early (each k d inside).0 (each k d inside).1 (are.counted k d inside) in
     let first = behind 0 m (omega arith) in
     subst (λ (n : ℕ). ArePending told (cycle + 1) n ((m ∷ frames) ++ map (moving_on wire n cycle) sents)) (sym same)
     (more_pending told cycle base (m ∷ frames) wire sents are first.1 first.2
-    (All-map (λ (x : ArrivedFrame). x.cycle ≤ coming_cycle base cycle) (came_by_stretch base) (m ∷ frames) (λ k d inside. (behind k d inside).0)))
+    (All-map (λ (x : ArrivedFrame). x.cycle ≤ coming_cycle base cycle) (came_by_segment base) (m ∷ frames) (λ k d inside. (behind k d inside).0)))
   where
     base_of_some : (m : Moving) (frames : List Moving) (base cycle : ℕ) (sents : List Sent) → base_with (m ∷ frames) base cycle sents ≡ base
     base_of_some m frames base cycle [] = refl
@@ -129,7 +129,7 @@ pending_keep : (told cycle base : ℕ) (frames : List Moving) → ArePending tol
 pending_keep told cycle base frames are = record {
   by_cycle = are.by_cycle;
   within = All-weaker (λ (came : ArrivedFrame). (told ≤ came.cycle) × (came.cycle < cycle)) (λ (came : ArrivedFrame). (told ≤ came.cycle) × (came.cycle < cycle + 1))
-      (λ x held. (held.0, omega (arith, held.1))) (map (came_by_stretch base) frames) are.within;
+      (λ x held. (held.0, omega (arith, held.1))) (map (came_by_segment base) frames) are.within;
   counted = are.counted;
 }
 
@@ -180,11 +180,11 @@ pub nothing_tidy : (outlet : Outlet) → outlet.told ≤ outlet.sent → outlet.
 nothing_tidy outlet handed none = record {
   handed = handed;
   counted = subst (All (λ (moving : Moving). moving.after ≤ 65535)) (sym none) (All-nil (λ (moving : Moving). moving.after ≤ 65535));
-  by_cycle = subst (λ (frames : List Moving). ByCycle (map (came_by_stretch outlet.pending.base) frames)) (sym none)
+  by_cycle = subst (λ (frames : List Moving). ByCycle (map (came_by_segment outlet.pending.base) frames)) (sym none)
       (λ i j d before inside. absurd (omega (arith, inside)));
   within = subst
       (λ (frames : List Moving).
-      All (λ (came : ArrivedFrame). (outlet.told ≤ came.cycle) × (came.cycle < outlet.sent)) (map (came_by_stretch outlet.pending.base) frames))
+      All (λ (came : ArrivedFrame). (outlet.told ≤ came.cycle) × (came.cycle < outlet.sent)) (map (came_by_segment outlet.pending.base) frames))
       (sym none) (All-nil (λ (came : ArrivedFrame). (outlet.told ≤ came.cycle) × (came.cycle < outlet.sent)));
 }
 
@@ -192,8 +192,8 @@ nothing_tidy outlet handed none = record {
 pub same_tidy : (before after : Outlet) → after.told ≡ before.told → after.sent ≡ before.sent → after.pending.base ≡ before.pending.base →
     after.pending.frames.items ≡ before.pending.frames.items → IsTidy before → IsTidy after
 same_tidy before after told sent base frames tidy =
-    let comes : map (came_by_stretch after.pending.base) after.pending.frames.items ≡ map (came_by_stretch before.pending.base) before.pending.frames.items =
-    ap (λ (n : ℕ). map (came_by_stretch n) after.pending.frames.items) base ∙ ap (map (came_by_stretch before.pending.base)) frames in
+    let comes : map (came_by_segment after.pending.base) after.pending.frames.items ≡ map (came_by_segment before.pending.base) before.pending.frames.items =
+    ap (λ (n : ℕ). map (came_by_segment n) after.pending.frames.items) base ∙ ap (map (came_by_segment before.pending.base)) frames in
     record {
       handed = omega (arith, told, sent, tidy.handed);
       counted = subst (All (λ (moving : Moving). moving.after ≤ 65535)) (sym frames) tidy.counted;
@@ -202,15 +202,15 @@ same_tidy before after told sent base frames tidy =
           (All-weaker (λ (came : ArrivedFrame). (before.told ≤ came.cycle) × (came.cycle < before.sent))
           (λ (came : ArrivedFrame). (after.told ≤ came.cycle) × (came.cycle < after.sent))
           (λ came held. (omega (arith, told, held.0), omega (arith, sent, held.1)))
-          (map (came_by_stretch before.pending.base) before.pending.frames.items) tidy.within);
+          (map (came_by_segment before.pending.base) before.pending.frames.items) tidy.within);
     }
 
 -- a link that has handed on what it sent is tidy
-pub hands_tidy : (before after : Outlet) (stretch : Stretch) → TakesPending before after stretch → IsTidy after
-hands_tidy before after stretch takes = nothing_tidy after (omega (arith, takes.told, takes.as_far)) takes.none
+pub hands_tidy : (before after : Outlet) (segment : Segment) → TakesPending before after segment → IsTidy after
+hands_tidy before after segment takes = nothing_tidy after (omega (arith, takes.told, takes.as_far)) takes.none
 
 -- and one that takes back what it handed on is tidy if it was so before
-pub back_tidy : (older before after : Outlet) (told : ℕ) (stretch : Stretch) → TakesPending older before stretch → KeepsStretchBack told stretch before after →
+pub back_tidy : (older before after : Outlet) (told : ℕ) (segment : Segment) → TakesPending older before segment → KeepsSegmentBack told segment before after →
     told ≡ older.told → IsTidy older → IsTidy after
-back_tidy older before after told stretch takes keeps by_then =
+back_tidy older before after told segment takes keeps by_then =
     same_tidy older after (keeps.told_by_then ∙ by_then) (keeps.as_far ∙ takes.as_far) (keeps.base ∙ takes.from) (keeps.frames ∙ takes.frames)

@@ -1,4 +1,4 @@
-pub mod Stretches
+pub mod Segments
 pub mod Logs
 pub mod Leading
 pub mod Queues

@@ -21,7 +21,7 @@ pub record KeepsFrom (before : ℕ) (old new : List ArrivedFrame) : Type 0 where
   pub kept : (cycle : ℕ) → before ≤ cycle → filter (is_in cycle) new ≡ filter (is_in cycle) old
   pub no_more : (came : ArrivedFrame) → Contains new came → Contains old came
 
--- the arrival of a frame of a stretch whose first frame is of cycle `from`; cycles are numbered in 32 bits
-abbrev pub came_by_stretch : ℕ → Moving → ArrivedFrame
-came_by_stretch from moving =
+-- the arrival of a frame of a segment whose first frame is of cycle `from`; cycles are numbered in 32 bits
+abbrev pub came_by_segment : ℕ → Moving → ArrivedFrame
+came_by_segment from moving =
     record { cycle = min (from + moving.after) 4294967295; at = moving.at; frame = moving.frame; row = moving.row; octets = moving.octets }

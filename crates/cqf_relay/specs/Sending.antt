@@ -6,19 +6,19 @@ use Rattle.cqf_model.specs.declared.frames.Sent.{Sent}
 use Rattle.cqf_model.specs.declared.topology.Link.{Link}
 use Rattle.cqf_model.specs.declared.topology.Row.{Row}
 use Rattle.cqf_units.specs.Timing.{ending_of, slot_of, ticks_of_octet, time_of}
-use Rattle.cqf_tape.specs.Tapes.{mark_of_sent}
+use Rattle.cqf_trace.specs.Traces.{mark_of_sent}
 use Rattle.cqf_relay.specs.declared.inlet.Inlet.{Inlet}
 use Rattle.cqf_relay.specs.declared.leads.Leads.{Leads}
 use Rattle.cqf_relay.specs.declared.log.ArrivedFrame.{ArrivedFrame}
 use Rattle.cqf_relay.specs.declared.log.SourceLog.{SourceLog}
-use Rattle.cqf_relay.specs.declared.moving.Stretch.{Stretch}
+use Rattle.cqf_relay.specs.declared.moving.Segment.{Segment}
 use Rattle.cqf_relay.specs.declared.moving.Moving.{Moving}
 use Rattle.cqf_relay.specs.declared.outlet.Outlet.{Outlet}
 use Rattle.cqf_relay.specs.declared.pending.Pending.{Pending}
 use Rattle.cqf_relay.specs.declared.queue.Queued.{Queued}
 use Rattle.cqf_relay.specs.declared.wire.Wire.{Wire}
 use Rattle.cqf_relay.specs.Leading.{LearnsRow, by_hops}
-use Rattle.cqf_relay.specs.Logs.{ByCycle, came_by_stretch}
+use Rattle.cqf_relay.specs.Logs.{ByCycle, came_by_segment}
 use Rattle.cqf_relay.specs.Queues.{AreByCycle, AreLeads, key_of_queued, queue_of}
 
 -- the time from a frame's start until it is whole at a link's end, and whether it is whole within the cycle if it starts at an offset
@@ -81,14 +81,14 @@ pub record Hands (cycle : ℕ) (moving : Moving) (before after : Pending) : Type
 pub record IsSameLink (before after : Outlet) : Type 0 where
   pub wire : after.wire ≡ before.wire
   pub leads : after.leads ≡ before.leads
-  pub link : after.tape.link ≡ before.tape.link
-  pub background : after.tape.background.items ≡ before.tape.background.items
+  pub link : after.trace.link ≡ before.trace.link
+  pub background : after.trace.background.items ≡ before.trace.background.items
 
 -- a link has sent frames in a cycle
 pub record Adds (cycle : ℕ) (sents : List Sent) (before after : Outlet) : Type 0 where
   pub same : IsSameLink before after
   pub told : after.told ≡ before.told
-  pub marked : after.tape.starts.items ≡ before.tape.starts.items ++ map mark_of_sent sents
+  pub marked : after.trace.starts.items ≡ before.trace.starts.items ++ map mark_of_sent sents
   pub base : before.wire.onward ≡ true → after.pending.base ≡ base_with before.pending.frames.items before.pending.base cycle sents
   pub pends : before.wire.onward ≡ true →
       after.pending.frames.items ≡ before.pending.frames.items ++ map (moving_on before.wire after.pending.base cycle) sents
@@ -142,9 +142,9 @@ most_of outlet = most_behind outlet.pending.frames.items outlet.sent outlet.pend
 pub record IsTidy (outlet : Outlet) : Type 0 where
   pub handed : outlet.told ≤ outlet.sent
   pub counted : All (λ (moving : Moving). moving.after ≤ 65535) outlet.pending.frames.items
-  pub by_cycle : ByCycle (map (came_by_stretch outlet.pending.base) outlet.pending.frames.items)
+  pub by_cycle : ByCycle (map (came_by_segment outlet.pending.base) outlet.pending.frames.items)
   pub within : All (λ (came : ArrivedFrame). (outlet.told ≤ came.cycle) × (came.cycle < outlet.sent))
-      (map (came_by_stretch outlet.pending.base) outlet.pending.frames.items)
+      (map (came_by_segment outlet.pending.base) outlet.pending.frames.items)
 
 -- a link that has sent nothing
 pub record IsNewOutlet (cycle_time number : ℕ) (link : Link) (onward : Bool) (outlet : Outlet) : Type 0 where
@@ -155,35 +155,35 @@ pub record IsNewOutlet (cycle_time number : ℕ) (link : Link) (onward : Bool) (
   pub sent : outlet.sent ≡ 0
   pub told : outlet.told ≡ 0
   pub pending : outlet.pending.frames.items ≡ []
-  pub link_is : outlet.tape.link ≡ number
-  pub starts : outlet.tape.starts.items ≡ []
-  pub background : outlet.tape.background.items ≡ []
+  pub link_is : outlet.trace.link ≡ number
+  pub starts : outlet.trace.starts.items ≡ []
+  pub background : outlet.trace.background.items ≡ []
 
 -- a link learns a row
 pub record LearnsOf (row : Row) (before after : Outlet) : Type 0 where
-  pub leads : LearnsRow row.no (by_hops before.tape.link row.tree.items) before.leads after.leads
+  pub leads : LearnsRow row.no (by_hops before.trace.link row.tree.items) before.leads after.leads
   pub wire : after.wire ≡ before.wire
   pub sent : after.sent ≡ before.sent
   pub told : after.told ≡ before.told
   pub pending : after.pending ≡ before.pending
-  pub tape : after.tape ≡ before.tape
+  pub trace : after.trace ≡ before.trace
 
--- the pending frames are taken as a stretch
-pub record TakesPending (before after : Outlet) (stretch : Stretch) : Type 0 where
+-- the pending frames are taken as a segment
+pub record TakesPending (before after : Outlet) (segment : Segment) : Type 0 where
   pub same : IsSameLink before after
-  pub tape : after.tape ≡ before.tape
-  pub from : stretch.from ≡ before.pending.base
-  pub upto : stretch.upto ≡ before.sent
-  pub frames : stretch.frames.items ≡ before.pending.frames.items
+  pub trace : after.trace ≡ before.trace
+  pub from : segment.from ≡ before.pending.base
+  pub upto : segment.upto ≡ before.sent
+  pub frames : segment.frames.items ≡ before.pending.frames.items
   pub as_far : after.sent ≡ before.sent
   pub told : after.told ≡ before.sent
   pub none : after.pending.frames.items ≡ []
 
--- and the stretch is given back
-pub record KeepsStretchBack (told : ℕ) (stretch : Stretch) (before after : Outlet) : Type 0 where
+-- and the segment is given back
+pub record KeepsSegmentBack (told : ℕ) (segment : Segment) (before after : Outlet) : Type 0 where
   pub same : IsSameLink before after
-  pub tape : after.tape ≡ before.tape
+  pub trace : after.trace ≡ before.trace
   pub as_far : after.sent ≡ before.sent
   pub told_by_then : after.told ≡ told
-  pub base : after.pending.base ≡ stretch.from
-  pub frames : after.pending.frames.items ≡ stretch.frames.items
+  pub base : after.pending.base ≡ segment.from
+  pub frames : after.pending.frames.items ≡ segment.frames.items

@@ -15,24 +15,24 @@ use Rattle.cqf_model.specs.declared.topology.Node.TheVariants.{Bridge, Station}
 use Rattle.cqf_model.specs.declared.topology.Row.{Row}
 use Rattle.cqf_model.specs.Domain.{Domain, delay_of, enters, leaves, octet_time_of}
 use Rattle.cqf_model.specs.Table.{AreOrderly, row_of, table_of}
-use Rattle.cqf_tape.specs.Tapes.{mark_of_sent}
+use Rattle.cqf_trace.specs.Traces.{mark_of_sent}
 use Rattle.cqf_relay.specs.declared.edge.Edge.{Edge}
 use Rattle.cqf_relay.specs.declared.inlet.Inlet.{Inlet}
 use Rattle.cqf_relay.specs.declared.leads.By.{By}
 use Rattle.cqf_relay.specs.declared.leads.By.TheVariants as way
 use Rattle.cqf_relay.specs.declared.leads.Leads.{Leads}
 use Rattle.cqf_relay.specs.declared.log.ArrivedFrame.{ArrivedFrame}
-use Rattle.cqf_relay.specs.declared.moving.Stretch.{Stretch}
+use Rattle.cqf_relay.specs.declared.moving.Segment.{Segment}
 use Rattle.cqf_relay.specs.declared.outlet.Outlet.{Outlet}
 use Rattle.cqf_relay.specs.declared.queue.Queued.{Queued}
 use Rattle.cqf_relay.specs.declared.relay.Relay.{Relay}
 use Rattle.cqf_relay.specs.declared.wire.Wire.{Wire}
-use Rattle.cqf_relay.specs.Stretches.{IsNextStretch, IsStretchOf, Sendings, batch_at, frames_of, moving_between}
+use Rattle.cqf_relay.specs.Segments.{IsNextSegment, IsSegmentOf, Sendings, batch_at, frames_of, moving_between}
 use Rattle.cqf_relay.specs.Leading.{by_at, by_row, leads, same_by}
 use Rattle.cqf_relay.specs.Logs.{ByCycle, is_in}
 use Rattle.cqf_relay.specs.Offering.{CountsUpto, Going, IsOfCycle, came_of_going, covered_behind, dropped_behind}
 use Rattle.cqf_relay.specs.Queues.{AreLeads, key_of_queued, queued}
-use Rattle.cqf_relay.specs.Sending.{IsNewOutlet, IsTidy, KeepsStretchBack, LearnsOf, SendsCycles, TakesPending, came_of, most_of, sends_of}
+use Rattle.cqf_relay.specs.Sending.{IsNewOutlet, IsTidy, KeepsSegmentBack, LearnsOf, SendsCycles, TakesPending, came_of, most_of, sends_of}
 
 -- what has arrived at a bridge: the tables of its first cycles, with the offers of each, by instant, then index; and for each link that
 -- ends in it the frames that it brought, and the cycle up to which it has brought them
@@ -136,17 +136,17 @@ pub record KnowsRows (l : ℕ) (tables : List (List Row)) (known : Leads) : Type
 -- a link that leaves the bridge and has sent this in its first cycles: what it hasn't handed on yet is pending, all within 256 cycles from
 -- the first pending frame's
 pub record IsOutletOf (d : Domain) (bridge : ℕ) (come : Come) (sends : List (List Sent)) (outlet : Outlet) : Type 0 where
-  pub wire : outlet.wire ≡ wire_on d outlet.tape.link
-  pub knows : KnowsRows outlet.tape.link come.tables outlet.leads
+  pub wire : outlet.wire ≡ wire_on d outlet.trace.link
+  pub knows : KnowsRows outlet.trace.link come.tables outlet.leads
   pub as_far : outlet.sent ≡ length sends
   pub handed : outlet.told ≤ outlet.sent
   pub pends : outlet.wire.onward ≡ true →
-      outlet.pending.frames.items ≡ moving_between d outlet.tape.link sends outlet.pending.base outlet.told outlet.sent
+      outlet.pending.frames.items ≡ moving_between d outlet.trace.link sends outlet.pending.base outlet.told outlet.sent
   pub counts : outlet.wire.onward ≡ true → (cycle : ℕ) → outlet.told ≤ cycle → cycle < outlet.sent → (batch_at sends cycle ≡ [] → ⊥) →
       (outlet.pending.base ≤ cycle) × (cycle < outlet.pending.base + 256)
-  pub marked : outlet.tape.starts.items ≡ map mark_of_sent (flat_map (λ (batch : List Sent). batch) sends)
-  pub no_background : outlet.tape.background.items ≡ []
-  pub gone : HasGoneOnBy d bridge come outlet.tape.link sends
+  pub marked : outlet.trace.starts.items ≡ map mark_of_sent (flat_map (λ (batch : List Sent). batch) sends)
+  pub no_background : outlet.trace.background.items ≡ []
+  pub gone : HasGoneOnBy d bridge come outlet.trace.link sends
 
 -- the links that end in a bridge, and those that leave it, by number; and the link of an inlet, the link of an outlet and its wire
 abbrev pub links_into : Domain → ℕ → List ℕ
@@ -159,7 +159,7 @@ abbrev pub link_in : Inlet → ℕ
 link_in inlet = inlet.link
 
 abbrev pub link_out : Outlet → ℕ
-link_out outlet = outlet.tape.link
+link_out outlet = outlet.trace.link
 
 abbrev pub wire_out : Outlet → Wire
 wire_out outlet = outlet.wire
@@ -183,7 +183,7 @@ pub record StandsSo (d : Domain) (come : Come) (sends : Sendings) (relay : Relay
   pub early : All (λ (outlet : Outlet). least ≤ outlet.sent - 1) relay.outlets.items
   pub inlets : All (IsInletOf come least) relay.inlets.items
   pub edge : IsEdgeOf d relay.number come least relay.edge
-  pub outlets : All (λ (outlet : Outlet). IsOutletOf d relay.number come (sends outlet.tape.link) outlet) relay.outlets.items
+  pub outlets : All (λ (outlet : Outlet). IsOutletOf d relay.number come (sends outlet.trace.link) outlet) relay.outlets.items
 
 -- nothing has arrived
 abbrev pub nothing_yet : Come
@@ -200,12 +200,12 @@ more_from brought m more k = if k == m then brought k ++ more else brought k
 abbrev pub upto_from : (ℕ → ℕ) → ℕ → ℕ → ℕ → ℕ
 upto_from upto m later k = if k == m then later else upto k
 
-abbrev pub with_stretch : Come → ℕ → Stretch → Come
-with_stretch come m stretch = record {
+abbrev pub with_segment : Come → ℕ → Segment → Come
+with_segment come m segment = record {
   tables = come.tables;
   offers = come.offers;
-  upto = upto_from come.upto m stretch.upto;
-  brought = more_from come.brought m (frames_of stretch);
+  upto = upto_from come.upto m segment.upto;
+  brought = more_from come.brought m (frames_of segment);
 }
 
 -- all offers are of the cycle
@@ -223,8 +223,8 @@ pub record AreNewInlets (d : Domain) (bridge : ℕ) (inlets : List Inlet) : Type
 
 pub record IsNewOutletOf (d : Domain) (outlet : Outlet) : Type 0 where
   pub link : Link
-  pub is_link : slice_get d.links outlet.tape.link ≡ Some link
-  pub new : IsNewOutlet d.cycle_time outlet.tape.link link (is_onward d outlet.tape.link) outlet
+  pub is_link : slice_get d.links outlet.trace.link ≡ Some link
+  pub new : IsNewOutlet d.cycle_time outlet.trace.link link (is_onward d outlet.trace.link) outlet
 
 pub record AreNewOutlets (d : Domain) (bridge : ℕ) (outlets : List Outlet) : Type 0 where
   pub links : map link_out outlets ≡ links_from d bridge
@@ -305,13 +305,13 @@ pub record TakesTable (table : List Row) (offers : List Offered) (before after :
   pub by_frame : IsNonDecreasingBy (λ (dropped : Dropped). dropped.frame) fresh
 
 -- a bridge has taken what the inlet at an index brought: if that may come next, any state of the bridge before becomes the state with it
-pub record TakesStretch (place : ℕ) (stretch : Stretch) (before after : Relay) : Type 0 where
+pub record TakesSegment (place : ℕ) (segment : Segment) (before after : Relay) : Type 0 where
   pub same : StaysAs before after
   pub tables_same : after.tables ≡ before.tables
   pub drops_same : after.edge.drops ≡ before.edge.drops
   pub outlets_same : after.outlets ≡ before.outlets
   pub stands : (d : Domain) (come : Come) (sends : Sendings) (inlet : Inlet) → StandsSo d come sends before →
-      slice_get before.inlets.items place ≡ Some inlet → IsNextStretch inlet.upto stretch → StandsSo d (with_stretch come inlet.link stretch) sends after
+      slice_get before.inlets.items place ≡ Some inlet → IsNextSegment inlet.upto segment → StandsSo d (with_segment come inlet.link segment) sends after
 
 -- everything that a link needs has arrived up to a cycle
 pub record NeedsHaveCome (place upto : ℕ) (relay : Relay) : Type 0 where
@@ -358,24 +358,24 @@ pub record GoesOnAlone (before after : Relay) : Type 0 where
   pub stands : (d : Domain) (come : Come) (sends : Sendings) → StandsSo d come sends before → MayBeTables d come.tables →
       (more : Sendings) × StandsSo d come more after × HaveSentMore sends more
 
--- what a link sent since its last stretch was taken, as a stretch
-pub record HandsOn (place : ℕ) (before after : Relay) (stretch : Stretch) : Type 0 where
+-- what a link sent since its last segment was taken, as a segment
+pub record HandsOn (place : ℕ) (before after : Relay) (segment : Segment) : Type 0 where
   pub same : IsSameButLinks before after
   pub stays : StaysAs before after
   pub outlet : Outlet
   pub was : slice_get before.outlets.items place ≡ Some outlet
   pub handed : Outlet
   pub is : after.outlets.items ≡ slice_set before.outlets.items place handed
-  pub takes : TakesPending outlet handed stretch
-  pub told : told_by after ≡ slice_set (told_by before) place stretch.upto
+  pub takes : TakesPending outlet handed segment
+  pub told : told_by after ≡ slice_set (told_by before) place segment.upto
   pub stands : (d : Domain) (come : Come) (sends : Sendings) → StandsSo d come sends before → StandsSo d come sends after
-  pub is_stretch : (d : Domain) (come : Come) (sends : Sendings) (outlet : Outlet) → StandsSo d come sends before →
+  pub is_segment : (d : Domain) (come : Come) (sends : Sendings) (outlet : Outlet) → StandsSo d come sends before →
       slice_get before.outlets.items place ≡ Some outlet → outlet.wire.onward ≡ true →
-      IsStretchOf d outlet.tape.link (sends outlet.tape.link) outlet.told stretch × (stretch.upto ≡ length (sends outlet.tape.link))
-  pub is_next : IsTidy outlet → IsNextStretch outlet.told stretch
+      IsSegmentOf d outlet.trace.link (sends outlet.trace.link) outlet.told segment × (segment.upto ≡ length (sends outlet.trace.link))
+  pub is_next : IsTidy outlet → IsNextSegment outlet.told segment
 
--- a stretch that couldn't be handed on was given back: the bridge is as before the stretch was taken
-pub record KeepsBack (place told : ℕ) (stretch : Stretch) (before after : Relay) : Type 0 where
+-- a segment that couldn't be handed on was given back: the bridge is as before the segment was taken
+pub record KeepsBack (place told : ℕ) (segment : Segment) (before after : Relay) : Type 0 where
   pub same : IsSameButLinks before after
   pub links : map link_out after.outlets.items ≡ map link_out before.outlets.items
   pub wires : map wire_out after.outlets.items ≡ map wire_out before.outlets.items
@@ -383,14 +383,14 @@ pub record KeepsBack (place told : ℕ) (stretch : Stretch) (before after : Rela
   pub was : slice_get before.outlets.items place ≡ Some outlet
   pub kept : Outlet
   pub is : after.outlets.items ≡ slice_set before.outlets.items place kept
-  pub keeps : KeepsStretchBack told stretch outlet kept
+  pub keeps : KeepsSegmentBack told segment outlet kept
   pub told_by_then : told_by after ≡ slice_set (told_by before) place told
-  pub again : (older : Relay) → HandsOn place older before stretch → slice_get (told_by older) place ≡ Some told →
+  pub again : (older : Relay) → HandsOn place older before segment → slice_get (told_by older) place ≡ Some told →
       (d : Domain) (come : Come) (sends : Sendings) → StandsSo d come sends older → StandsSo d come sends after
-  pub tidy_again : (older : Relay) → HandsOn place older before stretch → slice_get (told_by older) place ≡ Some told →
+  pub tidy_again : (older : Relay) → HandsOn place older before segment → slice_get (told_by older) place ≡ Some told →
       All IsTidy older.outlets.items → All IsTidy after.outlets.items
 
--- all is over: each table and each stretch was taken, and each link has sent all cycles and handed them on
+-- all is over: each table and each segment was taken, and each link has sent all cycles and handed them on
 pub record IsOver (relay : Relay) : Type 0 where
   pub tables : relay.cycles ≤ relay.tables
   pub sent : All (λ (outlet : Outlet). relay.cycles ≤ outlet.sent) relay.outlets.items

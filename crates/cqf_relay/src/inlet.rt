@@ -1,9 +1,9 @@
 //! A link that ends in the bridge.
 ghost use Rattle.std.specs.Prelude.{◌≡◌, ◌++◌, [], OnOk, map};
-ghost use Rattle.cqf_relay.specs.Logs.{came_by_stretch};
+ghost use Rattle.cqf_relay.specs.Logs.{came_by_segment};
 
 use crate::log::{ArrivedFrame, SourceLog};
-use crate::moving::{Moving, Stretch};
+use crate::moving::{Moving, Segment};
 use cqf_units::Memory;
 use std::alloc::Global;
 
@@ -15,9 +15,9 @@ pub(crate) struct Inlet {
     pub(crate) log: SourceLog,
 }
 
-/// Returns the arrival of a frame of a stretch whose first frame is of cycle `from`.
+/// Returns the arrival of a frame of a segment whose first frame is of cycle `from`.
 fn came(from: u32, moving: Moving) -> ArrivedFrame
-    ensures { result ≡ came_by_stretch from moving }
+    ensures { result ≡ came_by_segment from moving }
 {
     ArrivedFrame {
         cycle: from.saturating_add(u32::from(moving.after)),
@@ -43,16 +43,16 @@ impl Inlet {
     }
 
     /// Takes what the link sent after what arrived before. Returns `Memory` if an allocation fails.
-    pub(crate) fn take(&mut self, stretch: &Stretch) -> Result<(), Memory>
+    pub(crate) fn take(&mut self, segment: &Segment) -> Result<(), Memory>
         ensures link { self.new.link ≡ self.old.link }
-        ensures upto { OnOk result (self.new.upto ≡ stretch.now.upto) }
+        ensures upto { OnOk result (self.new.upto ≡ segment.now.upto) }
         ensures log { OnOk result (self.new.log.frames.items ≡
-            self.old.log.frames.items ++ map (came_by_stretch stretch.now.from) stretch.now.frames.items) }
+            self.old.log.frames.items ++ map (came_by_segment segment.now.from) segment.now.frames.items) }
     {
-        for moving in stretch.frames.as_slice() {
-            self.log.keep(came(stretch.from, *moving))?;
+        for moving in segment.frames.as_slice() {
+            self.log.keep(came(segment.from, *moving))?;
         }
-        self.upto = stretch.upto;
+        self.upto = segment.upto;
         Ok(())
     }
 }

@@ -1,9 +1,9 @@
 //! A bridge whose links go on separately, by exact instants: each link sends as far as the incoming links and tables that it needs have
 //! arrived, over many cycles at once. A link needs another link if a row leads from that link to it.
 //!
-//! - A [`Stretch`] has what a link sends in consecutive cycles: a `Moving` of 16 octets for each frame.
+//! - A [`Segment`] has what a link sends in consecutive cycles: a `Moving` of 16 octets for each frame.
 //! - A [`Relay`] is the forwarding part of a bridge (its MAC relay entity, IEEE 802.1Q, 8.5). It has `Outlet`s, the links that leave the bridge,
-//!   and inlets, the links that end in it. It takes tables and stretches as they arrive, judges the offers of each cycle at the edge, and sends
+//!   and inlets, the links that end in it. It takes tables and segments as they arrive, judges the offers of each cycle at the edge, and sends
 //!   as far as it may.
 //!
 //! What arrives in a cycle starts in the next one, from its beginning, back to back, in order of instant, then source, with the offers
@@ -26,5 +26,5 @@ mod queue;
 mod relay;
 mod wire;
 
-pub use moving::Stretch;
+pub use moving::Segment;
 pub use relay::Relay;

@@ -9,13 +9,13 @@ pub struct Moving {
     /// The number of its stream.
     pub row: u32,
     pub octets: u16,
-    /// Its cycle, counted from the stretch's first one.
+    /// Its cycle, counted from the segment's first one.
     pub after: u16,
 }
 
 /// What a link sends in some cycles, after what it sent before: its frames in order of start.
 #[derive(Debug, Drop)]
-pub struct Stretch {
+pub struct Segment {
     /// The cycle of the first frame, if there is one.
     pub from: u32,
     /// The cycle up to which the link has sent, exclusive.

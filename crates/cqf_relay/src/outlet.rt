@@ -1,23 +1,23 @@
 //! A link that leaves the bridge.
 ghost use Rattle.std.specs.Prelude.{◌≡◌, ◌==◌, ◌≤◌, ◌<◌, ◌^◌, ◌-◌, IfOk, OnOk, true, false};
 ghost use Rattle.std.specs.List.{list_any};
-ghost use Rattle.cqf_relay.specs.Sending.{IsNewOutlet, KeepsStretchBack, LearnsOf, SendsCycles, SendsOne, SendsOneCycle, SendsQueue, TakesPending, most_of};
+ghost use Rattle.cqf_relay.specs.Sending.{IsNewOutlet, KeepsSegmentBack, LearnsOf, SendsCycles, SendsOne, SendsOneCycle, SendsQueue, TakesPending, most_of};
 
 use crate::inlet::Inlet;
 use crate::leads::Leads;
 use crate::log::{ArrivedFrame, SourceLog};
-use crate::moving::{Moving, Stretch};
+use crate::moving::{Moving, Segment};
 use crate::pending::Pending;
 use crate::queue::{Queued, gather, key};
 use crate::wire::Wire;
 use cqf_model::{Link, Row};
-use cqf_tape::{Mark, Tape};
+use cqf_trace::{Mark, Trace};
 use cqf_units::{Memory, Nanos, octet_ticks};
 use std::alloc::Global;
 use std::mem::replace;
 
 /// The greatest number of cycles that a link sends at once. If frames wait to be handed on, the cycles are counted from that of the first
-/// of them. So few frames wait, and a stretch's cycles can be counted in 16 bits.
+/// of them. So few frames wait, and a segment's cycles can be counted in 16 bits.
 const STRIDE: u32 = 256;
 
 /// A link that leaves the bridge: which rows lead to it, how far it has sent, and what it has sent and not yet handed on.
@@ -29,7 +29,7 @@ pub struct Outlet {
     sent: u32,
     told: u32,
     pending: Pending,
-    tape: Tape,
+    trace: Trace,
 }
 
 impl Outlet {
@@ -55,15 +55,15 @@ impl Outlet {
             sent: 0,
             told: 0,
             pending: Pending::new(alloc),
-            tape: Tape::new(alloc, number),
+            trace: Trace::new(alloc, number),
         }
     }
 
     /// Returns the number of the link.
     pub fn link(&self) -> u16
-        ensures { result ≡ self.now.tape.link }
+        ensures { result ≡ self.now.trace.link }
     {
-        self.tape.link
+        self.trace.link
     }
 
     /// Returns the cycle up to which the link has sent, exclusive.
@@ -128,7 +128,7 @@ impl Outlet {
         ensures { OnOk result (LearnsOf row.now self.old self.new) }
     {
         self.leads
-            .learn(row.no, row.tree.as_slice(), self.tape.link)
+            .learn(row.no, row.tree.as_slice(), self.trace.link)
     }
 
     /// Sends a frame in a cycle, at this offset from its beginning, if there is room. Returns the offset at which the next frame may start.
@@ -140,7 +140,7 @@ impl Outlet {
             return Ok(offset);
         }
         let begins = u64::from(cycle) * u64::from(self.wire.cycle_time);
-        self.tape.keep(Mark {
+        self.trace.keep(Mark {
             start: Nanos(begins + offset),
             frame: came.frame,
             octets: came.octets,
@@ -206,34 +206,34 @@ impl Outlet {
         Ok(())
     }
 
-    /// Returns what was sent since the last stretch, as one stretch. It takes no memory.
-    pub(crate) fn stretch(&mut self, alloc: Global) -> Stretch
+    /// Returns what was sent since the last segment, as one segment. It takes no memory.
+    pub(crate) fn segment(&mut self, alloc: Global) -> Segment
         ensures { TakesPending self.old self.new result }
     {
         self.told = self.sent;
-        Stretch {
+        Segment {
             from: self.pending.base,
             upto: self.sent,
             frames: replace(&mut self.pending.frames, Vec::new(alloc)),
         }
     }
 
-    /// Takes back the last stretch, which couldn't be handed on. The link is then as before that stretch was taken, when it had handed on
+    /// Takes back the last segment, which couldn't be handed on. The link is then as before that segment was taken, when it had handed on
     /// up to `told`.
-    pub(crate) fn keep_back(&mut self, told: u32, stretch: Stretch)
-        ensures { KeepsStretchBack told stretch self.old self.new }
+    pub(crate) fn keep_back(&mut self, told: u32, segment: Segment)
+        ensures { KeepsSegmentBack told segment self.old self.new }
     {
         self.told = told;
         self.pending = Pending {
-            base: stretch.from,
-            frames: stretch.frames,
+            base: segment.from,
+            frames: segment.frames,
         };
     }
 
     /// Returns what the link has sent.
-    pub(crate) fn into_tape(self) -> Tape
-        ensures { result ≡ self.tape }
+    pub(crate) fn into_trace(self) -> Trace
+        ensures { result ≡ self.trace }
     {
-        self.tape
+        self.trace
     }
 }

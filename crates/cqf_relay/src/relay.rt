@@ -4,16 +4,16 @@ ghost use Rattle.std.specs.Arc.{arc_value};
 ghost use Rattle.std.specs.Prelude.{◌≡◌, ◌<◌, ◌≤◌, All, IfOk, OnOk, [], length, map, true, false};
 ghost use Rattle.cqf_model.specs.Domain.{node_is};
 ghost use Rattle.cqf_relay.specs.Standing.{AreNewInlets, AreNewOutlets, AreOfCycle, GoesOnAlone, HandsOn, IsOver, KeepsBack, LearnOnEach, LearnsRows, LetsGo, MayReach};
-ghost use Rattle.cqf_relay.specs.Standing.{NeedsHaveCome, SendsOn, StandsSo, TakesStretch, TakesTable, is_bridge, nothing_yet};
+ghost use Rattle.cqf_relay.specs.Standing.{NeedsHaveCome, SendsOn, StandsSo, TakesSegment, TakesTable, is_bridge, nothing_yet};
 
 use crate::edge::Edge;
 use crate::inlet::Inlet;
-use crate::moving::Stretch;
+use crate::moving::Segment;
 use crate::outlet::Outlet;
 use crate::queue::Queued;
 use cqf_admission::Table;
 use cqf_model::{Dropped, Node, Offered, Row};
-use cqf_tape::{Reel, Tape};
+use cqf_trace::{BridgeTrace, Trace};
 use cqf_topology::Domain;
 use cqf_units::{Cycle, Memory};
 use std::alloc::Global;
@@ -166,20 +166,20 @@ impl Relay {
         self.outlets.as_slice()
     }
 
-    /// Returns what a link that leaves the bridge has sent since its last stretch was taken. `place` is the link's index among these links.
-    pub fn stretch_of(&mut self, alloc: Global, place: usize) -> Stretch
+    /// Returns what a link that leaves the bridge has sent since its last segment was taken. `place` is the link's index among these links.
+    pub fn segment_of(&mut self, alloc: Global, place: usize) -> Segment
         requires { place < length self.old.outlets.items }
         ensures { HandsOn place self.old self.new result }
     {
-        self.outlets[place].stretch(alloc)
+        self.outlets[place].segment(alloc)
     }
 
-    /// Takes back the last stretch of a link, which couldn't be handed on. `told` is the cycle up to which the link had handed on before.
-    pub fn keep_back(&mut self, place: usize, told: u32, stretch: Stretch)
+    /// Takes back the last segment of a link, which couldn't be handed on. `told` is the cycle up to which the link had handed on before.
+    pub fn keep_back(&mut self, place: usize, told: u32, segment: Segment)
         requires { place < length self.old.outlets.items }
-        ensures { KeepsBack place told stretch self.old self.new }
+        ensures { KeepsBack place told segment self.old self.new }
     {
-        self.outlets[place].keep_back(told, stretch);
+        self.outlets[place].keep_back(told, segment);
     }
 
     /// Learns the new rows of the next table. By number they follow the known rows.
@@ -223,11 +223,11 @@ impl Relay {
     }
 
     /// Takes what the inlet at an index brought. Returns `Memory` if an allocation fails.
-    pub fn take_stretch(&mut self, place: usize, stretch: &Stretch) -> Result<(), Memory>
+    pub fn take_segment(&mut self, place: usize, segment: &Segment) -> Result<(), Memory>
         requires { place < length self.old.inlets.items }
-        ensures { OnOk result (TakesStretch place stretch.now self.old self.new) }
+        ensures { OnOk result (TakesSegment place segment.now self.old self.new) }
     {
-        self.inlets[place].take(stretch)
+        self.inlets[place].take(segment)
     }
 
     /// Returns the cycle up to which everything that a link needs has arrived, exclusive.
@@ -306,7 +306,7 @@ impl Relay {
         Ok(())
     }
 
-    /// Returns whether all is over: each table and each stretch was taken, and each link has sent all cycles and handed them on.
+    /// Returns whether all is over: each table and each segment was taken, and each link has sent all cycles and handed them on.
     pub fn is_over(&self) -> bool
         ensures over { result ≡ true → IsOver self.now }
         ensures some { result ≡ false → 0 < self.now.cycles }
@@ -317,16 +317,16 @@ impl Relay {
     }
 
     /// Returns what the bridge has sent and dropped, and removes it from the bridge. Returns `Memory` if an allocation fails.
-    pub fn take_reel(&mut self, alloc: Global) -> Result<Reel, Memory>
-        ensures tapes { IfOk result (λ reel. reel.tapes.items ≡ map (λ outlet. outlet.tape) self.old.outlets.items) }
-        ensures drops { IfOk result (λ reel. reel.drops ≡ self.old.edge.drops) }
+    pub fn take_bridge_trace(&mut self, alloc: Global) -> Result<BridgeTrace, Memory>
+        ensures traces { IfOk result (λ bridge_trace. bridge_trace.traces.items ≡ map (λ outlet. outlet.trace) self.old.outlets.items) }
+        ensures drops { IfOk result (λ bridge_trace. bridge_trace.drops ≡ self.old.edge.drops) }
     {
         let outlets = replace(&mut self.outlets, Vec::new(alloc));
         let drops: Vec<Dropped> = replace(&mut self.edge.drops, Vec::new(alloc));
-        let mut tapes: Vec<Tape> = Vec::new(alloc);
+        let mut traces: Vec<Trace> = Vec::new(alloc);
         for outlet in outlets {
-            tapes.push(outlet.into_tape())?;
+            traces.push(outlet.into_trace())?;
         }
-        Ok(Reel { tapes, drops })
+        Ok(BridgeTrace { traces, drops })
     }
 }

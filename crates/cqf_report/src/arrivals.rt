@@ -4,7 +4,7 @@ ghost use Rattle.std.specs.Prelude.{◌≡◌, ◌≤◌, IfOk, IfErr, Ok, lengt
 ghost use Rattle.cqf_report.specs.OtherColumns.{in_four-other};
 ghost use Rattle.cqf_report.specs.Table.{IsFaultOf, in_four};
 ghost use Rattle.cqf_report.specs.Arrivals.{arrival_header, arrival_instant, arrival_of, arrivals_of_table, AreArrivals};
-ghost use Rattle.cqf_model.specs.Limits.{most_rows};
+ghost use Rattle.cqf_model.specs.Limits.{most_offers};
 
 use crate::rows::{RowFormat, read_table};
 use crate::tables::{TableFault, four_fields, is_header_of, read_number};
@@ -86,7 +86,7 @@ impl RowFormat for ArrivalRows {
 pub fn read_arrivals(alloc: Global, text: &[u8]) -> Result<Vec<Arrival>, TableFault>
     ensures ok { IfOk result (λ arrivals. arrivals_of_table text.now ≡ Ok arrivals.items) }
     ensures good { IfOk result (λ arrivals. AreArrivals arrivals.items) }
-    ensures few { IfOk result (λ arrivals. length arrivals.items ≤ most_rows) }
+    ensures few { IfOk result (λ arrivals. length arrivals.items ≤ most_offers) }
     ensures err { IfErr result (λ fault. IsFaultOf (arrivals_of_table text.now) fault) }
 {
     let most = Limits::of_profile().rows_within();

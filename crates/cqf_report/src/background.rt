@@ -6,7 +6,7 @@ ghost use Rattle.cqf_report.specs.OtherColumns.{in_five-other};
 ghost use Rattle.csv.specs.Records.{fields_of};
 ghost use Rattle.cqf_report.specs.Table.{IsFaultOf, in_five, is_header};
 ghost use Rattle.cqf_report.specs.BackgroundFrames.{background_frames_of, background_header, background_instant, background_of_table, link_named, node_in};
-ghost use Rattle.cqf_model.specs.Limits.{most_rows};
+ghost use Rattle.cqf_model.specs.Limits.{most_offers};
 
 use crate::rows::{RowFormat, read_table};
 use crate::tables::{OfferFault, five_fields, is_header_of_five, read_number};
@@ -134,7 +134,7 @@ pub fn read_background(
 ) -> Result<Vec<Background>, OfferFault>
     ensures ok { IfOk result (λ frames. background_frames_of domain.now text.now ≡ Ok frames.items) }
     ensures good { IfOk result (λ frames. AreBackground domain.now frames.items) }
-    ensures few { IfOk result (λ frames. length frames.items ≤ most_rows) }
+    ensures few { IfOk result (λ frames. length frames.items ≤ most_offers) }
     ensures err { IfErr result (λ fault. IsFaultOf (background_frames_of domain.now text.now) fault) }
 {
     let most = domain.limits().rows_within();

@@ -5,7 +5,7 @@ ghost use Rattle.cqf_report.specs.Columns.{columns_text};
 
 use crate::links::{FrameSums, put_header, put_sums, sum_of};
 use cqf_laws_coverage::Column;
-use cqf_press::{Press, Sheet, Told, told_text};
+use cqf_output::{Writer, Buffer, Told, told_text};
 use cqf_topology::Domain;
 use cqf_units::Memory;
 use std::alloc::Global;
@@ -34,8 +34,8 @@ pub fn write_columns(
     ensures { IfOk result (λ text. text.items ≡ columns_text domain.now (frames_by columns.now) (octets_by columns.now)) }
 {
     let mut told = Told::new(Vec::new(alloc));
-    let mut press = Press::new(&mut told, Sheet::new(alloc)?);
-    put_header(&mut press);
+    let mut writer = Writer::new(&mut told, Buffer::new(alloc)?);
+    put_header(&mut writer);
     for link in 0..domain.links() {
         let column = &columns[usize::from(link)];
         let listed = column.octets.as_slice();
@@ -43,8 +43,8 @@ pub fn write_columns(
             frames: u128::from(column.frames),
             octets: sum_of(rt, listed),
         };
-        put_sums(&mut press, domain, link, sums, u128::from(most_of(listed)));
+        put_sums(&mut writer, domain, link, sums, u128::from(most_of(listed)));
     }
-    let _told = press.close();
+    let _told = writer.close();
     told_text(told)
 }

@@ -1,5 +1,5 @@
 //! Tables as comma-separated values. Offers, background frames and arrivals are read, by the crate `csv`. Starts, books and histories are
-//! written to a press, line by line, or returned as one list of bytes.
+//! written to a writer, line by line, or returned as one list of bytes.
 //!
 //! - [`read_offers`] reads the offers of a run, [`read_background`] its background frames, and [`read_arrivals`] the arrivals of a port.
 //! - [`TableFault`] is why a table is refused, and at which row.
@@ -18,7 +18,7 @@
 //!     is Ok of one arrival: class 6, 64 octets, frame 1, at instant 10
 //! read_arrivals(alloc, b"at,class,octets,frame\n10,8,64,1\n")
 //!     is Err(TableFault::BadRow(1)), since there is no class 8
-//! put_history(&mut press, admission.history());
+//! put_history(&mut writer, admission.history());
 //!     writes "0 admit x accepted 0 0\n1 seal\n"
 //! ```
 #![tactic(auto)]

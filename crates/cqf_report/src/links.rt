@@ -5,7 +5,7 @@ ghost use Rattle.cqf_lists.specs.ByNumber.{AddsTo, lists_of};
 ghost use Rattle.cqf_model.specs.Book.{contents_of};
 ghost use Rattle.cqf_model.specs.declared.frames.Started.{Started as AStarted};
 ghost use Rattle.cqf_model.specs.OnLinks.{frames_on, octets_on};
-ghost use Rattle.cqf_press.specs.Press.{Puts};
+ghost use Rattle.cqf_output.specs.Writer.{Puts};
 ghost use Rattle.cqf_laws_coverage.specs.InOneCycle.{most_on};
 ghost use Rattle.cqf_topology.specs.NodeNames.{name_of_link};
 ghost use Rattle.cqf_report.specs.Written.{line_of_fields};
@@ -14,7 +14,7 @@ ghost use Rattle.cqf_report.specs.LinkSums.{AreSumsInOrder, are_of_one_batch, li
 
 use cqf_lanes::octet_sum;
 use cqf_model::{Book, Started};
-use cqf_press::{Press, Sheet, Sink, Told, told_text};
+use cqf_output::{Writer, Buffer, Sink, Told, told_text};
 use cqf_topology::{Domain, put_link};
 use cqf_units::Memory;
 use rayon::prelude::*;
@@ -166,30 +166,30 @@ fn most_by_link(alloc: Global, starts: &[Started]) -> Result<Vec<u128>, Memory>
 
 /// Writes the line of a link.
 pub(crate) fn put_sums<W: Sink>(
-    press: &mut Press<'_, W>,
+    writer: &mut Writer<'_, W>,
     domain: &Domain,
     link: u16,
     sums: FrameSums,
     most: u128,
 )
-    ensures { Puts W.contents press.old press.new
+    ensures { Puts W.contents writer.old writer.new
         (line_of_fields (sums_fields (name_of_link domain.now link) sums.frames sums.octets most)) }
 {
-    put_link(press, domain, link);
-    press.put_byte(b',');
-    press.put_number(sums.frames);
-    press.put_byte(b',');
-    press.put_number(sums.octets);
-    press.put_byte(b',');
-    press.put_number(most);
-    press.put_byte(b'\n');
+    put_link(writer, domain, link);
+    writer.put_byte(b',');
+    writer.put_number(sums.frames);
+    writer.put_byte(b',');
+    writer.put_number(sums.octets);
+    writer.put_byte(b',');
+    writer.put_number(most);
+    writer.put_byte(b'\n');
 }
 
 /// Writes the header.
-pub(crate) fn put_header<W: Sink>(press: &mut Press<'_, W>)
-    ensures { Puts W.contents press.old press.new (line_of_fields link_header) }
+pub(crate) fn put_header<W: Sink>(writer: &mut Writer<'_, W>)
+    ensures { Puts W.contents writer.old writer.new (line_of_fields link_header) }
 {
-    press.put(b"link,frames,octets,most\n");
+    writer.put(b"link,frames,octets,most\n");
 }
 
 /// Returns the sums of a book's streams' frames by link, or `Memory` if an allocation fails. The text has the header
@@ -209,12 +209,12 @@ pub fn write_links(
     let most = most_by_link(alloc, starts)?;
     let by_link = octets_by_link(alloc, starts)?;
     let mut told = Told::new(Vec::new(alloc));
-    let mut press = Press::new(&mut told, Sheet::new(alloc)?);
-    put_header(&mut press);
+    let mut writer = Writer::new(&mut told, Buffer::new(alloc)?);
+    put_header(&mut writer);
     for link in 0..domain.links() {
         let sums = sums_of_link(rt, by_link.as_slice(), link);
-        put_sums(&mut press, domain, link, sums, most[usize::from(link)]);
+        put_sums(&mut writer, domain, link, sums, most[usize::from(link)]);
     }
-    let _told = press.close();
+    let _told = writer.close();
     told_text(told)
 }

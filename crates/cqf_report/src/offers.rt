@@ -6,7 +6,7 @@ ghost use Rattle.cqf_report.specs.OtherColumns.{in_four-other};
 ghost use Rattle.csv.specs.Records.{fields_of};
 ghost use Rattle.cqf_report.specs.Table.{IsFaultOf, in_four, is_header};
 ghost use Rattle.cqf_report.specs.Offers.{bridge_named, name_in, offer_header, offer_instant, offer_of, offers_of};
-ghost use Rattle.cqf_model.specs.Limits.{most_rows};
+ghost use Rattle.cqf_model.specs.Limits.{most_offers};
 
 use crate::rows::{RowFormat, read_table};
 use crate::tables::{OfferFault, four_fields, is_header_of, read_number};
@@ -121,7 +121,7 @@ impl RowFormat for OfferRows<'_> {
 pub fn read_offers(alloc: Global, domain: &Domain, text: &[u8]) -> Result<Vec<Offer>, OfferFault>
     ensures ok { IfOk result (λ offers. offers_of domain.now text.now ≡ Ok offers.items) }
     ensures good { IfOk result (λ offers. AreOffers domain.now offers.items) }
-    ensures few { IfOk result (λ offers. length offers.items ≤ most_rows) }
+    ensures few { IfOk result (λ offers. length offers.items ≤ most_offers) }
     ensures err { IfErr result (λ fault. IsFaultOf (offers_of domain.now text.now) fault) }
 {
     let most = domain.limits().rows_within();

@@ -1,46 +1,46 @@
 //! The starts of a port as a text, line by line.
 
 ghost use Rattle.std.specs.Prelude.{◌≡◌, ◌^◌, ◌<◌, All, IfOk};
-ghost use Rattle.cqf_press.specs.Press.{Puts};
+ghost use Rattle.cqf_output.specs.Writer.{Puts};
 ghost use Rattle.cqf_units.specs.Timing.{ticks_of_octet};
 ghost use Rattle.cqf_report.specs.Written.{line_of_fields};
 ghost use Rattle.cqf_report.specs.Starts.{lines_of_port, start_fields, start_header, text_of_starts};
 
 use cqf_model::Start;
-use cqf_press::{Press, Sheet, Sink, Told, told_text};
+use cqf_output::{Writer, Buffer, Sink, Told, told_text};
 use cqf_units::{Memory, Octets, Rate, end_of};
 use std::alloc::Global;
 
 /// Writes the header of a port's starts.
-pub fn put_port_header<W: Sink>(press: &mut Press<'_, W>)
-    ensures { Puts W.contents press.old press.new (line_of_fields start_header) }
+pub fn put_port_header<W: Sink>(writer: &mut Writer<'_, W>)
+    ensures { Puts W.contents writer.old writer.new (line_of_fields start_header) }
 {
-    press.put(b"class,frame,start,end\n");
+    writer.put(b"class,frame,start,end\n");
 }
 
 /// Writes the line of a start, with the instant at which its frame ends at this rate.
-pub fn put_port_start<W: Sink>(press: &mut Press<'_, W>, start: &Start, rate: Rate)
+pub fn put_port_start<W: Sink>(writer: &mut Writer<'_, W>, start: &Start, rate: Rate)
     requires { start.now.start.0 < 2 ^ 63 }
-    ensures { Puts W.contents press.old press.new (line_of_fields (start_fields (ticks_of_octet rate) start.now)) }
+    ensures { Puts W.contents writer.old writer.new (line_of_fields (start_fields (ticks_of_octet rate) start.now)) }
 {
     let end = end_of(start.start, Octets(start.octets), rate);
-    press.put_number(start.class);
-    press.put_byte(b',');
-    press.put_number(start.frame);
-    press.put_byte(b',');
-    press.put_number(start.start.0);
-    press.put_byte(b',');
-    press.put_number(end.0);
-    press.put_byte(b'\n');
+    writer.put_number(start.class);
+    writer.put_byte(b',');
+    writer.put_number(start.frame);
+    writer.put_byte(b',');
+    writer.put_number(start.start.0);
+    writer.put_byte(b',');
+    writer.put_number(end.0);
+    writer.put_byte(b'\n');
 }
 
 /// Writes a line for each start.
-fn put_each<W: Sink>(press: &mut Press<'_, W>, starts: &[Start], rate: Rate)
+fn put_each<W: Sink>(writer: &mut Writer<'_, W>, starts: &[Start], rate: Rate)
     requires { All (λ start. start.start.0 < 2 ^ 63) starts.now }
-    ensures { Puts W.contents press.old press.new (lines_of_port (ticks_of_octet rate) starts.now) }
+    ensures { Puts W.contents writer.old writer.new (lines_of_port (ticks_of_octet rate) starts.now) }
 {
     for start in starts {
-        put_port_start(press, start, rate);
+        put_port_start(writer, start, rate);
     }
 }
 
@@ -51,9 +51,9 @@ pub fn write_starts(alloc: Global, starts: &[Start], rate: Rate) -> Result<Vec<u
     ensures { IfOk result (λ text. text.items ≡ text_of_starts (ticks_of_octet rate) starts.now) }
 {
     let mut told = Told::new(Vec::new(alloc));
-    let mut press = Press::new(&mut told, Sheet::new(alloc)?);
-    put_port_header(&mut press);
-    put_each(&mut press, starts, rate);
-    let _told = press.close();
+    let mut writer = Writer::new(&mut told, Buffer::new(alloc)?);
+    put_port_header(&mut writer);
+    put_each(&mut writer, starts, rate);
+    let _told = writer.close();
     told_text(told)
 }

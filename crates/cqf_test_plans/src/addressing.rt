@@ -4,7 +4,7 @@ use cqf_addressing::{
     read_stream_addresses,
 };
 use cqf_model::Limits;
-use cqf_press::{Press, Sheet, Told, told_text};
+use cqf_output::{Writer, Buffer, Told, told_text};
 use std::alloc::Global;
 
 /// Three streams, the second without any key of addressing.
@@ -158,13 +158,13 @@ fn mac_text(alloc: Global) -> Option<Vec<u8>> {
         return None;
     };
     let mac = addresses.as_slice().first()?.mac.as_ref()?;
-    let Ok(sheet) = Sheet::new(alloc) else {
+    let Ok(buffer) = Buffer::new(alloc) else {
         return None;
     };
     let mut told = Told::new(Vec::new(alloc));
-    let mut press = Press::new(&mut told, sheet);
-    put_mac(&mut press, mac);
-    let _told = press.close();
+    let mut writer = Writer::new(&mut told, buffer);
+    put_mac(&mut writer, mac);
+    let _told = writer.close();
     told_text(told).ok()
 }
 

@@ -12,7 +12,7 @@ mod engines;
 #[cfg(test)]
 mod offers;
 #[cfg(test)]
-mod presses;
+mod writers;
 #[cfg(test)]
 mod signals;
 #[cfg(test)]

@@ -1,5 +1,5 @@
 //! Runs that end early.
-use cqf_press::Stop;
+use cqf_output::Stop;
 use std::alloc::Global;
 use std::io;
 use std::io::ErrorKind;

@@ -1,5 +1,5 @@
 //! Tests of reading words.
-use cqf_press::{DONE, USAGE};
+use cqf_output::{DONE, USAGE};
 use cqf_program_words::{Format, Job, candidates_named, read_words};
 use cqf_units::Rate;
 use std::alloc::Global;

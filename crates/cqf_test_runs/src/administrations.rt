@@ -1,7 +1,7 @@
 //! Administrations that make the calls of a script, with the tables of the cycles that they close.
 ghost use Rattle.std.specs.Prelude.{◌≡◌, ◌≤◌, IfOk, length};
 ghost use Rattle.cqf_laws_coverage.specs.Judged.{StandInOrder};
-ghost use Rattle.cqf_model.specs.Limits.{most_rows};
+ghost use Rattle.cqf_model.specs.Limits.{most_offers};
 ghost use Rattle.cqf_model.specs.Run.{AreOffers};
 ghost use Rattle.cqf_instants_run.specs.HistoryStarts.{SomeHistory};
 
@@ -106,7 +106,7 @@ pub(crate) fn judged(
 ) -> Result<(Vec<Row>, Vec<EdgeVerdict>), Memory>
     requires offers { AreOffers admission.now.domain offers.now }
     requires order { StandInOrder offers.now }
-    requires few { length offers.now ≤ most_rows }
+    requires few { length offers.now ≤ most_offers }
     ensures history { IfOk result (λ judged. SomeHistory admission.now.domain cycles judged.0.items offers.now judged.1.items) }
     ensures one_each { IfOk result (λ judged. length judged.1.items ≡ length offers.now) }
 {

@@ -1,6 +1,6 @@
 //! The text of a small history's book, put while its starts are found; computed by hand.
 ghost use Rattle.std.specs.Prelude.{◌≡◌, ◌≤◌, length};
-ghost use Rattle.cqf_model.specs.Limits.{most_rows};
+ghost use Rattle.cqf_model.specs.Limits.{most_offers};
 ghost use Rattle.cqf_laws_coverage.specs.Judged.{StandInOrder};
 ghost use Rattle.cqf_model.specs.Run.{AreOffers};
 
@@ -9,7 +9,7 @@ use cqf_admission::Admission;
 use cqf_instants::Pass;
 use cqf_instants_run::pass_of_history;
 use cqf_model::{Dropped, Offer, Reason, Started};
-use cqf_press::{Press, Sheet, Told};
+use cqf_output::{Writer, Buffer, Told};
 use cqf_program_scenario::ExactBook;
 use cqf_report::{offers_are_read_in_order, read_offers};
 use cqf_test_fixtures::fork;
@@ -36,7 +36,7 @@ drop,1,b,2,100,unknown
 ";
 
 /// Returns what is put of a pass, with a background frame and a drop; nothing if an allocation fails.
-fn told_of(alloc: Global, domain: &Domain, pass: Pass, sheet: Sheet) -> Vec<u8>
+fn told_of(alloc: Global, domain: &Domain, pass: Pass, buffer: Buffer) -> Vec<u8>
     requires { pass.told ≡ 0 }
 {
     let frame = Started {
@@ -58,9 +58,9 @@ fn told_of(alloc: Global, domain: &Domain, pass: Pass, sheet: Sheet) -> Vec<u8>
         return Vec::new(alloc);
     }
     let mut told = Told::new(Vec::new(alloc));
-    let mut press = Press::new(&mut told, sheet);
-    ExactBook::new(pass, background, drops).put(&mut press, domain);
-    let _told = press.close();
+    let mut writer = Writer::new(&mut told, buffer);
+    ExactBook::new(pass, background, drops).put(&mut writer, domain);
+    let _told = writer.close();
     told.into_writer()
 }
 
@@ -68,7 +68,7 @@ fn told_of(alloc: Global, domain: &Domain, pass: Pass, sheet: Sheet) -> Vec<u8>
 fn tells(alloc: Global, admission: &Admission, offers: &[Offer], cycles: u32, wanted: &[u8]) -> bool
     requires offers { AreOffers admission.now.domain offers.now }
     requires order { StandInOrder offers.now }
-    requires few { length offers.now ≤ most_rows }
+    requires few { length offers.now ≤ most_offers }
 {
     let domain = admission.domain();
     let Ok((granted, covered)) = judged(alloc, admission, cycles, offers) else {
@@ -76,11 +76,11 @@ fn tells(alloc: Global, admission: &Admission, offers: &[Offer], cycles: u32, wa
     };
     let rows = granted.as_slice();
     let edge_verdicts = covered.as_slice();
-    let Ok(sheet) = Sheet::new(alloc) else {
+    let Ok(buffer) = Buffer::new(alloc) else {
         return false;
     };
     match pass_of_history(alloc, domain, cycles, rows, offers, edge_verdicts) {
-        Ok(pass) => told_of(alloc, domain, pass, sheet).as_slice() == wanted,
+        Ok(pass) => told_of(alloc, domain, pass, buffer).as_slice() == wanted,
         Err(_) => false,
     }
 }

@@ -1,6 +1,6 @@
 //! Runs of small histories, compared with results computed by hand.
 ghost use Rattle.std.specs.Prelude.{◌≤◌, length};
-ghost use Rattle.cqf_model.specs.Limits.{most_rows};
+ghost use Rattle.cqf_model.specs.Limits.{most_offers};
 ghost use Rattle.cqf_laws_coverage.specs.Judged.{StandInOrder};
 ghost use Rattle.cqf_model.specs.Run.{AreOffers};
 
@@ -38,7 +38,7 @@ fn comes_out_with(
 ) -> bool
     requires offers { AreOffers administration.now.admission.domain offers.now }
     requires order { StandInOrder offers.now }
-    requires few { length offers.now ≤ most_rows }
+    requires few { length offers.now ≤ most_offers }
 {
     background.len() <= MOST_ROWS as usize
         && are_background(administration.admission.domain(), background)

@@ -1,6 +1,6 @@
 //! The book of a run computed in two ways: by exact instants, and by bridges with ports and gates.
 ghost use Rattle.std.specs.Prelude.{◌≤◌, length};
-ghost use Rattle.cqf_model.specs.Limits.{most_rows};
+ghost use Rattle.cqf_model.specs.Limits.{most_offers};
 ghost use Rattle.cqf_laws_coverage.specs.Judged.{StandInOrder};
 ghost use Rattle.cqf_model.specs.Run.{AreBackground, AreOffers};
 
@@ -77,9 +77,9 @@ fn exact_book(
 ) -> Result<Book, Memory>
     requires offers { AreOffers admission.now.domain offers.now }
     requires order { StandInOrder offers.now }
-    requires few { length offers.now ≤ most_rows }
+    requires few { length offers.now ≤ most_offers }
     requires background { AreBackground admission.now.domain background.now }
-    requires few_background { length background.now ≤ most_rows }
+    requires few_background { length background.now ≤ most_offers }
 {
     let domain = admission.domain();
     let (granted, covered) = judged(alloc, admission, cycles, offers)?;
@@ -101,9 +101,9 @@ fn plain_book(
     background: &[Background],
 ) -> Option<Book>
     requires offers { AreOffers administration.now.admission.domain offers.now }
-    requires few { length offers.now ≤ most_rows }
+    requires few { length offers.now ≤ most_offers }
     requires background { AreBackground administration.now.admission.domain background.now }
-    requires few_background { length background.now ≤ most_rows }
+    requires few_background { length background.now ≤ most_offers }
 {
     let many = cycles as usize;
     let tables = administration.tables.as_slice();
@@ -130,9 +130,9 @@ pub(crate) fn agree(
 ) -> bool
     requires offers { AreOffers administration.now.admission.domain offers.now }
     requires order { StandInOrder offers.now }
-    requires few { length offers.now ≤ most_rows }
+    requires few { length offers.now ≤ most_offers }
     requires background { AreBackground administration.now.admission.domain background.now }
-    requires few_background { length background.now ≤ most_rows }
+    requires few_background { length background.now ≤ most_offers }
 {
     let Ok(exact) = exact_book(alloc, &administration.admission, cycles, offers, background) else {
         return false;

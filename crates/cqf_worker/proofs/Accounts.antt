@@ -14,37 +14,37 @@ use Rattle.cqf_model.specs.HistoryBook.{run_of_history}
 use Rattle.cqf_model.specs.Network.{Network}
 use Rattle.cqf_model.specs.Calls.{IsHistoryOf}
 use Rattle.cqf_admission.specs.declared.entries.Command.{Command}
-use Rattle.cqf_tape.specs.Reels.{AreReelsOf}
-use Rattle.cqf_tape.specs.declared.tapes.Tapes.{Tapes}
-use Rattle.cqf_tape.specs.Tapes.{told_from}
+use Rattle.cqf_trace.specs.BridgeTraces.{AreBridgeTracesOf}
+use Rattle.cqf_trace.specs.declared.traces.Traces.{Traces}
+use Rattle.cqf_trace.specs.Traces.{told_from}
 use Rattle.cqf_desk.specs.Closing.{IsOfSeats}
 use Rattle.cqf_desk.specs.Desk.{Counter, Sitting, fresh_seats}
 use Rattle.cqf_desk.specs.declared.history.History.{History}
-use Rattle.cqf_laws_account.specs.Taped.{TapesTellTheBook}
+use Rattle.cqf_laws_account.specs.Traced.{TracesTellTheBook}
 use Rattle.cqf_laws_account.specs.Sealing.{cycle_tables}
 use Rattle.cqf_laws_account.specs.Seated.{AreSeated, ClosesItsCycles, ConductorHasTheTables, SeatsGiveTheHistory}
 use Rattle.cqf_laws_network.specs.NetworkLaws.{LegalNetworkExists}
 use Rattle.cqf_laws_shift.specs.BookOfHistory.{BookOfHistorySaysTheShift}
 use Rattle.cqf_laws_shift.specs.Run.{IsLegalRun}
 use Rattle.cqf_laws_relay.specs.Following.{TablesMayCome}
-use Rattle.cqf_laws_relay.specs.Taped.{BackedTapesAreTheBooks, HaveTheStreams, RelaysKeepTheTapes}
-use Rattle.cqf_instants_run.specs.Taping.{BacksTheTapes, SomeTapedRun}
+use Rattle.cqf_laws_relay.specs.Traced.{BackedTracesAreTheBooks, HaveTheStreams, RelaysKeepTheTraces}
+use Rattle.cqf_instants_run.specs.Taping.{BacksTheTraces, SomeTracedRun}
 use Rattle.cqf_worker.specs.declared.account.Account.{Account}
-use Rattle.cqf_worker.specs.declared.account.TapedAccount.{TapedAccount}
+use Rattle.cqf_worker.specs.declared.account.TracedAccount.{TracedAccount}
 use Rattle.cqf_worker_loops.specs.declared.carried.Carried.TheVariants.{Item}
 use Rattle.cqf_worker.specs.declared.conducting.PreparedRun.{PreparedRun}
 use Rattle.cqf_worker.specs.declared.threads.Administrator.{Administrator}
 use Rattle.cqf_worker.specs.declared.threads.EndedRun.{EndedRun}
-use Rattle.cqf_worker.specs.Account.{IsAccount, IsOutcomeOf, IsTapedAccount, all_asked, entries_of}
-use Rattle.cqf_worker.specs.Closing.{reel_at}
+use Rattle.cqf_worker.specs.Account.{IsAccount, IsOutcomeOf, IsTracedAccount, all_asked, entries_of}
+use Rattle.cqf_worker.specs.Closing.{bridge_trace_at}
 use Rattle.cqf_worker.specs.Conducting.{IsPrepared, IsSettled, all_seats, seat_of}
 use Rattle.cqf_worker_loops.specs.Handing.{TableEnd}
 use Rattle.cqf_worker.specs.Laying.{traffic_of}
 use Rattle.cqf_worker.specs.Running.{IsEnded, IsReadyWorker}
 use Rattle.cqf_worker.specs.Wires.{AreWired, Wiring, pipe_of_tables, tables_pipe}
-use Rattle.cqf_worker.proofs.Apart.{still_reels, still_tables, still_wired}
+use Rattle.cqf_worker.proofs.Apart.{still_bridge_traces, still_tables, still_wired}
 use Rattle.cqf_worker.proofs.Come.{HaveRun, all_come, all_sends, have_gone}
-use Rattle.cqf_worker.proofs.Taped.{book_on_tapes, have_taped, legal_run, some_taped}
+use Rattle.cqf_worker.proofs.Traced.{book_on_traces, have_traced, legal_run, some_traced}
 use Rattle.cqf_worker.proofs.Seating.{are_seated, asked_count, asks_no_seal, fresh_seat, seats_count}
 
 -- a fresh seat has no calls
@@ -80,10 +80,10 @@ module _ (d : Domain) (opening : List Recorded) (offers : List Offer) (backgroun
     pub tables_in_the_end : map pipe_of_tables e.sealed.tables.items ≡ map tables_pipe e.workers.items
     tables_in_the_end = ended.sealed.pipes ∙ is.laid.tables ∙ sym (still_tables cycles p.ready.workers.items e.workers.items ended.worked)
 
-    -- and the reels are of the bridges
-    pub reels_in_the_end : AreReelsOf d (map reel_at e.workers.items)
-    reels_in_the_end =
-        still_reels (traffic_of d offers) cycles p.ready.workers.items e.workers.items is.laid.workers is.laid.many ended.worked
+    -- and the bridge traces are of the bridges
+    pub bridge_traces_in_the_end : AreBridgeTracesOf d (map bridge_trace_at e.workers.items)
+    bridge_traces_in_the_end =
+        still_bridge_traces (traffic_of d offers) cycles p.ready.workers.items e.workers.items is.laid.workers is.laid.many ended.worked
 
     -- the seats in the end; the conductor's is the sealing one
     pub seated_so : (s : AreSeated (all_asked admins) cycles (all_seats e)) × (s.conductor ≡ e.sealed.seat)
@@ -91,7 +91,7 @@ module _ (d : Domain) (opening : List Recorded) (offers : List Offer) (backgroun
         are_seated admins p.ready.administrators.items p.ready.conductor e.seats.items e.sealed.seat cycles p.ready.tables.items e.sealed.tables.items
         is.seated ended.called ended.sealed
 
-    module _ (account : TapedAccount) (settled : IsSettled d p.desk e account) where
+    module _ (account : TracedAccount) (settled : IsSettled d p.desk e account) where
       -- the history is of the seats: one per administrator and one more
       of_seats : IsOfSeats opening d (length (all_asked admins) + 1) (all_seats e) (entries_of account.history)
       of_seats =
@@ -117,7 +117,7 @@ module _ (d : Domain) (opening : List Recorded) (offers : List Offer) (backgroun
 
       module _ (accepted : IsAccepted d) (unsealed : seals opening ≡ 0) (good_offers : AreOffers d offers) (few_offers : length offers ≤ 16777215)
           (good_background : AreBackground d background) (seats : SeatsGiveTheHistory) (has_tables : ConductorHasTheTables)
-          (exists : LegalNetworkExists) (come : TablesMayCome) (keep : RelaysKeepTheTapes) where
+          (exists : LegalNetworkExists) (come : TablesMayCome) (keep : RelaysKeepTheTraces) where
         abbrev entries : List Recorded
         entries = entries_of account.history
 
@@ -148,27 +148,27 @@ module _ (d : Domain) (opening : List Recorded) (offers : List Offer) (backgroun
         its_net : (net : Network) × IsLegalRun (run_of_history d entries offers background cycles) net
         its_net = legal_run d entries offers background cycles exists come accepted history.legal all_sealed good_offers good_background
 
-        -- and its tapes have what the streams send
-        streams : HaveTheStreams (run_of_history d entries offers background cycles) its_net.0 account.tapes
+        -- and its traces have what the streams send
+        streams : HaveTheStreams (run_of_history d entries offers background cycles) its_net.0 account.traces
         streams =
             keep (run_of_history d entries offers background cycles) its_net.0
             (all_sends (traffic_of d offers) entries cycles p.ready.workers.items e.workers.items e.sealed.tables.items have_run)
             (all_come (traffic_of d offers) entries cycles p.ready.workers.items e.workers.items e.sealed.tables.items have_run)
-            (map reel_at e.workers.items) account.tapes its_net.1 (omega (arith, few_offers))
+            (map bridge_trace_at e.workers.items) account.traces its_net.1 (omega (arith, few_offers))
             (have_gone (traffic_of d offers) entries cycles p.ready.workers.items e.workers.items e.sealed.tables.items have_run background)
-            (have_taped (traffic_of d offers) entries cycles p.ready.workers.items e.workers.items e.sealed.tables.items have_run background)
+            (have_traced (traffic_of d offers) entries cycles p.ready.workers.items e.workers.items e.sealed.tables.items have_run background)
             settled.gathered
 
         -- so the background frames can be added to them
-        pub may_back : cycles ≤ 100000 → SomeTapedRun d (cycles * d.cycle_time) background account.tapes.links.items
-        may_back short = some_taped d entries offers background cycles its_net.0 its_net.1 account.tapes streams short
+        pub may_back : cycles ≤ 100000 → SomeTracedRun d (cycles * d.cycle_time) background account.traces.links.items
+        may_back short = some_traced d entries offers background cycles its_net.0 its_net.1 account.traces streams short
 
         -- and with these the account is that of the run
-        pub account_is : cycles ≤ 100000 → BackedTapesAreTheBooks → BookOfHistorySaysTheShift → (tapes : Tapes) → tapes.drops ≡ account.tapes.drops →
-            BacksTheTapes d (cycles * d.cycle_time) background account.tapes.links.items tapes.links.items →
-            IsTapedAccount d opening offers background cycles admins (record { history = account.history; tapes = tapes })
-        account_is short law promise tapes same backs =
-            let has = book_on_tapes d entries offers background cycles its_net.0 its_net.1 account.tapes streams short law all_sealed tapes same backs in
+        pub account_is : cycles ≤ 100000 → BackedTracesAreTheBooks → BookOfHistorySaysTheShift → (traces : Traces) → traces.drops ≡ account.traces.drops →
+            BacksTheTraces d (cycles * d.cycle_time) background account.traces.links.items traces.links.items →
+            IsTracedAccount d opening offers background cycles admins (record { history = account.history; traces = traces })
+        account_is short law promise traces same backs =
+            let has = book_on_traces d entries offers background cycles its_net.0 its_net.1 account.traces streams short law all_sealed traces same backs in
             let is_account : IsAccountOf d opening offers background cycles (all_asked admins) entries has.0 = record {
               history = history;
               sealed = has.1.of_history.sealed;
@@ -178,14 +178,14 @@ module _ (d : Domain) (opening : List Recorded) (offers : List Offer) (backgroun
               book = has.0;
               run = record { opens = settled.history.opening ∙ ap (λ (desk : Counter). length desk.opening.entries) is.desk; is = is_account };
               some = has.1.some;
-              its_tapes = has.1.tapes_of;
+              its_traces = has.1.traces_of;
             }
 
--- an account by tapes, with the book read from them, is an account
+-- an account by traces, with the book read from them, is an account
 pub told_account : (d : Domain) (opening : List Recorded) (offers : List Offer) (background : List Background) (cycles : ℕ)
-    (admins : List (List Command)) (paged : TapedAccount) (account : Account) → TapesTellTheBook → IsAccepted d →
-    IsTapedAccount d opening offers background cycles admins paged → account.history ≡ paged.history →
-    contents_of account.book ≡ told_from d cycles paged.tapes → IsAccount d opening offers background cycles admins account
+    (admins : List (List Command)) (paged : TracedAccount) (account : Account) → TracesTellTheBook → IsAccepted d →
+    IsTracedAccount d opening offers background cycles admins paged → account.history ≡ paged.history →
+    contents_of account.book ≡ told_from d cycles paged.traces → IsAccount d opening offers background cycles admins account
 told_account d opening offers background cycles admins paged account law accepted is same told =
     subst₂ (λ (history : History) (book : Contents). IsOutcomeOf d opening offers background cycles admins history book) (sym same)
-    ((law d cycles paged.tapes is.book accepted is.some is.its_tapes).told ∙ sym told) is.run
+    ((law d cycles paged.traces is.book accepted is.some is.its_traces).told ∙ sym told) is.run

@@ -7,17 +7,17 @@ use Rattle.std.proofs.lemmas.List.Elements.{AllZip-get_or, length_all_zip}
 use Rattle.std.proofs.lemmas.Option.{get_or_from_slice_get, same_Some, slice_get-get_or, slice_get-map, slice_get_cases, slice_get_within}
 use Rattle.std.proofs.lemmas.Simd.{map-map}
 use Rattle.cqf_lists.proofs.Members.{contains_at, contains_from_map, contains_map, place_of_member}
-use Rattle.cqf_tape.specs.declared.reel.Reel.{Reel}
-use Rattle.cqf_tape.specs.Reels.{AreReelsOf, links_leaving}
-use Rattle.cqf_tape.specs.Tapes.{links_of}
-use Rattle.cqf_relay.specs.declared.moving.Stretch.{Stretch}
+use Rattle.cqf_trace.specs.declared.bridge_trace.BridgeTrace.{BridgeTrace}
+use Rattle.cqf_trace.specs.BridgeTraces.{AreBridgeTracesOf, links_leaving}
+use Rattle.cqf_trace.specs.Traces.{links_of}
+use Rattle.cqf_relay.specs.declared.moving.Segment.{Segment}
 use Rattle.cqf_relay.specs.Standing.{links_into}
 use Rattle.cqf_worker_loops.specs.declared.carried.Carried.{Carried}
 use Rattle.cqf_worker_loops.specs.declared.worker.Worker.{Worker}
 use Rattle.cqf_worker_loops.specs.Rows.{wire_at, wires_of}
-use Rattle.cqf_worker_loops.specs.Workers.{HasGoneThrough, IsWorkerOf, Offering, StretchPort, Works, link_of, links_onward}
+use Rattle.cqf_worker_loops.specs.Workers.{HasGoneThrough, IsWorkerOf, Offering, SegmentPort, Works, link_of, links_onward}
 use Rattle.cqf_worker_loops.specs.PipeEnds.{PipeId}
-use Rattle.cqf_worker.specs.Closing.{reel_at}
+use Rattle.cqf_worker.specs.Closing.{bridge_trace_at}
 use Rattle.cqf_worker.specs.Wires.{AreOn, AreWired, AreWorkersOf, Wiring, tables_pipe}
 
 -- a value before those of later numbers
@@ -54,12 +54,12 @@ element_at xs k inside = elim (slice_get_cases xs k).1 [
 ]
 
 -- ports that keep their wires keep their links
-kept_links : (before after : List StretchPort) → wires_of after ≡ wires_of before → map link_of after ≡ map link_of before
+kept_links : (before after : List SegmentPort) → wires_of after ≡ wires_of before → map link_of after ≡ map link_of before
 kept_links before after same =
     sym (map-map link wire_at after) ∙ ap (map link) same ∙ map-map link wire_at before
   where
     -- a wire's link
-    link : ℕ × PipeId (Carried Stretch) → ℕ
+    link : ℕ × PipeId (Carried Segment) → ℕ
     link wire = wire.0
 
 -- each worker that is done was the worker at its index
@@ -94,38 +94,38 @@ module _ (t : Offering) (cycles : ℕ) (workers dones : List Worker) (of_bridges
   pub kept_outs : map link_of done.outs.items ≡ links_onward t.domain place
   kept_outs = kept_links was.0.outs.items done.outs.items was.2.outs ∙ was_of.links_out
 
--- the reels of workers that are done are of their bridges
-pub still_reels : (t : Offering) (cycles : ℕ) (workers dones : List Worker) → AreWorkersOf t workers → length workers ≡ length t.domain.bridges →
-    AllZip (Works cycles) workers dones → AreReelsOf t.domain (map reel_at dones)
-still_reels t cycles workers dones of_bridges many worked = record {
-  many = length-map dones reel_at ∙ sym (length_all_zip (Works cycles) workers dones worked) ∙ many;
-  links = λ bridge reel there. links_at bridge reel there (slice_get_cases dones bridge).1;
+-- the bridge traces of workers that are done are of their bridges
+pub still_bridge_traces : (t : Offering) (cycles : ℕ) (workers dones : List Worker) → AreWorkersOf t workers → length workers ≡ length t.domain.bridges →
+    AllZip (Works cycles) workers dones → AreBridgeTracesOf t.domain (map bridge_trace_at dones)
+still_bridge_traces t cycles workers dones of_bridges many worked = record {
+  many = length-map dones bridge_trace_at ∙ sym (length_all_zip (Works cycles) workers dones worked) ∙ many;
+  links = λ bridge bridge_trace there. links_at bridge bridge_trace there (slice_get_cases dones bridge).1;
 }
   where
-    -- those of the worker at the index of a reel
-    links_at : (bridge : ℕ) (reel : Reel) → slice_get (map reel_at dones) bridge ≡ Some reel →
+    -- those of the worker at the index of a bridge trace
+    links_at : (bridge : ℕ) (bridge_trace : BridgeTrace) → slice_get (map bridge_trace_at dones) bridge ≡ Some bridge_trace →
         ((done : Worker) × (bridge < length dones) × (slice_get dones bridge ≡ Some done) × (get_or dones bridge done ≡ done))
-        ⊎ ((length dones ≤ bridge) × (slice_get dones bridge ≡ None)) → links_of reel.tapes.items ≡ links_leaving t.domain bridge
-    links_at bridge reel there (inl w) =
-        let same : reel_at w.0 ≡ reel =
-        same_Some (reel_at w.0) reel (sym (slice_get-map reel_at dones bridge ∙ ap (option_map reel_at) w.2) ∙ there) in
-        ap (λ (r : Reel). links_of r.tapes.items) (sym same) ∙ (kept_part t cycles workers dones of_bridges worked bridge w.0 w.2).links
-    links_at bridge reel there (inr past) =
-        absurd (omega (arith, past.0, slice_get_within (map reel_at dones) bridge reel there, length-map dones reel_at))
+        ⊎ ((length dones ≤ bridge) × (slice_get dones bridge ≡ None)) → links_of bridge_trace.traces.items ≡ links_leaving t.domain bridge
+    links_at bridge bridge_trace there (inl w) =
+        let same : bridge_trace_at w.0 ≡ bridge_trace =
+        same_Some (bridge_trace_at w.0) bridge_trace (sym (slice_get-map bridge_trace_at dones bridge ∙ ap (option_map bridge_trace_at) w.2) ∙ there) in
+        ap (λ (r : BridgeTrace). links_of r.traces.items) (sym same) ∙ (kept_part t cycles workers dones of_bridges worked bridge w.0 w.2).links
+    links_at bridge bridge_trace there (inr past) =
+        absurd (omega (arith, past.0, slice_get_within (map bridge_trace_at dones) bridge bridge_trace there, length-map dones bridge_trace_at))
 
 -- ports that keep their wires are still of the pipes on their links
-still_on : (wiring : Wiring) (before after : List StretchPort) → wires_of after ≡ wires_of before → AreOn wiring before → AreOn wiring after
+still_on : (wiring : Wiring) (before after : List SegmentPort) → wires_of after ≡ wires_of before → AreOn wiring before → AreOn wiring after
 still_on wiring before after same on p there =
     let wire : Contains (wires_of before) (wire_at p) =
-    subst (λ (ws : List (ℕ × PipeId (Carried Stretch))). Contains ws (wire_at p)) same (contains_map wire_at after p there) in
+    subst (λ (ws : List (ℕ × PipeId (Carried Segment))). Contains ws (wire_at p)) same (contains_map wire_at after p there) in
     let was = contains_from_map wire_at before (wire_at p) wire in
     ap wiring (sym (ap link was.2)) ∙ on was.0 was.1 ∙ ap Some (ap pipe was.2)
   where
     -- a wire's link, and its pipe
-    link : ℕ × PipeId (Carried Stretch) → ℕ
+    link : ℕ × PipeId (Carried Segment) → ℕ
     link w = w.0
 
-    pipe : ℕ × PipeId (Carried Stretch) → PipeId (Carried Stretch)
+    pipe : ℕ × PipeId (Carried Segment) → PipeId (Carried Segment)
     pipe w = w.1
 
 -- so workers that are done are wired as they were

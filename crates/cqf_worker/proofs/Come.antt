@@ -24,25 +24,25 @@ use Rattle.cqf_model.specs.History.{Recorded, table_at, tables_of}
 use Rattle.cqf_model.specs.HistoryBook.{run_of_history}
 use Rattle.cqf_model.specs.Run.{Run}
 use Rattle.cqf_admission.specs.Tables.{CycleTable}
-use Rattle.cqf_tape.specs.Tapes.{mark_of_sent, starts_at}
+use Rattle.cqf_trace.specs.Traces.{mark_of_sent, starts_at}
 use Rattle.cqf_bridge.specs.Agenda.{offers_listed_at}
 use Rattle.cqf_laws_cycle.specs.Gathered.{offered_for}
 use Rattle.cqf_bridge.proofs.LinkNumbers.{link_listed, links_ascend}
 use Rattle.cqf_laws_account.specs.Sealing.{cycle_tables}
-use Rattle.cqf_tape.proofs.Leaving.{leaves_one}
-use Rattle.cqf_relay.specs.declared.moving.Stretch.{Stretch}
-use Rattle.cqf_relay.specs.Stretches.{AreNextStretches, Sendings, all_frames, batch_at, came_in, end_of_stretches}
+use Rattle.cqf_trace.proofs.Leaving.{leaves_one}
+use Rattle.cqf_relay.specs.declared.moving.Segment.{Segment}
+use Rattle.cqf_relay.specs.Segments.{AreNextSegments, Sendings, all_frames, batch_at, came_in, end_of_segments}
 use Rattle.cqf_relay.specs.Logs.{is_in}
 use Rattle.cqf_relay.specs.Standing.{Come, HasGoneOnBy, MayBeTables, is_onward, links_from, links_into, offers_in}
 use Rattle.cqf_laws_relay.specs.Following.{HasCome, HaveGone}
 use Rattle.cqf_worker_loops.specs.declared.carried.Carried.TheVariants.{Item}
 use Rattle.cqf_worker_loops.specs.declared.worker.Worker.{Worker}
 use Rattle.cqf_worker_loops.specs.Handing.{TableEnd}
-use Rattle.cqf_worker_loops.specs.Workers.{HasGoneThrough, HasPut, HasSentAll, MayHaveComeTo, Offering, StretchPort, Works}
-use Rattle.cqf_worker_loops.specs.Workers.{come_to, items_in, link_of, links_onward, rows_in, stretches_at, stretches_in}
+use Rattle.cqf_worker_loops.specs.Workers.{HasGoneThrough, HasPut, HasSentAll, MayHaveComeTo, Offering, SegmentPort, Works}
+use Rattle.cqf_worker_loops.specs.Workers.{come_to, items_in, link_of, links_onward, rows_in, segments_at, segments_in}
 use Rattle.cqf_worker.specs.Wires.{AreFedByWires, AreGiven, AreWorkersOf, IsBeginning, IsFed, pipe_of_tables, tables_pipe}
 use Rattle.cqf_worker.proofs.Apart.{chosen, element_at, kept_ins, kept_outs, kept_part}
-use Rattle.cqf_worker.proofs.Stretches.{begins_whole, ends_within, has_all_frames, items_all, items_begin, next_begin, next_by_links, of_member, stretches_there}
+use Rattle.cqf_worker.proofs.Segments.{begins_whole, ends_within, has_all_frames, items_all, items_begin, next_begin, next_by_links, of_member, segments_there}
 use Rattle.cqf_worker.proofs.Lacking.{ends_there, link_there}
 
 -- the rows of a history's tables
@@ -99,9 +99,9 @@ pub record HasSentBy (t : Offering) (number cycles : ℕ) (done : Worker) (sends
   pub gone : (l : ℕ) → leaves t.domain l number ≡ true → HasGoneOnBy t.domain number (come_to done) l (sends l)
   pub all : (l : ℕ) → leaves t.domain l number ≡ true → length (sends l) ≡ cycles
   pub put : (l cycle : ℕ) → leaves t.domain l number ≡ true → is_onward t.domain l ≡ true →
-      filter (is_in cycle) (all_frames (stretches_at done.outs.items l)) ≡ map (came_in t.domain l cycle) (batch_at (sends l) cycle)
+      filter (is_in cycle) (all_frames (segments_at done.outs.items l)) ≡ map (came_in t.domain l cycle) (batch_at (sends l) cycle)
   pub starts : (l : ℕ) → leaves t.domain l number ≡ true →
-      starts_at done.reel.tapes.items l ≡ map mark_of_sent (flat_map (λ (batch : List Sent). batch) (sends l))
+      starts_at done.bridge_trace.traces.items l ≡ map mark_of_sent (flat_map (λ (batch : List Sent). batch) (sends l))
 
 -- workers of all bridges of this traffic that are done, with their pipes closed, and the ends at which tables were put for each worker:
 -- those of the first cycles of a history
@@ -117,9 +117,9 @@ pub record HaveRun (t : Offering) (entries : List Recorded) (cycles : ℕ) (work
   pub put : (place : ℕ) (d : TableEnd) → place < length ends → (slice_index_or ends place d).items ≡ map Item (cycle_tables t.domain entries cycles)
 
 -- a port at which a worker takes, and what was put for it
-pub record IsPutFor (cycles : ℕ) (dones : List Worker) (p : StretchPort) : Type 0 where
+pub record IsPutFor (cycles : ℕ) (dones : List Worker) (p : SegmentPort) : Type 0 where
   pub fed : IsFed dones p
-  pub beginning : IsBeginning (stretches_in p) (stretches_in fed.out)
+  pub beginning : IsBeginning (segments_in p) (segments_in fed.out)
   pub put : HasPut cycles fed.out
 
 module _ (t : Offering) (entries : List Recorded) (cycles : ℕ) (workers dones : List Worker) (ends : List TableEnd)
@@ -153,7 +153,7 @@ module _ (t : Offering) (entries : List Recorded) (cycles : ℕ) (workers dones 
     outs_ascend = subst (AllPairs (λ (a b : ℕ). a < b)) (sym outs_links) (onward_ascend t.domain place)
 
     -- the link of a port at which it puts leaves its bridge, and ends in another bridge
-    leaves_it : (out : StretchPort) → Contains done.outs.items out → (leaves t.domain out.link place ≡ true) × (is_onward t.domain out.link ≡ true)
+    leaves_it : (out : SegmentPort) → Contains done.outs.items out → (leaves t.domain out.link place ≡ true) × (is_onward t.domain out.link ≡ true)
     leaves_it out held =
         let among : Contains (links_onward t.domain place) out.link =
         subst (λ (ls : List ℕ). Contains ls out.link) outs_links (contains_map link_of done.outs.items out held) in
@@ -161,7 +161,7 @@ module _ (t : Offering) (entries : List Recorded) (cycles : ℕ) (workers dones 
         ((kept_number (λ l. leaves t.domain l place) (length t.domain.links) out.link kept.0).1, kept.1)
 
     -- and each link that ends in its bridge has a port at which it takes
-    port_of : (m : ℕ) → enters t.domain m place ≡ true → (p : StretchPort) × Contains done.ins.items p × (p.link ≡ m)
+    port_of : (m : ℕ) → enters t.domain m place ≡ true → (p : SegmentPort) × Contains done.ins.items p × (p.link ≡ m)
     port_of m here =
         contains_from_map link_of done.ins.items m
         (subst (λ (ls : List ℕ). Contains ls m) (sym ins_links) (link_listed t.domain place m here))
@@ -190,7 +190,7 @@ module _ (t : Offering) (entries : List Recorded) (cycles : ℕ) (workers dones 
         ∙ gone_at.is_agenda cycle
 
   -- what was put for a port at which a worker takes
-  put_for : (place : ℕ) (done : Worker) (p : StretchPort) → slice_get dones place ≡ Some done → Contains done.ins.items p → IsPutFor cycles dones p
+  put_for : (place : ℕ) (done : Worker) (p : SegmentPort) → slice_get dones place ≡ Some done → Contains done.ins.items p → IsPutFor cycles dones p
   put_for place done p there held =
       let fed = run.fed done p (contains_at dones place done there) held in
       let source = place_of_member dones fed.from fed.of_workers in
@@ -203,8 +203,8 @@ module _ (t : Offering) (entries : List Recorded) (cycles : ℕ) (workers dones 
   -- so what arrived at a worker may arrive
   may_have_come : (place : ℕ) (done : Worker) → slice_get dones place ≡ Some done → MayHaveComeTo t done
   may_have_come place done there = record {
-    stretches = next_by_links done.ins.items (λ p held. (let put = put_for place done p there held in
-        next_begin 0 (stretches_in p) put.beginning.0 (subst (AreNextStretches 0) put.beginning.1 put.put.next)));
+    segments = next_by_links done.ins.items (λ p held. (let put = put_for place done p there held in
+        next_begin 0 (segments_in p) put.beginning.0 (subst (AreNextSegments 0) put.beginning.1 put.put.next)));
     tables = subst (MayBeTables t.domain) (sym (tables_are place done there)) run.may_come;
   }
 
@@ -233,27 +233,27 @@ module _ (t : Offering) (entries : List Recorded) (cycles : ℕ) (workers dones 
   all_come = come_of t (tables_of t.domain entries cycles) dones
 
   module _ (place : ℕ) (done : Worker) (there : slice_get dones place ≡ Some done) (m : ℕ) (here : enters t.domain m place ≡ true) where
-    port : (p : StretchPort) × Contains done.ins.items p × (p.link ≡ m)
+    port : (p : SegmentPort) × Contains done.ins.items p × (p.link ≡ m)
     port = port_of place done there m here
 
     put : IsPutFor cycles dones port.0
     put = put_for place done port.0 there port.1
 
     -- it arrived up to the last cycle
-    far : cycles ≤ end_of_stretches 0 (stretches_in port.0)
-    far = of_member (λ (p : StretchPort). cycles ≤ end_of_stretches 0 (stretches_in p)) done.ins.items port.0 (sent_all place done there).came port.1
+    far : cycles ≤ end_of_segments 0 (segments_in port.0)
+    far = of_member (λ (p : SegmentPort). cycles ≤ end_of_segments 0 (segments_in p)) done.ins.items port.0 (sent_all place done there).came port.1
 
-    stretches_here : stretches_at done.ins.items m ≡ stretches_in port.0
-    stretches_here =
-        ap (stretches_at done.ins.items) (sym port.2) ∙ stretches_there done.ins.items port.0 (ins_ascend place done there) port.1
+    segments_here : segments_at done.ins.items m ≡ segments_in port.0
+    segments_here =
+        ap (segments_at done.ins.items) (sym port.2) ∙ segments_there done.ins.items port.0 (ins_ascend place done there) port.1
 
     -- and no further
-    upto_so : end_of_stretches 0 (stretches_at done.ins.items m) ≡ cycles
+    upto_so : end_of_segments 0 (segments_at done.ins.items m) ≡ cycles
     upto_so =
-        let near : end_of_stretches 0 (stretches_in port.0) ≤ cycles =
-        ends_within cycles (stretches_in port.0) (stretches_in put.fed.out) put.beginning put.put.next put.put.ends in
-        let same : end_of_stretches 0 (stretches_in port.0) ≡ cycles = omega (arith, far, near) in
-        ap (end_of_stretches 0) stretches_here ∙ same
+        let near : end_of_segments 0 (segments_in port.0) ≤ cycles =
+        ends_within cycles (segments_in port.0) (segments_in put.fed.out) put.beginning put.put.next put.put.ends in
+        let same : end_of_segments 0 (segments_in port.0) ≡ cycles = omega (arith, far, near) in
+        ap (end_of_segments 0) segments_here ∙ same
 
     -- the worker that put it
     source : (k : ℕ) × (slice_get dones k ≡ Some put.fed.from)
@@ -267,18 +267,18 @@ module _ (t : Offering) (entries : List Recorded) (cycles : ℕ) (workers dones 
         subst (λ (l : ℕ). (leaves t.domain l source.0 ≡ true) × (is_onward t.domain l ≡ true)) same_link
         (leaves_it source.0 put.fed.from source.1 put.fed.out put.fed.at_worker)
 
-    stretches_put : stretches_at put.fed.from.outs.items m ≡ stretches_in put.fed.out
-    stretches_put =
-        ap (stretches_at put.fed.from.outs.items) (sym same_link)
-        ∙ stretches_there put.fed.from.outs.items put.fed.out (outs_ascend source.0 put.fed.from source.1) put.fed.at_worker
+    segments_put : segments_at put.fed.from.outs.items m ≡ segments_in put.fed.out
+    segments_put =
+        ap (segments_at put.fed.from.outs.items) (sym same_link)
+        ∙ segments_there put.fed.from.outs.items put.fed.out (outs_ascend source.0 put.fed.from source.1) put.fed.at_worker
 
     -- what the link brought is what it sent
-    brought_so : (cycle : ℕ) → filter (is_in cycle) (all_frames (stretches_at done.ins.items m)) ≡ map (came_in t.domain m cycle) (batch_at (all_sends m) cycle)
+    brought_so : (cycle : ℕ) → filter (is_in cycle) (all_frames (segments_at done.ins.items m)) ≡ map (came_in t.domain m cycle) (batch_at (all_sends m) cycle)
     brought_so cycle =
-        ap (λ (stretches : List Stretch). filter (is_in cycle) (all_frames stretches)) stretches_here
+        ap (λ (segments : List Segment). filter (is_in cycle) (all_frames segments)) segments_here
         ∙ ap (filter (is_in cycle))
-        (has_all_frames cycles (stretches_in port.0) (stretches_in put.fed.out) put.beginning put.put.next put.put.ends far)
-        ∙ ap (λ (stretches : List Stretch). filter (is_in cycle) (all_frames stretches)) (sym stretches_put)
+        (has_all_frames cycles (segments_in port.0) (segments_in put.fed.out) put.beginning put.put.next put.put.ends far)
+        ∙ ap (λ (segments : List Segment). filter (is_in cycle) (all_frames segments)) (sym segments_put)
         ∙ (sent_by source.0 put.fed.from source.1).put m cycle leaves_source.0 leaves_source.1
         ∙ ap (λ (b : ℕ). map (came_in t.domain m cycle) (batch_at (own_sends b m) cycle)) (sym (leaves_one t.domain m source.0 leaves_source.0))
 

@@ -23,7 +23,7 @@ use Rattle.cqf_model.specs.Domain.{Domain, IsAccepted, enters, leaves, node_is}
 use Rattle.cqf_relay.specs.Standing.{is_bridge, is_onward, links_from, links_into}
 use Rattle.cqf_bridge.proofs.LinkNumbers.{link_into, links_ascend}
 use Rattle.cqf_worker_loops.specs.declared.worker.Worker.{Worker}
-use Rattle.cqf_worker_loops.specs.Workers.{Offering, StretchPort, Works, link_of, links_onward}
+use Rattle.cqf_worker_loops.specs.Workers.{Offering, SegmentPort, Works, link_of, links_onward}
 use Rattle.cqf_worker.specs.Wires.{AreWorkersOf, count_on, ins_at, outs_at}
 use Rattle.cqf_worker.proofs.Apart.{element_at, kept_ins, kept_outs}
 
@@ -182,7 +182,7 @@ module _ (t : Offering) (cycles : ℕ) (workers dones : List Worker) (of_bridges
     (many : length workers ≡ length t.domain.bridges)
     (worked : AllZip (Works cycles) workers dones) where
   -- the link of a port at which a worker takes ends in its bridge
-  enters_its_worker : (place : ℕ) (done : Worker) (port : StretchPort) → slice_get dones place ≡ Some done → Contains done.ins.items port →
+  enters_its_worker : (place : ℕ) (done : Worker) (port : SegmentPort) → slice_get dones place ≡ Some done → Contains done.ins.items port →
       enters t.domain port.link place ≡ true
   enters_its_worker place done port there held =
       let among : Contains (links_into t.domain place) port.link =
@@ -192,7 +192,7 @@ module _ (t : Offering) (cycles : ℕ) (workers dones : List Worker) (of_bridges
 
   module _ (link : ℕ) where
     -- whether a port is of the link
-    abbrev is_on : StretchPort → Bool
+    abbrev is_on : SegmentPort → Bool
     is_on port = port.link == link
 
     -- a worker has at most one taking end of the link

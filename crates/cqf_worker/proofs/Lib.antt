@@ -5,10 +5,10 @@ mod Joining
 mod Notings
 mod Seating
 mod Preparing
-mod Stretches
+mod Segments
 mod Apart
 mod Come
-mod Taped
+mod Traced
 mod Accounts
 mod Lacking
 mod Told

@@ -3,14 +3,14 @@ use Rattle.std.proofs.Common.{ℕ, ◌≡◌, ◌+◌, List, inl, inr, map, ap, 
 use Rattle.std.specs.Prelude.{Err, IfErr, IsErrAnd, Ok, Result}
 use Rattle.cqf_model.specs.Domain.{Domain}
 use Rattle.cqf_admission.specs.Admission.{Administration}
-use Rattle.cqf_tape.specs.declared.reel.Reel.{Reel}
-use Rattle.cqf_tape.specs.Reels.{AreGatheredFrom}
+use Rattle.cqf_trace.specs.declared.bridge_trace.BridgeTrace.{BridgeTrace}
+use Rattle.cqf_trace.specs.BridgeTraces.{AreGatheredFrom}
 use Rattle.cqf_desk.specs.Closing.{IsClosed}
 use Rattle.cqf_desk.specs.Desk.{Counter, Sitting}
-use Rattle.cqf_worker.specs.declared.account.TapedAccount.{TapedAccount}
+use Rattle.cqf_worker.specs.declared.account.TracedAccount.{TracedAccount}
 use Rattle.cqf_worker.specs.declared.faults.ConductFault.{ConductFault}
 use Rattle.cqf_worker.specs.declared.threads.EndedRun.{EndedRun}
-use Rattle.cqf_worker.specs.Closing.{reel_at}
+use Rattle.cqf_worker.specs.Closing.{bridge_trace_at}
 use Rattle.cqf_worker.specs.Conducting.{IsDeskFault, IsPipeFault, IsSettleFault, IsSettled, all_seats}
 use Rattle.cqf_worker.specs.Wires.{AreFedByWires, AreGiven}
 
@@ -31,15 +31,15 @@ desk_is desk opening d many count is domain same =
     ∙ ap (λ (e : Domain). desk_of (record { domain = e; entries = opening.entries }) many) domain
     ∙ ap (λ (n : ℕ). desk_of (record { domain = d; entries = opening.entries }) n) same
 
--- the closed desk and the gathered tapes give the account of the run's seats and reels
-pub settled_so : (d : Domain) (desk : Counter) (e : EndedRun) (seats : List Sitting) (reels : List Reel) (account : TapedAccount) →
-    AreFedByWires e.workers.items → AreGiven e.sealed.tables.items e.workers.items → seats ≡ all_seats e → reels ≡ map reel_at e.workers.items →
-    IsClosed desk seats account.history → AreGatheredFrom d reels account.tapes → IsSettled d desk e account
-settled_so d desk e seats reels account fed given all own closed gathered = record {
+-- the closed desk and the gathered traces give the account of the run's seats and bridge traces
+pub settled_so : (d : Domain) (desk : Counter) (e : EndedRun) (seats : List Sitting) (bridge_traces : List BridgeTrace) (account : TracedAccount) →
+    AreFedByWires e.workers.items → AreGiven e.sealed.tables.items e.workers.items → seats ≡ all_seats e → bridge_traces ≡ map bridge_trace_at e.workers.items →
+    IsClosed desk seats account.history → AreGatheredFrom d bridge_traces account.traces → IsSettled d desk e account
+settled_so d desk e seats bridge_traces account fed given all own closed gathered = record {
   fed = fed;
   given = given;
   history = subst (λ (ss : List Sitting). IsClosed desk ss account.history) all closed;
-  gathered = subst (λ (rs : List Reel). AreGatheredFrom d rs account.tapes) own gathered;
+  gathered = subst (λ (rs : List BridgeTrace). AreGatheredFrom d rs account.traces) own gathered;
 }
 
 module _ (desk : Counter) (e : EndedRun) where

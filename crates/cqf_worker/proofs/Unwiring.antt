@@ -10,7 +10,7 @@ use Rattle.std.proofs.lemmas.List.Elements.{Contains-append_right, Contains-get_
 use Rattle.std.proofs.lemmas.List.Quantifiers.{position-Some}
 use Rattle.std.proofs.lemmas.Simd.{map-map}
 use Rattle.cqf_admission.specs.Tables.{CycleTable}
-use Rattle.cqf_relay.specs.declared.moving.Stretch.{Stretch}
+use Rattle.cqf_relay.specs.declared.moving.Segment.{Segment}
 use Rattle.cqf_lists.proofs.Members.{contains_flat, contains_from_flat, contains_here}
 use Rattle.cqf_lists.proofs.Places.{slice_get_behind, slice_get_front, slice_get_parts}
 use Rattle.cqf_worker_loops.specs.declared.carried.Carried.{Carried}
@@ -19,43 +19,43 @@ use Rattle.cqf_worker_loops.specs.declared.worker.Worker.{Worker}
 use Rattle.cqf_worker.specs.Closing.{AreFedBy, AreGivenBy, ArePartsOf, HasLostOne, IsFedBy, IsPartner, tables_at}
 use Rattle.cqf_worker_loops.specs.PipeEnds.{AreLeft, End, PipeId}
 use Rattle.cqf_worker.specs.Wires.{AreFedByWires, AreGiven, AreOn, IsOn, LackEnds, Wiring, count_on}
-use Rattle.cqf_worker_loops.specs.Workers.{StretchPort}
+use Rattle.cqf_worker_loops.specs.Workers.{SegmentPort}
 use Rattle.cqf_worker.specs.Wires.{ins_at, outs_at, pipe_of_tables, tables_pipe}
 
 -- the ends at all workers are of the pipes on their links
-pub on_links : (wiring : Wiring) (workers : List Worker) (ports : List StretchPort) (at : Worker → List StretchPort) → ports ≡ flat_map at workers →
+pub on_links : (wiring : Wiring) (workers : List Worker) (ports : List SegmentPort) (at : Worker → List SegmentPort) → ports ≡ flat_map at workers →
     ((w : Worker) → Contains workers w → AreOn wiring (at w)) → AreOn wiring ports
 on_links wiring workers ports at is each p there =
-    let w = contains_from_flat at workers p (subst (λ (ps : List StretchPort). Contains ps p) is there) in each w.0 w.1 p w.2
+    let w = contains_from_flat at workers p (subst (λ (ps : List SegmentPort). Contains ps p) is there) in each w.0 w.1 p w.2
 
 -- ends of one link are of one pipe
-pub of_one_pipe : (wiring : Wiring) (a b : StretchPort) → IsOn wiring a → IsOn wiring b → a.link ≡ b.link → a.pipe.pipe ≡ b.pipe.pipe
+pub of_one_pipe : (wiring : Wiring) (a b : SegmentPort) → IsOn wiring a → IsOn wiring b → a.link ≡ b.link → a.pipe.pipe ≡ b.pipe.pipe
 of_one_pipe wiring a b on_a on_b same = same_Some a.pipe.pipe b.pipe.pipe (sym on_a ∙ ap wiring same ∙ on_b)
 
 -- so a port and its partner are of one pipe
-pub partners_pipe : (wiring : Wiring) (ins outs left before rest : List StretchPort) (p : StretchPort) (end : End (Carried Stretch)) →
-    before ++ p ∷ rest ≡ ins → AreOn wiring ins → AreOn wiring outs → ((out : StretchPort) → Contains left out → Contains outs out) →
+pub partners_pipe : (wiring : Wiring) (ins outs left before rest : List SegmentPort) (p : SegmentPort) (end : End (Carried Segment)) →
+    before ++ p ∷ rest ≡ ins → AreOn wiring ins → AreOn wiring outs → ((out : SegmentPort) → Contains left out → Contains outs out) →
     IsPartner left p.link end → end.pipe ≡ p.pipe.pipe
 partners_pipe wiring ins outs left before rest p end is on_ins on_outs were partner =
-    let there : Contains ins p = subst (λ (ps : List StretchPort). Contains ps p) is (Contains-append_right before (p ∷ rest) p (contains_here p rest)) in
-    ap (λ (e : End (Carried Stretch)). e.pipe) (sym partner.is_end)
+    let there : Contains ins p = subst (λ (ps : List SegmentPort). Contains ps p) is (Contains-append_right before (p ∷ rest) p (contains_here p rest)) in
+    ap (λ (e : End (Carried Segment)). e.pipe) (sym partner.is_end)
     ∙ of_one_pipe wiring partner.out p (on_outs partner.out (were partner.out partner.there)) (on_ins p there) partner.of_link
 
 -- the first end of a link is one of the ends given
-pub partner_found : (outs : List StretchPort) (link place : ℕ) (found : StretchPort) → position (λ (out : StretchPort). out.link == link) outs ≡ Some place →
+pub partner_found : (outs : List SegmentPort) (link place : ℕ) (found : SegmentPort) → position (λ (out : SegmentPort). out.link == link) outs ≡ Some place →
     found ≡ get_or outs place found → IsPartner outs link found.pipe
 partner_found outs link place found at is =
-    let here = position-Some (λ (out : StretchPort). out.link == link) outs place found at in
+    let here = position-Some (λ (out : SegmentPort). out.link == link) outs place found at in
     record {
       out = found;
-      there = subst (λ (x : StretchPort). Contains outs x) (sym is) (Contains-get_or outs place found here.0);
-      of_link = eqb-true found.link link (ap (λ (x : StretchPort). x.link == link) is ∙ here.1);
+      there = subst (λ (x : SegmentPort). Contains outs x) (sym is) (Contains-get_or outs place found here.0);
+      of_link = eqb-true found.link link (ap (λ (x : SegmentPort). x.link == link) is ∙ here.1);
       is_end = refl;
     }
 
 -- one more port is fed, by an end among the others
-pub fed_more : (outs left ins : List StretchPort) (p : StretchPort) (end : End (Carried Stretch)) (count : ℕ) →
-    ((out : StretchPort) → Contains left out → Contains outs out) → IsPartner left p.link end → AreLeft end.items p.pipe.items count →
+pub fed_more : (outs left ins : List SegmentPort) (p : SegmentPort) (end : End (Carried Segment)) (count : ℕ) →
+    ((out : SegmentPort) → Contains left out → Contains outs out) → IsPartner left p.link end → AreLeft end.items p.pipe.items count →
     AreFedBy outs ins → AreFedBy outs (ins ++ p ∷ [])
 fed_more outs left ins p end count were partner closed so q there = elim (Contains-push_cases ins p q there) [
   | inl h ↦ so q h
@@ -63,15 +63,15 @@ fed_more outs left ins p end count were partner closed so q there = elim (Contai
     out = partner.out;
     there = were partner.out partner.there;
     of_link = partner.of_link;
-    beginning = (closed.0, ap (λ (x : End (Carried Stretch)). x.items) partner.is_end ∙ closed.1);
+    beginning = (closed.0, ap (λ (x : End (Carried Segment)). x.items) partner.is_end ∙ closed.1);
   })
 ]
 
 -- the ports of all workers are fed
 pub all_fed : (workers : List Worker) (parts : Parts) → ArePartsOf workers parts → AreFedBy parts.outs.items parts.ins.items → AreFedByWires workers
 all_fed workers parts so fed w p of_workers there =
-    let f = fed p (subst (λ (ps : List StretchPort). Contains ps p) (sym so.all_ins) (contains_flat ins_at workers w p of_workers there)) in
-    let from = contains_from_flat outs_at workers f.out (subst (λ (ps : List StretchPort). Contains ps f.out) so.all_outs f.there) in
+    let f = fed p (subst (λ (ps : List SegmentPort). Contains ps p) (sym so.all_ins) (contains_flat ins_at workers w p of_workers there)) in
+    let from = contains_from_flat outs_at workers f.out (subst (λ (ps : List SegmentPort). Contains ps f.out) so.all_outs f.there) in
     record { from = from.0; out = f.out; of_workers = from.1; at_worker = from.2; same_link = f.of_link; beginning = f.beginning }
 
 -- the tables that all workers took are those put for them
@@ -150,30 +150,30 @@ no_place p xs none = elim (cases_lt (position_or_len p xs) (length xs)) [
     never k e = absurd cc
 
 -- one end of its link fewer
-pub one_lost : (outs after : List StretchPort) (link place : ℕ) (d : StretchPort) → position (λ (out : StretchPort). out.link == link) outs ≡ Some place →
+pub one_lost : (outs after : List SegmentPort) (link place : ℕ) (d : SegmentPort) → position (λ (out : SegmentPort). out.link == link) outs ≡ Some place →
     after ≡ remove outs place → HasLostOne link outs after
 one_lost outs after link place d at is other =
-    let here = position-Some (λ (out : StretchPort). out.link == link) outs place d at in
+    let here = position-Some (λ (out : SegmentPort). out.link == link) outs place d at in
     let gone : (if (get_or outs place d).link == other then 1 else 0) ≡ (if link == other then 1 else 0) =
     ap (λ k. if k == other then 1 else 0) (eqb-true (get_or outs place d).link link here.1) in
-    sym (sum_by-remove (λ (p : StretchPort). if p.link == other then 1 else 0) outs place d here.0)
+    sym (sum_by-remove (λ (p : SegmentPort). if p.link == other then 1 else 0) outs place d here.0)
     ∙ ap (λ n. count_on other (remove outs place) + n) gone
-    ∙ ap (λ (ps : List StretchPort). count_on other ps + (if link == other then 1 else 0)) (sym is)
+    ∙ ap (λ (ps : List SegmentPort). count_on other ps + (if link == other then 1 else 0)) (sym is)
 
 -- for each link, the ends that are left and the ports that are fed are as many as the ends given
-pub counted_more : (outs left after ins : List StretchPort) (p : StretchPort) → ((link : ℕ) → count_on link outs ≡ count_on link left + count_on link ins) →
+pub counted_more : (outs left after ins : List SegmentPort) (p : SegmentPort) → ((link : ℕ) → count_on link outs ≡ count_on link left + count_on link ins) →
     HasLostOne p.link left after → (link : ℕ) → count_on link outs ≡ count_on link after + count_on link (ins ++ p ∷ [])
 counted_more outs left after ins p so lost link =
-    let f : StretchPort → ℕ = λ q. if q.link == link then 1 else 0 in
+    let f : SegmentPort → ℕ = λ q. if q.link == link then 1 else 0 in
     let one : count_on link (p ∷ []) ≡ f p + 0 = sum_by-cons f p [] in
     let more : count_on link (ins ++ p ∷ []) ≡ count_on link ins + count_on link (p ∷ []) = sum_by-append f ins (p ∷ []) in
     omega (arith, so link, lost link, one, more)
 
 -- if none is left for a port, its link lacks an end
-pub end_lacks : (outs left ins before rest : List StretchPort) (p : StretchPort) → before ++ p ∷ rest ≡ ins →
+pub end_lacks : (outs left ins before rest : List SegmentPort) (p : SegmentPort) → before ++ p ∷ rest ≡ ins →
     ((link : ℕ) → count_on link outs ≡ count_on link left + count_on link before) → count_on p.link left ≡ 0 → LackEnds ins outs
 end_lacks outs left ins before rest p is so none =
-    let f : StretchPort → ℕ = λ q. if q.link == p.link then 1 else 0 in
+    let f : SegmentPort → ℕ = λ q. if q.link == p.link then 1 else 0 in
     let own : f p ≡ 1 = cond-true (p.link == p.link) 1 0 (eq-eqb p.link p.link refl) in
     let all : count_on p.link ins ≡ count_on p.link before + (1 + count_on p.link rest) =
     ap (count_on p.link) (sym is)

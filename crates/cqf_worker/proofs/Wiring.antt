@@ -15,7 +15,7 @@ use Rattle.cqf_lists.proofs.EachBelow.{contains_from_below}
 use Rattle.cqf_lists.proofs.Made.{contains_if_there}
 use Rattle.cqf_lists.proofs.Members.{all_from_members, contains_from_filter, contains_map, contains_one}
 use Rattle.cqf_admission.specs.Tables.{CycleTable}
-use Rattle.cqf_relay.specs.declared.moving.Stretch.{Stretch}
+use Rattle.cqf_relay.specs.declared.moving.Segment.{Segment}
 use Rattle.cqf_relay.specs.Standing.{is_bridge, is_onward}
 use Rattle.cqf_model.specs.declared.topology.Link.{Link}
 use Rattle.cqf_model.specs.declared.topology.Node.TheVariants.{Bridge, Station}
@@ -27,7 +27,7 @@ use Rattle.cqf_worker.specs.Laying.{AreBare, AreLaidWires, ArePorts, HasCycles, 
 use Rattle.cqf_worker.specs.Laying.{LaysLink, LaysPipe, cycles_at, first_into, first_onward}
 use Rattle.cqf_worker_loops.specs.PipeEnds.{End, PipeId}
 use Rattle.cqf_worker.specs.Wires.{AreOn, AreWired, AreWorkersOf, IsOn, Wiring, pipe_of_tables, tables_pipe}
-use Rattle.cqf_worker_loops.specs.Workers.{IsUnused, IsWorkerOf, MayWork, Offering, StretchPort, link_of}
+use Rattle.cqf_worker_loops.specs.Workers.{IsUnused, IsWorkerOf, MayWork, Offering, SegmentPort, link_of}
 
 -- a fact about each element and its index
 abbrev pub EachAt : {X : Type 0} → (ℕ → X → Type 0) → List X → Type 0
@@ -113,19 +113,19 @@ onward_ended d bridge link none =
     dropped false = refl
 
 -- one more pipe is on a link
-abbrev pub with_pipe : Wiring → ℕ → PipeId (Carried Stretch) → Wiring
+abbrev pub with_pipe : Wiring → ℕ → PipeId (Carried Segment) → Wiring
 with_pipe wiring link id l = if l == link then Some id else wiring l
 
 -- no port
-no_ports : (wiring : Wiring) (ports : List StretchPort) → ports ≡ [] → ArePorts wiring [] ports
+no_ports : (wiring : Wiring) (ports : List SegmentPort) → ports ≡ [] → ArePorts wiring [] ports
 no_ports wiring ports none = record {
   of_links = ap (map link_of) none;
-  unused = λ p c. absurd (omega (arith, (subst (λ (ps : List StretchPort). Contains ps p) none c).1));
-  wired = λ p c. absurd (omega (arith, (subst (λ (ps : List StretchPort). Contains ps p) none c).1));
+  unused = λ p c. absurd (omega (arith, (subst (λ (ps : List SegmentPort). Contains ps p) none c).1));
+  wired = λ p c. absurd (omega (arith, (subst (λ (ps : List SegmentPort). Contains ps p) none c).1));
 }
 
 -- ports of other links are unchanged
-ports_rewired : (wiring more : Wiring) (links : List ℕ) (ports : List StretchPort) → ((l : ℕ) → Contains links l → more l ≡ wiring l) →
+ports_rewired : (wiring more : Wiring) (links : List ℕ) (ports : List SegmentPort) → ((l : ℕ) → Contains links l → more l ≡ wiring l) →
     ArePorts wiring links ports → ArePorts more links ports
 ports_rewired wiring more links ports same so = record {
   of_links = so.of_links;
@@ -134,22 +134,22 @@ ports_rewired wiring more links ports same so = record {
 }
 
 -- one port more
-ports_more : (wiring : Wiring) (links : List ℕ) (ports after : List StretchPort) (p : StretchPort) → ArePorts wiring links ports → after ≡ ports ++ p ∷ [] →
+ports_more : (wiring : Wiring) (links : List ℕ) (ports after : List SegmentPort) (p : SegmentPort) → ArePorts wiring links ports → after ≡ ports ++ p ∷ [] →
     IsUnused p → IsOn wiring p → ArePorts wiring (links ++ p.link ∷ []) after
 ports_more wiring links ports after p so more mine on = record {
   of_links = ap (map link_of) more ∙ map-append link_of ports (p ∷ []) ∙ ap (λ ls. ls ++ p.link ∷ []) so.of_links;
-  unused = λ q c. elim (Contains-push_cases ports p q (subst (λ (ps : List StretchPort). Contains ps q) more c)) [
+  unused = λ q c. elim (Contains-push_cases ports p q (subst (λ (ps : List SegmentPort). Contains ps q) more c)) [
     | inl h ↦ so.unused q h
     | inr e ↦ subst IsUnused e mine
   ];
-  wired = λ q c. elim (Contains-push_cases ports p q (subst (λ (ps : List StretchPort). Contains ps q) more c)) [
+  wired = λ q c. elim (Contains-push_cases ports p q (subst (λ (ps : List SegmentPort). Contains ps q) more c)) [
     | inl h ↦ so.wired q h
     | inr e ↦ subst (IsOn wiring) e on
   ];
 }
 
 -- workers are unchanged, for any pipe on the next link
-rewired : (t : Offering) (wiring : Wiring) (id : PipeId (Carried Stretch)) (link number : ℕ) (w : Worker) → IsLaid t wiring link link number w →
+rewired : (t : Offering) (wiring : Wiring) (id : PipeId (Carried Segment)) (link number : ℕ) (w : Worker) → IsLaid t wiring link link number w →
     IsLaid t (with_pipe wiring link id) link link number w
 rewired t wiring id link number w so = record {
   ready = so.ready;
@@ -173,7 +173,7 @@ out_other t wiring link number w none so = record {
 }
 
 -- a link whose putting end the worker got
-out_own : (t : Offering) (wiring : Wiring) (link number : ℕ) (before after : Worker) (p : StretchPort) → HasOut before after p → p.link ≡ link → IsUnused p →
+out_own : (t : Offering) (wiring : Wiring) (link number : ℕ) (before after : Worker) (p : SegmentPort) → HasOut before after p → p.link ≡ link → IsUnused p →
     IsOn wiring p → leaves t.domain link number ≡ true → is_onward t.domain link ≡ true → IsLaid t wiring link link number before →
     IsLaid t wiring link (suc link) number after
 out_own t wiring link number before after p has of_link mine on begins ends so =
@@ -205,7 +205,7 @@ in_other t wiring link number w none so = record {
 }
 
 -- a link whose taking end the worker got
-in_own : (t : Offering) (wiring : Wiring) (link number : ℕ) (before after : Worker) (p : StretchPort) → HasIn before after p → p.link ≡ link → IsUnused p →
+in_own : (t : Offering) (wiring : Wiring) (link number : ℕ) (before after : Worker) (p : SegmentPort) → HasIn before after p → p.link ≡ link → IsUnused p →
     IsOn wiring p → enters t.domain link number ≡ true → IsLaid t wiring link (suc link) number before → IsLaid t wiring (suc link) (suc link) number after
 in_own t wiring link number before after p has of_link mine on ends so =
     let more : ArePorts wiring (first_into t.domain number (suc link)) after.ins.items =
@@ -236,7 +236,7 @@ none_wanted t wiring link number w none ended so = record {
 }
 
 -- a pipe is laid: one worker has the putting end, the other one the taking end
-pub pipe_laid : (workers : List Worker) (link from to : ℕ) (x y v w : Worker) (out into : StretchPort) → from < length workers → to < length workers →
+pub pipe_laid : (workers : List Worker) (link from to : ℕ) (x y v w : Worker) (out into : SegmentPort) → from < length workers → to < length workers →
     x ≡ get_or workers from x → HasOut x y out → v ≡ get_or (set workers from y) to v → HasIn v w into → out.link ≡ link → into.link ≡ link →
     IsUnused out → IsUnused into → out.pipe.pipe ≡ into.pipe.pipe → LaysPipe link from to workers (set (set workers from y) to w)
 pipe_laid workers link from to x y v w out into from_inside to_inside x_is has_out v_is has_in out_link into_link out_unused into_unused
@@ -261,7 +261,7 @@ pipe_laid workers link from to x y v w out into from_inside to_inside x_is has_o
     (more, subst (λ k. AreLaidWires t more k k (set (set workers from y) to w)) (sym (add-one link)) third)
 
 -- the same, if the indices are given as other numbers
-pub pipe_laid_at : (workers : List Worker) (link from to a b : ℕ) (x y v w : Worker) (out into : StretchPort) → a ≡ from → b ≡ to → from < length workers →
+pub pipe_laid_at : (workers : List Worker) (link from to a b : ℕ) (x y v w : Worker) (out into : SegmentPort) → a ≡ from → b ≡ to → from < length workers →
     to < length workers → x ≡ get_or workers a x → HasOut x y out → v ≡ get_or (set workers a y) b v → HasIn v w into → out.link ≡ link →
     into.link ≡ link → IsUnused out → IsUnused into → out.pipe.pipe ≡ into.pipe.pipe → LaysPipe link from to workers (set (set workers a y) b w)
 pipe_laid_at workers link from to a b x y v w out into is_from is_to from_inside to_inside x_is has_out v_is has_in out_link into_link

@@ -10,9 +10,9 @@ use Rattle.cqf_laws_cycle.specs.PageLaws.{IsSomeBook}
 use Rattle.cqf_admission.specs.declared.entries.Command.{Command}
 use Rattle.cqf_admission.specs.Admission.{recorded_of}
 use Rattle.cqf_desk.specs.declared.history.History.{History}
-use Rattle.cqf_tape.specs.Tapes.{AreTapesOf}
+use Rattle.cqf_trace.specs.Traces.{AreTracesOf}
 use Rattle.cqf_worker.specs.declared.account.Account.{Account}
-use Rattle.cqf_worker.specs.declared.account.TapedAccount.{TapedAccount}
+use Rattle.cqf_worker.specs.declared.account.TracedAccount.{TracedAccount}
 use Rattle.cqf_worker_loops.specs.Commands.{acts_asked}
 
 -- what each administrator's commands request
@@ -35,10 +35,10 @@ abbrev pub IsAccount : Domain → List Recorded → List Offer → List Backgrou
 IsAccount d opening offers background cycles admins account =
     IsOutcomeOf d opening offers background cycles admins account.history (contents_of account.book)
 
--- an account by tapes has such a history, and its tapes are those of such a book, link by link
-pub record IsTapedAccount (d : Domain) (opening : List Recorded) (offers : List Offer) (background : List Background) (cycles : ℕ)
-    (admins : List (List Command)) (account : TapedAccount) : Type 0 where
+-- an account by traces has such a history, and its traces are those of such a book, link by link
+pub record IsTracedAccount (d : Domain) (opening : List Recorded) (offers : List Offer) (background : List Background) (cycles : ℕ)
+    (admins : List (List Command)) (account : TracedAccount) : Type 0 where
   pub book : Contents
   pub run : IsOutcomeOf d opening offers background cycles admins account.history book
   pub some : IsSomeBook d cycles book
-  pub its_tapes : AreTapesOf d account.tapes book
+  pub its_traces : AreTracesOf d account.traces book

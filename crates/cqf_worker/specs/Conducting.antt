@@ -5,12 +5,12 @@ use Rattle.cqf_model.specs.declared.frames.Offer.{Offer}
 use Rattle.cqf_model.specs.Domain.{Domain}
 use Rattle.cqf_model.specs.History.{Recorded}
 use Rattle.cqf_admission.specs.declared.entries.Command.{Command}
-use Rattle.cqf_tape.specs.declared.reel.Reel.{Reel}
-use Rattle.cqf_tape.specs.Reels.{AreGatheredFrom}
+use Rattle.cqf_trace.specs.declared.bridge_trace.BridgeTrace.{BridgeTrace}
+use Rattle.cqf_trace.specs.BridgeTraces.{AreGatheredFrom}
 use Rattle.cqf_desk.specs.declared.faults.CloseFault.TheVariants as closing
 use Rattle.cqf_desk.specs.Closing.{IsCloseFault, IsClosed}
 use Rattle.cqf_desk.specs.Desk.{Counter, Sitting, fresh_seats}
-use Rattle.cqf_worker.specs.declared.account.TapedAccount.{TapedAccount}
+use Rattle.cqf_worker.specs.declared.account.TracedAccount.{TracedAccount}
 use Rattle.cqf_worker.specs.declared.conducting.PreparedRun.{PreparedRun}
 use Rattle.cqf_worker.specs.Failing.{desk_of_run}
 use Rattle.cqf_worker.specs.declared.faults.ConductFault.{ConductFault}
@@ -18,7 +18,7 @@ use Rattle.cqf_worker.specs.declared.faults.ConductFault.TheVariants as conduct
 use Rattle.cqf_worker.specs.declared.threads.Administrator.{Administrator}
 use Rattle.cqf_worker.specs.declared.threads.EndedRun.{EndedRun}
 use Rattle.cqf_worker_loops.specs.declared.worker.Worker.{Worker}
-use Rattle.cqf_worker.specs.Closing.{reel_at}
+use Rattle.cqf_worker.specs.Closing.{bridge_trace_at}
 use Rattle.cqf_worker_loops.specs.Handing.{TableEnd}
 use Rattle.cqf_worker_loops.specs.Workers.{MayWork}
 use Rattle.cqf_worker.specs.Laying.{traffic_of}
@@ -57,11 +57,11 @@ pub record IsPrepared (d : Domain) (opening : List Recorded) (offers : List Offe
 abbrev pub all_seats : EndedRun → List Sitting
 all_seats e = e.seats.items ++ e.sealed.seat ∷ []
 
--- all pipes are closed: what was taken from each is a prefix of what was put there, and the reels are those of the workers
-pub record AreShut (ends : List TableEnd) (those : List Worker) (reels : List Reel) : Type 0 where
+-- all pipes are closed: what was taken from each is a prefix of what was put there, and the bridge traces are those of the workers
+pub record AreShut (ends : List TableEnd) (those : List Worker) (bridge_traces : List BridgeTrace) : Type 0 where
   pub fed : AreFedByWires those
   pub given : AreGiven ends those
-  pub own : reels ≡ map reel_at those
+  pub own : bridge_traces ≡ map bridge_trace_at those
 
 -- there is such a fault other than an allocation failure
 abbrev pub KeepsOpen : {F : Type 0} → F → (F → Type 0) → Type 0
@@ -76,13 +76,13 @@ abbrev pub IsPipeFault : List Worker → ConductFault → Type 0
 IsPipeFault those fault =
     (fault ≡ conduct.Memory) ⊎ ((fault ≡ conduct.ChannelLost) × LackEnds (flat_map ins_at those) (flat_map outs_at those))
 
--- the run's pipes and desk are closed and its tapes gathered: what was taken from each pipe is a prefix of what was put there, the history
--- is that of the seats, and the tapes are those of the workers' reels
-pub record IsSettled (d : Domain) (desk : Counter) (e : EndedRun) (account : TapedAccount) : Type 0 where
+-- the run's pipes and desk are closed and its traces gathered: what was taken from each pipe is a prefix of what was put there, the history
+-- is that of the seats, and the traces are those of the workers' bridge traces
+pub record IsSettled (d : Domain) (desk : Counter) (e : EndedRun) (account : TracedAccount) : Type 0 where
   pub fed : AreFedByWires e.workers.items
   pub given : AreGiven e.sealed.tables.items e.workers.items
   pub history : IsClosed desk (all_seats e) account.history
-  pub gathered : AreGatheredFrom d (map reel_at e.workers.items) account.tapes
+  pub gathered : AreGatheredFrom d (map bridge_trace_at e.workers.items) account.traces
 
 -- why a run that has ended isn't closed: an allocation fails, some link has fewer putting than taking ends, or its desk can't be closed
 -- with its seats for a cause other than memory

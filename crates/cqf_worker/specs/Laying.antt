@@ -7,7 +7,7 @@ use Rattle.cqf_relay.specs.Sending.{IsTidy}
 use Rattle.cqf_relay.specs.Standing.{StandsSo, is_onward, nothing_yet}
 use Rattle.cqf_worker_loops.specs.declared.worker.Worker.{Worker}
 use Rattle.cqf_worker.specs.Wires.{IsOn, Wiring}
-use Rattle.cqf_worker_loops.specs.Workers.{HasItsOffers, IsUnused, Offering, StretchPort, link_of}
+use Rattle.cqf_worker_loops.specs.Workers.{HasItsOffers, IsUnused, Offering, SegmentPort, link_of}
 
 -- a domain with the offers at its bridges
 abbrev pub traffic_of : Domain → List Offer → Offering
@@ -21,10 +21,10 @@ abbrev pub first_onward : Domain → ℕ → ℕ → List ℕ
 first_onward d bridge count = filter (is_onward d) (each_below (λ l. if leaves d l bridge then l ∷ [] else []) count)
 
 -- ports of these links, in order, each of the pipe on its link, at which nothing was put or taken
-pub record ArePorts (wiring : Wiring) (links : List ℕ) (ports : List StretchPort) : Type 0 where
+pub record ArePorts (wiring : Wiring) (links : List ℕ) (ports : List SegmentPort) : Type 0 where
   pub of_links : map link_of ports ≡ links
-  pub unused : (p : StretchPort) → Contains ports p → IsUnused p
-  pub wired : (p : StretchPort) → Contains ports p → IsOn wiring p
+  pub unused : (p : SegmentPort) → Contains ports p → IsUnused p
+  pub wired : (p : SegmentPort) → Contains ports p → IsOn wiring p
 
 -- how many cycles a worker has to go through
 abbrev pub cycles_at : Worker → ℕ
@@ -63,11 +63,11 @@ AreLaidWires t wiring into onward workers =
     (number : ℕ) (x : Worker) → number < length workers → IsLaid t wiring into onward number (slice_index_or workers number x)
 
 -- a worker got one more port at which it puts, or takes
-pub record HasOut (before after : Worker) (port : StretchPort) : Type 0 where
+pub record HasOut (before after : Worker) (port : SegmentPort) : Type 0 where
   pub same : after ≡ record before { outs = after.outs }
   pub more : after.outs.items ≡ before.outs.items ++ port ∷ []
 
-pub record HasIn (before after : Worker) (port : StretchPort) : Type 0 where
+pub record HasIn (before after : Worker) (port : SegmentPort) : Type 0 where
   pub same : after ≡ record before { ins = after.ins }
   pub more : after.ins.items ≡ before.ins.items ++ port ∷ []
 

@@ -2,7 +2,7 @@
 
 use cqf_desk::History;
 use cqf_model::Book;
-use cqf_tape::Tapes;
+use cqf_trace::Traces;
 
 /// The result of a run on threads: the history of all calls, and the book of every transmission and drop.
 #[derive(Debug, Drop)]
@@ -11,9 +11,9 @@ pub struct Account {
     pub book: Book,
 }
 
-/// The same with the book's tapes, as the bridges kept them: for each link what it sent, and for each bridge what it dropped.
+/// The same with the book's traces, as the bridges kept them: for each link what it sent, and for each bridge what it dropped.
 #[derive(Debug, Drop)]
-pub struct TapedAccount {
+pub struct TracedAccount {
     pub history: History,
-    pub tapes: Tapes,
+    pub traces: Traces,
 }

@@ -1,8 +1,8 @@
 //! Closing the pipes of a run after its threads have ended.
 ghost use Rattle.std.specs.Prelude.{◌≡◌, ◌==◌, ◌++◌, Contains, IfNone, IfOk, IfSome, IsErrOf, OnErr, OnOk, map};
 ghost use Rattle.std.specs.List.{flat_map, position};
-ghost use Rattle.cqf_worker.specs.Closing.{AreFedBy, AreGivenBy, ArePartsOf, HasLostOne, HaveMore, IsPartner, reel_at};
-ghost use Rattle.cqf_worker_loops.specs.Workers.{StretchPort};
+ghost use Rattle.cqf_worker.specs.Closing.{AreFedBy, AreGivenBy, ArePartsOf, HasLostOne, HaveMore, IsPartner, bridge_trace_at};
+ghost use Rattle.cqf_worker_loops.specs.Workers.{SegmentPort};
 ghost use Rattle.cqf_worker.specs.Wires.{
   AreFedByWires,
   AreGiven,
@@ -18,8 +18,8 @@ ghost use Rattle.cqf_worker.specs.Wires.{
 };
 
 use cqf_admission::Table;
-use cqf_relay::Stretch;
-use cqf_tape::Reel;
+use cqf_relay::Segment;
+use cqf_trace::BridgeTrace;
 use cqf_units::Memory;
 use cqf_worker_loops::{Carried, LinkEnd, PipeIn, PipeOut, Worker};
 use std::alloc::Global;
@@ -44,13 +44,13 @@ impl From<Memory> for ClosingFault {
     }
 }
 
-/// The parts of workers: their ends on links, worker by worker, and one table end and one reel per worker.
+/// The parts of workers: their ends on links, worker by worker, and one table end and one bridge trace per worker.
 #[derive(Drop)]
 struct Parts {
-    ins: Vec<LinkEnd<PipeOut<Carried<Stretch>>>>,
-    outs: Vec<LinkEnd<PipeIn<Carried<Stretch>>>>,
+    ins: Vec<LinkEnd<PipeOut<Carried<Segment>>>>,
+    outs: Vec<LinkEnd<PipeIn<Carried<Segment>>>>,
     tables: Vec<PipeOut<Carried<Table>>>,
-    reels: Vec<Reel>,
+    bridge_traces: Vec<BridgeTrace>,
 }
 
 /// Appends items to a list.
@@ -69,17 +69,17 @@ fn add_parts(parts: &mut Parts, worker: Worker) -> Result<(), Memory>
 {
     let Worker {
         relay: _relay,
-        bell: _bell,
+        notifier: _notifier,
         agenda: _agenda,
         tables,
         ins,
         outs,
-        reel,
+        bridge_trace,
     } = worker;
     append(&mut parts.ins, ins)?;
     append(&mut parts.outs, outs)?;
     parts.tables.push(tables)?;
-    parts.reels.push(reel)?;
+    parts.bridge_traces.push(bridge_trace)?;
     Ok(())
 }
 
@@ -91,7 +91,7 @@ fn take_apart(alloc: Global, workers: Vec<Worker>) -> Result<Parts, Memory>
         ins: Vec::new(alloc),
         outs: Vec::new(alloc),
         tables: Vec::new(alloc),
-        reels: Vec::new(alloc),
+        bridge_traces: Vec::new(alloc),
     };
     for worker in workers {
         add_parts(&mut parts, worker)?;
@@ -100,19 +100,19 @@ fn take_apart(alloc: Global, workers: Vec<Worker>) -> Result<Parts, Memory>
 }
 
 /// Returns the index of the first putting end of a link.
-fn place_of(outs: &[LinkEnd<PipeIn<Carried<Stretch>>>], link: u16) -> Option<usize>
-    ensures { result ≡ position (λ (out : StretchPort). out.link == link) outs.now }
+fn place_of(outs: &[LinkEnd<PipeIn<Carried<Segment>>>], link: u16) -> Option<usize>
+    ensures { result ≡ position (λ (out : SegmentPort). out.link == link) outs.now }
 {
     outs.iter().position(|out| out.link == link)
 }
 
 /// Removes the first putting end of a link from a list and returns it.
 fn take_partner(
-    outs: &mut Vec<LinkEnd<PipeIn<Carried<Stretch>>>>,
+    outs: &mut Vec<LinkEnd<PipeIn<Carried<Segment>>>>,
     link: u16,
-) -> Option<PipeIn<Carried<Stretch>>>
+) -> Option<PipeIn<Carried<Segment>>>
     ensures some { IfSome result (λ end. IsPartner outs.old.items link end) }
-    ensures rest { (out : StretchPort) → Contains outs.new.items out → Contains outs.old.items out }
+    ensures rest { (out : SegmentPort) → Contains outs.new.items out → Contains outs.old.items out }
     ensures one { IfSome result (λ end. HasLostOne link outs.old.items outs.new.items) }
     ensures none { IfNone result (count_on link outs.old.items ≡ 0) }
 {
@@ -124,8 +124,8 @@ fn take_partner(
 
 /// Closes the pipes on links, each with its two ends.
 fn close_links(
-    ins: Vec<LinkEnd<PipeOut<Carried<Stretch>>>>,
-    outs: Vec<LinkEnd<PipeIn<Carried<Stretch>>>>,
+    ins: Vec<LinkEnd<PipeOut<Carried<Segment>>>>,
+    outs: Vec<LinkEnd<PipeIn<Carried<Segment>>>>,
 ) -> Result<(), ClosingFault>
     requires { (wiring : Wiring) × AreOn wiring ins.items × AreOn wiring outs.items }
     ensures fed { OnOk result (AreFedBy outs.items ins.items) }
@@ -156,19 +156,19 @@ fn close_tables(ins: Vec<PipeIn<Carried<Table>>>, outs: Vec<PipeOut<Carried<Tabl
 }
 
 /// Closes all pipes of a run after its threads have ended: those on links between bridges, whose ends the workers have, and those for
-/// tables, whose putting ends are given by worker number. Returns the workers' reels, by worker number. The workers' ends must be of the
+/// tables, whose putting ends are given by worker number. Returns the workers' bridge traces, by worker number. The workers' ends must be of the
 /// pipe on their link, and the ends for tables of the workers' pipes, as `lay` returns them. Returns `Memory` if an allocation fails, and
-/// `ChannelLost` if some link has fewer putting than taking ends; the ends and reels are then dropped. It doesn't block.
+/// `ChannelLost` if some link has fewer putting than taking ends; the ends and bridge traces are then dropped. It doesn't block.
 pub fn close_pipes(
     alloc: Global,
     tables: Vec<PipeIn<Carried<Table>>>,
     workers: Vec<Worker>,
-) -> Result<Vec<Reel>, ClosingFault>
+) -> Result<Vec<BridgeTrace>, ClosingFault>
     requires wired { (wiring : Wiring) × AreWired wiring workers.items }
     requires tables { map pipe_of_tables tables.items ≡ map tables_pipe workers.items }
     ensures fed { OnOk result (AreFedByWires workers.items) }
     ensures given { OnOk result (AreGiven tables.items workers.items) }
-    ensures reels { IfOk result (λ reels. reels.items ≡ map reel_at workers.items) }
+    ensures bridge_traces { IfOk result (λ bridge_traces. bridge_traces.items ≡ map bridge_trace_at workers.items) }
     ensures lost { IsErrOf result ClosingFault.ChannelLost → LackEnds (flat_map ins_at workers.items) (flat_map outs_at workers.items) }
 {
     let parts = take_apart(alloc, workers)?;
@@ -176,9 +176,9 @@ pub fn close_pipes(
         ins,
         outs,
         tables: takings,
-        reels,
+        bridge_traces,
     } = parts;
     close_links(ins, outs)?;
     close_tables(tables, takings);
-    Ok(reels)
+    Ok(bridge_traces)
 }

@@ -20,7 +20,7 @@ pub enum ConductFault {
     Bridge(u16, BridgeFault),
     /// The desk's history isn't that of its seats, or had no room for a call or a Seal.
     DeskDisagrees,
-    /// The book isn't that of its bridges. No run returns it: what a bridge sends and drops is recorded only on its own reel.
+    /// The book isn't that of its bridges. No run returns it: what a bridge sends and drops is recorded only on its own bridge trace.
     BookDisagrees,
     /// An end of a pipe was gone, though no thread has failed.
     ChannelLost,

@@ -9,11 +9,11 @@ ghost use Rattle.cqf_worker.specs.Wires.{AreWired, AreWorkersOf, Wiring, pipe_of
 use cqf_admission::Table;
 use cqf_bridge::Agenda;
 use cqf_model::{Node, Offer};
-use cqf_relay::{Relay, Stretch};
-use cqf_tape::Reel;
+use cqf_relay::{Relay, Segment};
+use cqf_trace::BridgeTrace;
 use cqf_topology::Domain;
 use cqf_units::Memory;
-use cqf_worker_loops::{Bell, Carried, LinkEnd, PipeIn, PipeOut, Worker, pipe_between, pipe_to};
+use cqf_worker_loops::{Notifier, Carried, LinkEnd, PipeIn, PipeOut, Worker, pipe_between, pipe_to};
 use std::alloc::Global;
 use std::sync::Arc;
 
@@ -25,7 +25,7 @@ pub struct Laid {
     pub tables: Vec<PipeIn<Carried<Table>>>,
 }
 
-/// Returns a bridge's offers by cycle. Background frames are left out: they are added to the tapes at the end.
+/// Returns a bridge's offers by cycle. Background frames are left out: they are added to the traces at the end.
 fn agenda_of(
     alloc: Global,
     domain: &Domain,
@@ -56,17 +56,17 @@ fn ready_worker(
 {
     let relay = Relay::new(alloc, domain, number, cycles)?;
     let agenda = agenda_of(alloc, domain, offers, number)?;
-    let bell = Bell::new(alloc)?;
-    let (putting, tables) = pipe_to(alloc, &bell)?;
+    let notifier = Notifier::new(alloc)?;
+    let (putting, tables) = pipe_to(alloc, &notifier)?;
     let worker = Worker {
         relay,
-        bell,
+        notifier,
         agenda,
         tables,
         ins: Vec::new(alloc),
         outs: Vec::new(alloc),
-        reel: Reel {
-            tapes: Vec::new(alloc),
+        bridge_trace: BridgeTrace {
+            traces: Vec::new(alloc),
             drops: Vec::new(alloc),
         },
     };
@@ -99,7 +99,7 @@ fn ready_workers(
 }
 
 /// Adds a port to a worker at which it puts.
-fn add_out(worker: &mut Worker, port: LinkEnd<PipeIn<Carried<Stretch>>>) -> Result<(), Memory>
+fn add_out(worker: &mut Worker, port: LinkEnd<PipeIn<Carried<Segment>>>) -> Result<(), Memory>
     ensures { OnOk result (HasOut worker.old worker.new port) }
 {
     worker.outs.push(port)?;
@@ -107,7 +107,7 @@ fn add_out(worker: &mut Worker, port: LinkEnd<PipeIn<Carried<Stretch>>>) -> Resu
 }
 
 /// Adds a port to a worker at which it takes.
-fn add_in(worker: &mut Worker, port: LinkEnd<PipeOut<Carried<Stretch>>>) -> Result<(), Memory>
+fn add_in(worker: &mut Worker, port: LinkEnd<PipeOut<Carried<Segment>>>) -> Result<(), Memory>
     ensures { OnOk result (HasIn worker.old worker.new port) }
 {
     worker.ins.push(port)?;
@@ -128,8 +128,8 @@ fn lay_pipe(
     ensures tables { OnOk result (map tables_pipe workers.new.items ≡ map tables_pipe workers.old.items) }
     ensures cycles { OnOk result (map cycles_at workers.new.items ≡ map cycles_at workers.old.items) }
 {
-    let putter = &workers[usize::from(from)].bell;
-    let taker = &workers[usize::from(to)].bell;
+    let putter = &workers[usize::from(from)].notifier;
+    let taker = &workers[usize::from(to)].notifier;
     let (putting, taking) = pipe_between(alloc, putter, taker)?;
     let out = LinkEnd {
         link,

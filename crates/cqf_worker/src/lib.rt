@@ -1,7 +1,7 @@
 //! Runs a network under administration, with one thread for each bridge, one for each administrator, and the conductor's own thread.
 //!
 //! - **The run.** [`conduct`] runs the network and returns an [`Account`], which is the history of all calls and the book of every transmission
-//!   and drop, or else a [`ConductFault`]. [`conduct_tapes`] returns a [`TapedAccount`], which has the tapes of the links in place of the book:
+//!   and drop, or else a [`ConductFault`]. [`conduct_traces`] returns a [`TracedAccount`], which has the traces of the links in place of the book:
 //!   the book can be read off them without sorting. [`Faults`] is what has gone wrong so far.
 //! - **Its pipes.** [`lay`] returns a [`Laid`]: the workers of all bridges, with a pipe on each link between two of them and one for each worker's
 //!   tables. [`close_pipes`] closes these pipes after the threads have ended. What was taken from each pipe is then a prefix of what was put
@@ -26,9 +26,9 @@ mod faults;
 mod laying;
 mod threads;
 
-pub use account::{Account, TapedAccount};
+pub use account::{Account, TracedAccount};
 pub use closing::{ClosingFault, close_pipes};
-pub use conducting::{conduct, conduct_tapes};
+pub use conducting::{conduct, conduct_traces};
 pub use cqf_worker_loops::{Free, Pace, PipeIn, PipeOut, pipe};
 pub use faults::{ConductFault, Faults};
 pub use laying::{Laid, lay};

@@ -8,6 +8,6 @@ mod Passing
 mod Ports
 mod UnderWay
 mod TakenTables
-mod TakenStretches
-mod HandedStretches
+mod TakenSegments
+mod HandedSegments
 mod Through

@@ -1,4 +1,4 @@
--- Ports through which stretches go, by link.
+-- Ports through which segments go, by link.
 use Rattle.std.proofs.Common.{◌≡◌, ◌∙◌, ℕ, zero, suc, ◌<◌, Bool, true, false, List, [], ◌∷◌, ◌++◌, Some, None, Option, All, AllPairs, Contains}
 use Rattle.std.proofs.Common.{length, map, set, option_map, refl, sym, ap, subst, arith, inl, inr, append-nil, eq-eqb, ne_eqb}
 use Rattle.std.specs.Prelude.{◌==◌, ◌⊎◌, if◌then◌else◌, slice_get}
@@ -12,13 +12,13 @@ use Rattle.cqf_lists.proofs.Numbers.{numbers_ascend}
 use Rattle.cqf_lists.proofs.Pairs.{one_of_pairs, pairs_from_map, pairs_head, pairs_tail}
 use Rattle.cqf_model.specs.Domain.{Domain, enters, leaves}
 use Rattle.cqf_relay.specs.declared.log.ArrivedFrame.{ArrivedFrame}
-use Rattle.cqf_relay.specs.declared.moving.Stretch.{Stretch}
-use Rattle.cqf_relay.specs.Stretches.{AreNextStretches, IsNextStretch, all_frames, end_of_stretches, frames_of}
+use Rattle.cqf_relay.specs.declared.moving.Segment.{Segment}
+use Rattle.cqf_relay.specs.Segments.{AreNextSegments, IsNextSegment, all_frames, end_of_segments, frames_of}
 use Rattle.cqf_relay.specs.Standing.{is_onward, links_from, links_into}
 use Rattle.cqf_worker_loops.specs.declared.carried.Carried.{Carried}
 use Rattle.cqf_worker_loops.specs.declared.carried.Carried.TheVariants.{Item}
 use Rattle.cqf_worker_loops.specs.Rows.{wire_at, wires_of, with_item_at}
-use Rattle.cqf_worker_loops.specs.Workers.{IsUnused, StretchPort, item_in, items_in, link_of, links_onward, stretches_at, stretches_in}
+use Rattle.cqf_worker_loops.specs.Workers.{IsUnused, SegmentPort, item_in, items_in, link_of, links_onward, segments_at, segments_in}
 
 -- ---- lists from which two functions make the same
 
@@ -96,90 +96,90 @@ module _ {X : Type 0} (key : X → ℕ) where
   one_of_key xs x y up here there same =
       one_of_pairs (λ (a b : X). key a < key b) xs x y up here there (λ l. omega (arith, l, same)) (λ l. omega (arith, l, same))
 
--- ---- stretches that went through ports
+-- ---- segments that went through ports
 
 -- the items of a pipe with one more
 pub items_in_more : {T : Type 0} (carried : List (Carried T)) (x : T) → items_in (carried ++ Item x ∷ []) ≡ items_in carried ++ x ∷ []
 items_in_more carried x = flat_map-append item_in carried (Item x ∷ [])
 
 -- if each port is of another link, what went through a port went through the port of its link
-pub stretches_at_port : (ports : List StretchPort) (port : StretchPort) → Ascend link_of ports → Contains ports port → stretches_at ports port.link ≡ stretches_in port
-stretches_at_port [] port up held = absurd (contains_none port held)
-stretches_at_port (p ∷ ports) port up held = elim (contains_cases p ports port held) [
+pub segments_at_port : (ports : List SegmentPort) (port : SegmentPort) → Ascend link_of ports → Contains ports port → segments_at ports port.link ≡ segments_in port
+segments_at_port [] port up held = absurd (contains_none port held)
+segments_at_port (p ∷ ports) port up held = elim (contains_cases p ports port held) [
   | inl same ↦
-      cond-true (p.link == port.link) (stretches_in p) (stretches_at ports port.link) (eq-eqb p.link port.link (ap link_of same)) ∙ ap stretches_in same
+      cond-true (p.link == port.link) (segments_in p) (segments_at ports port.link) (eq-eqb p.link port.link (ap link_of same)) ∙ ap segments_in same
   | inr rest ↦
-      let less : p.link < port.link = pairs_head (λ (a b : StretchPort). a.link < b.link) p ports port up rest in
-      cond-false (p.link == port.link) (stretches_in p) (stretches_at ports port.link) (ne_eqb p.link port.link (λ same. omega (arith, same, less)))
-      ∙ stretches_at_port ports port (pairs_tail (λ (a b : StretchPort). a.link < b.link) p ports up) rest
+      let less : p.link < port.link = pairs_head (λ (a b : SegmentPort). a.link < b.link) p ports port up rest in
+      cond-false (p.link == port.link) (segments_in p) (segments_at ports port.link) (ne_eqb p.link port.link (λ same. omega (arith, same, less)))
+      ∙ segments_at_port ports port (pairs_tail (λ (a b : SegmentPort). a.link < b.link) p ports up) rest
 ]
 
--- one more stretch at the port of a link is one more at that link
-pub stretches_at_own : (ports : List StretchPort) (k : ℕ) (port : StretchPort) (stretch : Stretch) → Ascend link_of ports → slice_get ports k ≡ Some port →
-    stretches_at (set ports k (with_item_at port (Item stretch))) port.link ≡ stretches_at ports port.link ++ stretch ∷ []
-stretches_at_own [] k port stretch up there = absurd (contains_none port (contains_at [] k port there))
-stretches_at_own (p ∷ ports) zero port stretch up there =
+-- one more segment at the port of a link is one more at that link
+pub segments_at_own : (ports : List SegmentPort) (k : ℕ) (port : SegmentPort) (segment : Segment) → Ascend link_of ports → slice_get ports k ≡ Some port →
+    segments_at (set ports k (with_item_at port (Item segment))) port.link ≡ segments_at ports port.link ++ segment ∷ []
+segments_at_own [] k port segment up there = absurd (contains_none port (contains_at [] k port there))
+segments_at_own (p ∷ ports) zero port segment up there =
     let same : p ≡ port = same_Some p port there in
-    cond-true (port.link == port.link) (items_in (port.pipe.items ++ Item stretch ∷ [])) (stretches_at ports port.link) (eq-eqb port.link port.link refl)
-    ∙ items_in_more port.pipe.items stretch
-    ∙ sym (ap (λ (stretches : List Stretch). stretches ++ stretch ∷ [])
-    (cond-true (p.link == port.link) (stretches_in p) (stretches_at ports port.link) (eq-eqb p.link port.link (ap link_of same)) ∙ ap stretches_in same))
-stretches_at_own (p ∷ ports) (suc k) port stretch up there =
-    let less : p.link < port.link = pairs_head (λ (a b : StretchPort). a.link < b.link) p ports port up (contains_at ports k port there) in
+    cond-true (port.link == port.link) (items_in (port.pipe.items ++ Item segment ∷ [])) (segments_at ports port.link) (eq-eqb port.link port.link refl)
+    ∙ items_in_more port.pipe.items segment
+    ∙ sym (ap (λ (segments : List Segment). segments ++ segment ∷ [])
+    (cond-true (p.link == port.link) (segments_in p) (segments_at ports port.link) (eq-eqb p.link port.link (ap link_of same)) ∙ ap segments_in same))
+segments_at_own (p ∷ ports) (suc k) port segment up there =
+    let less : p.link < port.link = pairs_head (λ (a b : SegmentPort). a.link < b.link) p ports port up (contains_at ports k port there) in
     let apart : (p.link == port.link) ≡ false = ne_eqb p.link port.link (λ same. omega (arith, same, less)) in
-    cond-false (p.link == port.link) (stretches_in p) (stretches_at (set ports k (with_item_at port (Item stretch))) port.link) apart
-    ∙ stretches_at_own ports k port stretch (pairs_tail (λ (a b : StretchPort). a.link < b.link) p ports up) there
-    ∙ sym (ap (λ (stretches : List Stretch). stretches ++ stretch ∷ []) (cond-false (p.link == port.link) (stretches_in p) (stretches_at ports port.link) apart))
+    cond-false (p.link == port.link) (segments_in p) (segments_at (set ports k (with_item_at port (Item segment))) port.link) apart
+    ∙ segments_at_own ports k port segment (pairs_tail (λ (a b : SegmentPort). a.link < b.link) p ports up) there
+    ∙ sym (ap (λ (segments : List Segment). segments ++ segment ∷ []) (cond-false (p.link == port.link) (segments_in p) (segments_at ports port.link) apart))
 
 -- and changes nothing at other links
-pub stretches_at_other : (ports : List StretchPort) (k : ℕ) (port : StretchPort) (stretch : Stretch) (l : ℕ) → slice_get ports k ≡ Some port → (port.link ≡ l → ⊥) →
-    stretches_at (set ports k (with_item_at port (Item stretch))) l ≡ stretches_at ports l
-stretches_at_other [] k port stretch l there apart = refl
-stretches_at_other (p ∷ ports) zero port stretch l there apart =
+pub segments_at_other : (ports : List SegmentPort) (k : ℕ) (port : SegmentPort) (segment : Segment) (l : ℕ) → slice_get ports k ≡ Some port → (port.link ≡ l → ⊥) →
+    segments_at (set ports k (with_item_at port (Item segment))) l ≡ segments_at ports l
+segments_at_other [] k port segment l there apart = refl
+segments_at_other (p ∷ ports) zero port segment l there apart =
     let same : p ≡ port = same_Some p port there in
-    cond-false (port.link == l) (items_in (port.pipe.items ++ Item stretch ∷ [])) (stretches_at ports l) (ne_eqb port.link l apart)
-    ∙ sym (cond-false (p.link == l) (stretches_in p) (stretches_at ports l) (ne_eqb p.link l (λ e. apart (sym (ap link_of same) ∙ e))))
-stretches_at_other (p ∷ ports) (suc k) port stretch l there apart =
-    ap (λ (stretches : List Stretch). if p.link == l then stretches_in p else stretches) (stretches_at_other ports k port stretch l there apart)
+    cond-false (port.link == l) (items_in (port.pipe.items ++ Item segment ∷ [])) (segments_at ports l) (ne_eqb port.link l apart)
+    ∙ sym (cond-false (p.link == l) (segments_in p) (segments_at ports l) (ne_eqb p.link l (λ e. apart (sym (ap link_of same) ∙ e))))
+segments_at_other (p ∷ ports) (suc k) port segment l there apart =
+    ap (λ (segments : List Segment). if p.link == l then segments_in p else segments) (segments_at_other ports k port segment l there apart)
 
--- no stretches went through unused ports
-pub none_at : (ports : List StretchPort) (l : ℕ) → All IsUnused ports → stretches_at ports l ≡ []
+-- no segments went through unused ports
+pub none_at : (ports : List SegmentPort) (l : ℕ) → All IsUnused ports → segments_at ports l ≡ []
 none_at [] l unused = refl
 none_at (p ∷ ports) l unused = none (p.link == l) (none_at ports l (λ k d inside. unused (suc k) d (omega (arith, inside))))
   where
     -- neither at this port nor at the others
-    none : (b : Bool) → stretches_at ports l ≡ [] → (if b then stretches_in p else stretches_at ports l) ≡ []
+    none : (b : Bool) → segments_at ports l ≡ [] → (if b then segments_in p else segments_at ports l) ≡ []
     none true rest = ap items_in (unused 0 p (omega arith))
     none false rest = rest
 
--- ---- consecutive stretches
+-- ---- consecutive segments
 
 -- one more that may come next
-pub next_more : (begin : ℕ) (stretches : List Stretch) (stretch : Stretch) → AreNextStretches begin stretches → IsNextStretch (end_of_stretches begin stretches) stretch →
-    AreNextStretches begin (stretches ++ stretch ∷ [])
-next_more begin [] stretch are next = (next, tt)
-next_more begin (x ∷ stretches) stretch are next = (are.0, next_more x.upto stretches stretch are.1 next)
+pub next_more : (begin : ℕ) (segments : List Segment) (segment : Segment) → AreNextSegments begin segments → IsNextSegment (end_of_segments begin segments) segment →
+    AreNextSegments begin (segments ++ segment ∷ [])
+next_more begin [] segment are next = (next, tt)
+next_more begin (x ∷ segments) segment are next = (are.0, next_more x.upto segments segment are.1 next)
 
 -- those before the last may come, and the last may come next
-pub next_front : (begin : ℕ) (stretches : List Stretch) (stretch : Stretch) → AreNextStretches begin (stretches ++ stretch ∷ []) →
-    AreNextStretches begin stretches × IsNextStretch (end_of_stretches begin stretches) stretch
-next_front begin [] stretch are = (tt, are.0)
-next_front begin (x ∷ stretches) stretch are = let rest = next_front x.upto stretches stretch are.1 in ((are.0, rest.0), rest.1)
+pub next_front : (begin : ℕ) (segments : List Segment) (segment : Segment) → AreNextSegments begin (segments ++ segment ∷ []) →
+    AreNextSegments begin segments × IsNextSegment (end_of_segments begin segments) segment
+next_front begin [] segment are = (tt, are.0)
+next_front begin (x ∷ segments) segment are = let rest = next_front x.upto segments segment are.1 in ((are.0, rest.0), rest.1)
 
 -- they end where the last one ends
-pub end_more : (begin : ℕ) (stretches : List Stretch) (stretch : Stretch) → end_of_stretches begin (stretches ++ stretch ∷ []) ≡ stretch.upto
-end_more begin [] stretch = refl
-end_more begin (x ∷ stretches) stretch = end_more x.upto stretches stretch
+pub end_more : (begin : ℕ) (segments : List Segment) (segment : Segment) → end_of_segments begin (segments ++ segment ∷ []) ≡ segment.upto
+end_more begin [] segment = refl
+end_more begin (x ∷ segments) segment = end_more x.upto segments segment
 
 -- the frames of the last one follow those of the others
-pub frames_more : (stretches : List Stretch) (stretch : Stretch) → all_frames (stretches ++ stretch ∷ []) ≡ all_frames stretches ++ frames_of stretch
-frames_more stretches stretch =
-    flat_map-append frames_of stretches (stretch ∷ []) ∙ ap (λ (xs : List ArrivedFrame). all_frames stretches ++ xs) (append-nil (frames_of stretch))
+pub frames_more : (segments : List Segment) (segment : Segment) → all_frames (segments ++ segment ∷ []) ≡ all_frames segments ++ frames_of segment
+frames_more segments segment =
+    flat_map-append frames_of segments (segment ∷ []) ∙ ap (λ (xs : List ArrivedFrame). all_frames segments ++ xs) (append-nil (frames_of segment))
 
 -- with one more item a port keeps its wire and its link, and still carries only items
-pub wires_with : (ports : List StretchPort) (k : ℕ) (port : StretchPort) (stretch : Stretch) → slice_get ports k ≡ Some port →
-    wires_of (set ports k (with_item_at port (Item stretch))) ≡ wires_of ports
-wires_with [] k port stretch there = refl
-wires_with (p ∷ ports) zero port stretch there =
+pub wires_with : (ports : List SegmentPort) (k : ℕ) (port : SegmentPort) (segment : Segment) → slice_get ports k ≡ Some port →
+    wires_of (set ports k (with_item_at port (Item segment))) ≡ wires_of ports
+wires_with [] k port segment there = refl
+wires_with (p ∷ ports) zero port segment there =
     ap (λ w. w ∷ wires_of ports) (ap wire_at (sym (same_Some p port there)))
-wires_with (p ∷ ports) (suc k) port stretch there = ap (λ ws. wire_at p ∷ ws) (wires_with ports k port stretch there)
+wires_with (p ∷ ports) (suc k) port segment there = ap (λ ws. wire_at p ∷ ws) (wires_with ports k port segment there)

@@ -20,7 +20,7 @@ use Rattle.cqf_model.specs.Table.{AreOrderly, link_cost, table_of}
 use Rattle.cqf_model.specs.Traffic.{is_offered_at, numbered}
 use Rattle.cqf_admission.specs.Tables.{CycleTable}
 use Rattle.cqf_bridge.specs.Agenda.{AgendaOf, offers_listed_at}
-use Rattle.cqf_relay.specs.Stretches.{AreNextStretches}
+use Rattle.cqf_relay.specs.Segments.{AreNextSegments}
 use Rattle.cqf_relay.specs.Offering.{IsOfCycle, dropped_behind}
 use Rattle.cqf_relay.specs.Standing.{AreOfCycle, Come, MayBeTables, StandsSo, TakesTable, offers_in, with_table}
 use Rattle.cqf_worker_loops.specs.declared.carried.Carried.{Carried}
@@ -32,8 +32,8 @@ use Rattle.cqf_worker_loops.specs.PipeEnds.{End, items_found}
 use Rattle.cqf_worker_loops.specs.Rows.{with_item, wires_of}
 use Rattle.cqf_worker_loops.specs.Stepping.{EntersTable, GoesFurther, HasComeSoFar, HasTable, IsUnderWay, SomeUnderWay}
 use Rattle.cqf_worker_loops.specs.Stops.{AreItems}
-use Rattle.cqf_worker_loops.specs.Workers.{AreDropsOf, HasItsOffers, MayHaveComeTo, Offering, StretchPort}
-use Rattle.cqf_worker_loops.specs.Workers.{come_by, come_to, items_in, link_of, rows_in, stretches_at}
+use Rattle.cqf_worker_loops.specs.Workers.{AreDropsOf, HasItsOffers, MayHaveComeTo, Offering, SegmentPort}
+use Rattle.cqf_worker_loops.specs.Workers.{come_by, come_to, items_in, link_of, rows_in, segments_at}
 use Rattle.cqf_worker_loops.proofs.Ports.{items_in_more}
 use Rattle.cqf_worker_loops.proofs.Stopping.{CarriesItems, items_and_one}
 use Rattle.cqf_worker_loops.proofs.UnderWay.{handed_still, takes_under_way}
@@ -198,7 +198,7 @@ module _ (t : Offering) (number : ℕ) (table : CycleTable) (older after : Worke
   -- it was what may arrive before
   may_before_table : MayHaveComeTo t after → MayHaveComeTo t older
   may_before_table may = record {
-    stretches = subst (λ (ports : List StretchPort). (l : ℕ) → AreNextStretches 0 (stretches_at ports l)) ins may.stretches;
+    segments = subst (λ (ports : List SegmentPort). (l : ℕ) → AreNextSegments 0 (segments_at ports l)) ins may.segments;
     tables = tables_before (come_to older).tables table.rows t.domain
         (subst (λ (come : Come). MayBeTables t.domain come.tables) come_with_table may.tables);
   }

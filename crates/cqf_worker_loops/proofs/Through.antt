@@ -13,28 +13,28 @@ use Rattle.cqf_model.specs.declared.frames.Sent.{Sent}
 use Rattle.cqf_model.specs.Domain.{leaves}
 use Rattle.cqf_model.specs.Limits.{most_cycles}
 use Rattle.cqf_bridge.specs.Agenda.{offers_listed_at}
-use Rattle.cqf_tape.specs.declared.tape.Mark.{Mark}
-use Rattle.cqf_tape.specs.declared.tape.Tape.{Tape}
-use Rattle.cqf_tape.proofs.Leaving.{leaving_listed}
-use Rattle.cqf_tape.specs.Tapes.{link_of_tape, links_of, mark_of_sent, starts_at}
+use Rattle.cqf_trace.specs.declared.trace.Mark.{Mark}
+use Rattle.cqf_trace.specs.declared.trace.Trace.{Trace}
+use Rattle.cqf_trace.proofs.Leaving.{leaving_listed}
+use Rattle.cqf_trace.specs.Traces.{link_of_trace, links_of, mark_of_sent, starts_at}
 use Rattle.cqf_relay.specs.declared.inlet.Inlet.{Inlet}
 use Rattle.cqf_relay.specs.declared.log.ArrivedFrame.{ArrivedFrame}
 use Rattle.cqf_relay.specs.declared.outlet.Outlet.{Outlet}
 use Rattle.cqf_relay.specs.declared.wire.Wire.{Wire}
-use Rattle.cqf_relay.specs.Stretches.{AreNextStretches, Sendings, all_frames, batch_at, came_in, end_of_stretches}
+use Rattle.cqf_relay.specs.Segments.{AreNextSegments, Sendings, all_frames, batch_at, came_in, end_of_segments}
 use Rattle.cqf_relay.specs.Logs.{is_in}
 use Rattle.cqf_relay.specs.Sending.{IsTidy}
 use Rattle.cqf_relay.specs.Standing.{Come, HasGoneOnBy, IsInletOf, IsOutletOf, IsOver, IsWithin, StandsSo, is_onward, link_in, link_out, links_from, links_into, nothing_yet}
 use Rattle.cqf_relay.proofs.Handing.{all_at}
 use Rattle.cqf_worker_loops.specs.declared.worker.Worker.{Worker}
 use Rattle.cqf_worker_loops.specs.Rows.{wires_of}
-use Rattle.cqf_worker_loops.specs.Stepping.{EndsSo, GoesFurther, HasHandedOn, HasPutStretches, IsUnderWay, KeepsReel, SomeUnderWay}
+use Rattle.cqf_worker_loops.specs.Stepping.{EndsSo, GoesFurther, HasHandedOn, HasPutSegments, IsUnderWay, KeepsBridgeTrace, SomeUnderWay}
 use Rattle.cqf_worker_loops.specs.Stops.{AreItems}
-use Rattle.cqf_worker_loops.specs.Workers.{AreDropsOf, HasGoneThrough, HasItsOffers, HasPut, HasSentAll, IsUnused, IsWorkerOf, StretchPort}
+use Rattle.cqf_worker_loops.specs.Workers.{AreDropsOf, HasGoneThrough, HasItsOffers, HasPut, HasSentAll, IsUnused, IsWorkerOf, SegmentPort}
 use Rattle.cqf_worker_loops.specs.Workers.{MayHaveComeTo, MayWork, Offering, Works}
-use Rattle.cqf_worker_loops.specs.Workers.{come_to, items_in, link_of, rows_in, stretches_at, stretches_in}
-use Rattle.cqf_worker_loops.proofs.HandedStretches.{nothing_put, outlet_of_port, some_further}
-use Rattle.cqf_worker_loops.proofs.Ports.{IsPartner, ascend_by, into_ascends, none_at, partner, stretches_at_port}
+use Rattle.cqf_worker_loops.specs.Workers.{come_to, items_in, link_of, rows_in, segments_at, segments_in}
+use Rattle.cqf_worker_loops.proofs.HandedSegments.{nothing_put, outlet_of_port, some_further}
+use Rattle.cqf_worker_loops.proofs.Ports.{IsPartner, ascend_by, into_ascends, none_at, partner, segments_at_port}
 use Rattle.cqf_worker_loops.proofs.Stopping.{CarriesItems}
 use Rattle.cqf_worker_loops.proofs.UnderWay.{come_same, may_same}
 
@@ -46,7 +46,7 @@ module _ (t : Offering) (number : ℕ) (w : Worker) (few : w.relay.cycles ≤ mo
   nothing_came = λ i. record {
     tables = map rows_in (items_in (new.no_tables i));
     offers = each_below (λ cycle. offers_listed_at w.agenda cycle ∷ []) (length (items_in (new.no_tables i)));
-    upto = λ m. end_of_stretches 0 (none_at w.ins.items m new.none_taken i);
+    upto = λ m. end_of_segments 0 (none_at w.ins.items m new.none_taken i);
     brought = λ m. all_frames (none_at w.ins.items m new.none_taken i);
   }
 
@@ -79,7 +79,7 @@ module _ (t : Offering) (number : ℕ) (w : Worker) (few : w.relay.cycles ≤ mo
     ins = All-weaker IsUnused CarriesItems (λ port unused. ([], unused)) w.ins.items new.none_taken;
     links_out = new.links_out;
     outlets = new.stands.from ∙ ap (links_from t.domain) new.number_is;
-    wires = all_from_members (λ (o : Outlet). o.wire.onward ≡ is_onward t.domain o.tape.link) w.relay.outlets.items (λ o held.
+    wires = all_from_members (λ (o : Outlet). o.wire.onward ≡ is_onward t.domain o.trace.link) w.relay.outlets.items (λ o held.
         ap (λ (wire : Wire). wire.onward) (link_at_first o held).wire);
     tidy = new.tidy;
     within = all_from_members (IsWithin w.relay.cycles) w.relay.outlets.items (λ o held. omega (arith, (link_at_first o held).as_far));
@@ -89,8 +89,8 @@ module _ (t : Offering) (number : ℕ) (w : Worker) (few : w.relay.cycles ≤ mo
       stands = subst (λ (come : Come). StandsSo t.domain come (λ l. []) w.relay) (sym nothing_came) new.stands;
       handed = all_from_members (HasHandedOn t w (λ l. [])) w.relay.outlets.items (λ o held. record {
         each = λ cycle goes.
-            let made : List ArrivedFrame = map (came_in t.domain o.tape.link cycle) (batch_at [] cycle) in
-            ap (λ stretches. filter (is_in cycle) (all_frames stretches)) (none_at w.outs.items o.tape.link new.none_put)
+            let made : List ArrivedFrame = map (came_in t.domain o.trace.link cycle) (batch_at [] cycle) in
+            ap (λ segments. filter (is_in cycle) (all_frames segments)) (none_at w.outs.items o.trace.link new.none_put)
             ∙ sym (cond-false (nat_lt cycle o.told) made [] (le-ltb cycle o.told (omega (arith, none_told o held))));
       });
       drops = record {
@@ -103,11 +103,11 @@ module _ (t : Offering) (number : ℕ) (w : Worker) (few : w.relay.cycles ≤ mo
   }
     where
       -- through an unused port nothing was put
-      unused_port : (port : StretchPort) (o : Outlet) → port.pipe.items ≡ [] → o.told ≡ 0 → HasPut o.told port
+      unused_port : (port : SegmentPort) (o : Outlet) → port.pipe.items ≡ [] → o.told ≡ 0 → HasPut o.told port
       unused_port port o unused untold = record {
         items = ([], unused);
-        next = subst (λ carried. AreNextStretches 0 (items_in carried)) (sym unused) tt;
-        ends = ap (λ carried. end_of_stretches 0 (items_in carried)) unused ∙ sym untold;
+        next = subst (λ carried. AreNextSegments 0 (items_in carried)) (sym unused) tt;
+        ends = ap (λ carried. end_of_segments 0 (items_in carried)) unused ∙ sym untold;
         few = omega (arith, ap length unused);
       }
 
@@ -117,24 +117,24 @@ some_begins cycles w few may = record { traffic = may.traffic; number = may.numb
 
 -- ---- at the end
 
--- the first tape of a link has the link's marks, if each tape has the marks of its own link
-marks_of_link : (marks : ℕ → List Mark) (outlets : List Outlet) (l : ℕ) → All (λ (o : Outlet). o.tape.starts.items ≡ marks o.tape.link) outlets →
-    Contains (map link_out outlets) l → starts_at (map (λ (o : Outlet). o.tape) outlets) l ≡ marks l
+-- the first trace of a link has the link's marks, if each trace has the marks of its own link
+marks_of_link : (marks : ℕ → List Mark) (outlets : List Outlet) (l : ℕ) → All (λ (o : Outlet). o.trace.starts.items ≡ marks o.trace.link) outlets →
+    Contains (map link_out outlets) l → starts_at (map (λ (o : Outlet). o.trace) outlets) l ≡ marks l
 marks_of_link marks [] l all held = absurd (contains_none l held)
-marks_of_link marks (o ∷ outlets) l all held = elim (cases_eq o.tape.link l) [
+marks_of_link marks (o ∷ outlets) l all held = elim (cases_eq o.trace.link l) [
   | inl same ↦
-      cond-true (o.tape.link == l) o.tape.starts.items (starts_at (map (λ (it : Outlet). it.tape) outlets) l) (eq-eqb o.tape.link l same)
-      ∙ All-head (λ (it : Outlet). it.tape.starts.items ≡ marks it.tape.link) o outlets all ∙ ap marks same
+      cond-true (o.trace.link == l) o.trace.starts.items (starts_at (map (λ (it : Outlet). it.trace) outlets) l) (eq-eqb o.trace.link l same)
+      ∙ All-head (λ (it : Outlet). it.trace.starts.items ≡ marks it.trace.link) o outlets all ∙ ap marks same
   | inr differ ↦
-      cond-false (o.tape.link == l) o.tape.starts.items (starts_at (map (λ (it : Outlet). it.tape) outlets) l) (ne_eqb o.tape.link l differ)
-      ∙ marks_of_link marks outlets l (All-tail (λ (it : Outlet). it.tape.starts.items ≡ marks it.tape.link) o outlets all)
-      (elim (contains_cases o.tape.link (map link_out outlets) l held) [
+      cond-false (o.trace.link == l) o.trace.starts.items (starts_at (map (λ (it : Outlet). it.trace) outlets) l) (ne_eqb o.trace.link l differ)
+      ∙ marks_of_link marks outlets l (All-tail (λ (it : Outlet). it.trace.starts.items ≡ marks it.trace.link) o outlets all)
+      (elim (contains_cases o.trace.link (map link_out outlets) l held) [
         | inl same ↦ absurd (differ same)
         | inr rest ↦ rest
       ])
 ]
 
-module _ (t : Offering) (number : ℕ) (w done : Worker) (way : IsUnderWay t number w) (over : IsOver w.relay) (keeps : KeepsReel w done)
+module _ (t : Offering) (number : ℕ) (w done : Worker) (way : IsUnderWay t number w) (over : IsOver w.relay) (keeps : KeepsBridgeTrace w done)
     (outs : done.outs.items ≡ w.outs.items) where
   -- it took each table
   all_tables : w.relay.tables ≡ w.relay.cycles
@@ -150,10 +150,10 @@ module _ (t : Offering) (number : ℕ) (w done : Worker) (way : IsUnderWay t num
       )
 
   -- and each link that ends in another bridge has passed them on
-  all_told : (o : Outlet) → Contains w.relay.outlets.items o → is_onward t.domain o.tape.link ≡ true → o.told ≡ w.relay.cycles
+  all_told : (o : Outlet) → Contains w.relay.outlets.items o → is_onward t.domain o.trace.link ≡ true → o.told ≡ w.relay.cycles
   all_told o held goes =
       let onward : o.wire.onward ≡ true =
-      All-contains (λ (it : Outlet). it.wire.onward ≡ is_onward t.domain it.tape.link) w.relay.outlets.items o way.wires held ∙ goes in
+      All-contains (λ (it : Outlet). it.wire.onward ≡ is_onward t.domain it.trace.link) w.relay.outlets.items o way.wires held ∙ goes in
       omega (
         arith,
         all_sent o held,
@@ -172,41 +172,41 @@ module _ (t : Offering) (number : ℕ) (w done : Worker) (way : IsUnderWay t num
   came_still = come_same w done keeps.agenda (ap (λ end. end.items) keeps.tables) (ap (λ ports. ports.items) keeps.ins)
 
   -- what a link sent in each cycle was put at its port
-  all_put : (sends : Sendings) (o : Outlet) → Contains w.relay.outlets.items o → (cycle : ℕ) → is_onward t.domain o.tape.link ≡ true →
-      length (sends o.tape.link) ≡ w.relay.cycles → HasHandedOn t w sends o →
-      filter (is_in cycle) (all_frames (stretches_at done.outs.items o.tape.link)) ≡ map (came_in t.domain o.tape.link cycle) (batch_at (sends o.tape.link) cycle)
+  all_put : (sends : Sendings) (o : Outlet) → Contains w.relay.outlets.items o → (cycle : ℕ) → is_onward t.domain o.trace.link ≡ true →
+      length (sends o.trace.link) ≡ w.relay.cycles → HasHandedOn t w sends o →
+      filter (is_in cycle) (all_frames (segments_at done.outs.items o.trace.link)) ≡ map (came_in t.domain o.trace.link cycle) (batch_at (sends o.trace.link) cycle)
   all_put sends o held cycle goes long handed =
-      let made : List ArrivedFrame = map (came_in t.domain o.tape.link cycle) (batch_at (sends o.tape.link) cycle) in
+      let made : List ArrivedFrame = map (came_in t.domain o.trace.link cycle) (batch_at (sends o.trace.link) cycle) in
       let told : o.told ≡ w.relay.cycles = all_told o held goes in
       let last : (if nat_lt cycle o.told then made else []) ≡ made = elim (cases_lt cycle o.told) [
         | inl early ↦ cond-true (nat_lt cycle o.told) made [] (lt-ltb cycle o.told early)
         | inr late ↦
             let none : made ≡ [] =
-            ap (map (came_in t.domain o.tape.link cycle)) (get_or_past (sends o.tape.link) cycle [] (omega (arith, late, told, long))) in
+            ap (map (came_in t.domain o.trace.link cycle)) (get_or_past (sends o.trace.link) cycle [] (omega (arith, late, told, long))) in
             cond-false (nat_lt cycle o.told) made [] (le-ltb cycle o.told late) ∙ sym none
       ] in
-      ap (λ (ports : List StretchPort). filter (is_in cycle) (all_frames (stretches_at ports o.tape.link))) outs ∙ handed.each cycle goes ∙ last
+      ap (λ (ports : List SegmentPort). filter (is_in cycle) (all_frames (segments_at ports o.trace.link))) outs ∙ handed.each cycle goes ∙ last
 
-  -- through each port that ends in the bridge came stretches up to the last cycle
-  all_came : (least : ℕ) → All (IsInletOf (come_to w) least) w.relay.inlets.items → (port : StretchPort) → Contains w.ins.items port →
-      w.relay.cycles ≤ end_of_stretches 0 (stretches_in port)
+  -- through each port that ends in the bridge came segments up to the last cycle
+  all_came : (least : ℕ) → All (IsInletOf (come_to w) least) w.relay.inlets.items → (port : SegmentPort) → Contains w.ins.items port →
+      w.relay.cycles ≤ end_of_segments 0 (segments_in port)
   all_came least inlets port held =
       let at = place_of_member w.ins.items port held in
       let p : IsPartner link_of link_in w.relay.inlets.items at.0 port =
       partner link_of link_in w.ins.items w.relay.inlets.items at.0 port (way.links_in ∙ sym way.inlets) at.1 in
-      let upto : p.other.upto ≡ end_of_stretches 0 (stretches_in port) =
+      let upto : p.other.upto ≡ end_of_segments 0 (segments_in port) =
       (all_at (IsInletOf (come_to w) least) w.relay.inlets.items at.0 p.other inlets p.there).upto
-      ∙ ap (λ (l : ℕ). end_of_stretches 0 (stretches_at w.ins.items l)) p.alike
-      ∙ ap (end_of_stretches 0)
-      (stretches_at_port w.ins.items port (ascend_by link_of w.ins.items (links_into t.domain number) way.links_in (into_ascends t.domain number)) held) in
+      ∙ ap (λ (l : ℕ). end_of_segments 0 (segments_at w.ins.items l)) p.alike
+      ∙ ap (end_of_segments 0)
+      (segments_at_port w.ins.items port (ascend_by link_of w.ins.items (links_into t.domain number) way.links_in (into_ascends t.domain number)) held) in
       omega (arith, upto, all_at (λ (it : Inlet). w.relay.cycles ≤ it.upto) w.relay.inlets.items at.0 p.other over.come p.there)
 
   -- so its links have sent everything
   sent_all : MayHaveComeTo t done → HasSentAll t number w.relay.cycles done
   sent_all may =
       let so = way.come (may_same w done keeps.agenda (ap (λ end. end.items) keeps.tables) (ap (λ ports. ports.items) keeps.ins) t may) in
-      let of : (o : Outlet) → Contains w.relay.outlets.items o → IsOutletOf t.domain w.relay.number (come_to w) (so.sends o.tape.link) o =
-      λ o held. All-contains (λ (it : Outlet). IsOutletOf t.domain w.relay.number (come_to w) (so.sends it.tape.link) it) w.relay.outlets.items o
+      let of : (o : Outlet) → Contains w.relay.outlets.items o → IsOutletOf t.domain w.relay.number (come_to w) (so.sends o.trace.link) o =
+      λ o held. All-contains (λ (it : Outlet). IsOutletOf t.domain w.relay.number (come_to w) (so.sends it.trace.link) it) w.relay.outlets.items o
       so.stands.outlets held in
       record {
         sends = so.sends;
@@ -221,25 +221,25 @@ module _ (t : Offering) (number : ℕ) (w done : Worker) (way : IsUnderWay t num
         put = λ l cycle own goes.
             let at = link_there l own in
             subst
-            (λ (m : ℕ). filter (is_in cycle) (all_frames (stretches_at done.outs.items m)) ≡ map (came_in t.domain m cycle) (batch_at (so.sends m) cycle))
+            (λ (m : ℕ). filter (is_in cycle) (all_frames (segments_at done.outs.items m)) ≡ map (came_in t.domain m cycle) (batch_at (so.sends m) cycle))
             at.2
             (all_put so.sends at.0 at.1 cycle (ap (is_onward t.domain) at.2 ∙ goes) (sym (of at.0 at.1).as_far ∙ all_sent at.0 at.1)
             (All-contains (HasHandedOn t w so.sends) w.relay.outlets.items at.0 so.handed at.1));
         starts = λ l own.
-            ap (λ (tapes : List Tape). starts_at tapes l) keeps.tapes
+            ap (λ (traces : List Trace). starts_at traces l) keeps.traces
             ∙ marks_of_link (λ m. map mark_of_sent (flat_map (λ (batch : List Sent). batch) (so.sends m))) w.relay.outlets.items l
             (all_from_members
-            (λ (o : Outlet). o.tape.starts.items ≡ map mark_of_sent (flat_map (λ (batch : List Sent). batch) (so.sends o.tape.link))) w.relay.outlets.items
+            (λ (o : Outlet). o.trace.starts.items ≡ map mark_of_sent (flat_map (λ (batch : List Sent). batch) (so.sends o.trace.link))) w.relay.outlets.items
             (λ o held. (of o held).marked))
             (subst (λ (links : List ℕ). Contains links l) (sym way.outlets) (leaving_listed t.domain number l own));
-        no_background = subst (All (λ (tape : Tape). tape.background.items ≡ [])) (sym keeps.tapes)
-            (All-map (λ (tape : Tape). tape.background.items ≡ []) (λ (o : Outlet). o.tape) w.relay.outlets.items
-            (all_from_members (λ (o : Outlet). o.tape.background.items ≡ []) w.relay.outlets.items (λ o held. (of o held).no_background)));
-        came = subst (λ ports. All (λ (port : StretchPort). w.relay.cycles ≤ end_of_stretches 0 (stretches_in port)) ports.items) (sym keeps.ins)
-            (all_from_members (λ (port : StretchPort). w.relay.cycles ≤ end_of_stretches 0 (stretches_in port)) w.ins.items (λ port held.
+        no_background = subst (All (λ (trace : Trace). trace.background.items ≡ [])) (sym keeps.traces)
+            (All-map (λ (trace : Trace). trace.background.items ≡ []) (λ (o : Outlet). o.trace) w.relay.outlets.items
+            (all_from_members (λ (o : Outlet). o.trace.background.items ≡ []) w.relay.outlets.items (λ o held. (of o held).no_background)));
+        came = subst (λ ports. All (λ (port : SegmentPort). w.relay.cycles ≤ end_of_segments 0 (segments_in port)) ports.items) (sym keeps.ins)
+            (all_from_members (λ (port : SegmentPort). w.relay.cycles ≤ end_of_segments 0 (segments_in port)) w.ins.items (λ port held.
             all_came so.stands.least so.stands.inlets port held));
-        drops = subst (λ (come : Come). AreDropsOf t.domain number come w.relay.cycles done.reel.drops.items) (sym came_still)
-            (subst (λ (n : ℕ). AreDropsOf t.domain number (come_to w) n done.reel.drops.items) all_tables
+        drops = subst (λ (come : Come). AreDropsOf t.domain number come w.relay.cycles done.bridge_trace.drops.items) (sym came_still)
+            (subst (λ (n : ℕ). AreDropsOf t.domain number (come_to w) n done.bridge_trace.drops.items) all_tables
             (subst (λ list. AreDropsOf t.domain number (come_to w) w.relay.tables list.items) (sym keeps.drops) so.drops));
       }
 
@@ -254,16 +254,16 @@ module _ (t : Offering) (number : ℕ) (w done : Worker) (way : IsUnderWay t num
         let from = outlet_of_port t number w port way held in
         subst (λ (n : ℕ). HasPut n port) (all_told from.outlet from.there (ap (is_onward t.domain) (sym from.link) ∙ from.onward))
         (way.outs port from.outlet held from.there from.link)));
-    links = ap links_of keeps.tapes ∙ map-map link_of_tape (λ (o : Outlet). o.tape) w.relay.outlets.items ∙ way.outlets;
+    links = ap links_of keeps.traces ∙ map-map link_of_trace (λ (o : Outlet). o.trace) w.relay.outlets.items ∙ way.outlets;
     sent = sent_all;
   }
 
 -- a worker whose bridge is over ends with what it keeps
-pub ends_so : (before w done : Worker) → SomeUnderWay before → GoesFurther before w → IsOver w.relay → KeepsReel w done → done.outs ≡ w.outs →
+pub ends_so : (before w done : Worker) → SomeUnderWay before → GoesFurther before w → IsOver w.relay → KeepsBridgeTrace w done → done.outs ≡ w.outs →
     EndsSo before done
 ends_so before w done some goes over keeps outs =
     let same : done.outs.items ≡ w.outs.items = ap (λ ports. ports.items) outs in
-    let put : HasPutStretches w done = nothing_put w done (some_further before w some goes) same in
+    let put : HasPutSegments w done = nothing_put w done (some_further before w some goes) same in
     record {
       tables = ap (λ end. end.pipe) keeps.tables ∙ goes.same.tables;
       ins = ap (λ ports. wires_of ports.items) keeps.ins ∙ goes.same.ins;

@@ -11,14 +11,14 @@ use Rattle.cqf_relay.specs.declared.log.ArrivedFrame.{ArrivedFrame}
 use Rattle.cqf_relay.specs.declared.outlet.Outlet.{Outlet}
 use Rattle.cqf_relay.specs.declared.relay.Relay.{Relay}
 use Rattle.cqf_relay.specs.declared.wire.Wire.{Wire}
-use Rattle.cqf_relay.specs.Stretches.{AreNextStretches, Sendings, all_frames, batch_at, came_in}
+use Rattle.cqf_relay.specs.Segments.{AreNextSegments, Sendings, all_frames, batch_at, came_in}
 use Rattle.cqf_relay.specs.Logs.{is_in}
 use Rattle.cqf_relay.specs.Standing.{Come, IsWithin, MayBeTables, StaysAs}
 use Rattle.cqf_relay.specs.Standing.{is_onward, link_out, told_by, wire_out}
 use Rattle.cqf_worker_loops.specs.declared.worker.Worker.{Worker}
 use Rattle.cqf_worker_loops.specs.Stepping.{HasComeSoFar, HasHandedOn, IsUnderWay}
 use Rattle.cqf_worker_loops.specs.Stops.{AreItems}
-use Rattle.cqf_worker_loops.specs.Workers.{HasItsOffers, HasPut, MayHaveComeTo, Offering, StretchPort, come_by, come_to, items_in, link_of, stretches_at}
+use Rattle.cqf_worker_loops.specs.Workers.{HasItsOffers, HasPut, MayHaveComeTo, Offering, SegmentPort, come_by, come_to, items_in, link_of, segments_at}
 use Rattle.cqf_worker_loops.proofs.Ports.{alike_at}
 use Rattle.cqf_worker_loops.proofs.Ports.{partner}
 use Rattle.cqf_worker_loops.proofs.Stopping.{CarriesItems}
@@ -29,7 +29,7 @@ use Rattle.cqf_worker_loops.proofs.Stopping.{CarriesItems}
 pub record WasOutlet (before : List Outlet) (outlet : Outlet) : Type 0 where
   pub was : Outlet
   pub there : Contains before was
-  pub link : outlet.tape.link ≡ was.tape.link
+  pub link : outlet.trace.link ≡ was.trace.link
   pub told : outlet.told ≡ was.told
   pub wire : outlet.wire ≡ was.wire
 
@@ -48,12 +48,12 @@ module _ (before after : Relay) (same : StaysAs before after) (told : told_by af
       }
 
 -- what went through the port of a link: what the link sent in the cycles that it has passed on
-abbrev pub IsHandedAt : Offering → List StretchPort → Sendings → ℕ → ℕ → Type 0
+abbrev pub IsHandedAt : Offering → List SegmentPort → Sendings → ℕ → ℕ → Type 0
 IsHandedAt t outs sends l told = (cycle : ℕ) → is_onward t.domain l ≡ true →
-    filter (is_in cycle) (all_frames (stretches_at outs l)) ≡ (if nat_lt cycle told then map (came_in t.domain l cycle) (batch_at (sends l) cycle) else [])
+    filter (is_in cycle) (all_frames (segments_at outs l)) ≡ (if nat_lt cycle told then map (came_in t.domain l cycle) (batch_at (sends l) cycle) else [])
 
 -- it is so if the link has sent the same in these cycles
-same_handed : (t : Offering) (outs : List StretchPort) (sends more : Sendings) (l told : ℕ) →
+same_handed : (t : Offering) (outs : List SegmentPort) (sends more : Sendings) (l told : ℕ) →
     ((cycle : ℕ) → cycle < told → batch_at (more l) cycle ≡ batch_at (sends l) cycle) → IsHandedAt t outs sends l told → IsHandedAt t outs more l told
 same_handed t outs sends more l told same handed cycle onward =
     let made : List Sent → List ArrivedFrame = λ batch. map (came_in t.domain l cycle) batch in
@@ -70,35 +70,35 @@ module _ (t : Offering) (before after : Worker) (same : StaysAs before.relay aft
   -- if no link passes on more, what was put is still what they have passed on
   pub handed_still : (sends more : Sendings) →
       ((outlet : Outlet) → Contains before.relay.outlets.items outlet → (cycle : ℕ) → cycle < outlet.told →
-      batch_at (more outlet.tape.link) cycle ≡ batch_at (sends outlet.tape.link) cycle) →
+      batch_at (more outlet.trace.link) cycle ≡ batch_at (sends outlet.trace.link) cycle) →
       All (HasHandedOn t before sends) before.relay.outlets.items → All (HasHandedOn t after more) after.relay.outlets.items
   handed_still sends more as_sent handed = all_from_members (HasHandedOn t after more) after.relay.outlets.items (λ outlet held.
       let was = was_outlet before.relay after.relay same told outlet held in
       let old = All-contains (HasHandedOn t before sends) before.relay.outlets.items was.was handed was.there in
-      let at_was : IsHandedAt t before.outs.items more was.was.tape.link was.was.told =
-      same_handed t before.outs.items sends more was.was.tape.link was.was.told (as_sent was.was was.there) old.each in
-      let at_link : IsHandedAt t before.outs.items more outlet.tape.link outlet.told =
+      let at_was : IsHandedAt t before.outs.items more was.was.trace.link was.was.told =
+      same_handed t before.outs.items sends more was.was.trace.link was.was.told (as_sent was.was was.there) old.each in
+      let at_link : IsHandedAt t before.outs.items more outlet.trace.link outlet.told =
       subst (λ (l : ℕ). IsHandedAt t before.outs.items more l outlet.told) (sym was.link)
-      (subst (λ (n : ℕ). IsHandedAt t before.outs.items more was.was.tape.link n) (sym was.told) at_was) in
-      record { each = subst (λ (ports : List StretchPort). IsHandedAt t ports more outlet.tape.link outlet.told) (sym outs) at_link })
+      (subst (λ (n : ℕ). IsHandedAt t before.outs.items more was.was.trace.link n) (sym was.told) at_was) in
+      record { each = subst (λ (ports : List SegmentPort). IsHandedAt t ports more outlet.trace.link outlet.told) (sym outs) at_link })
 
   -- and each port carried what its link has passed on
-  pub put_still : ((port : StretchPort) (outlet : Outlet) → Contains before.outs.items port → Contains before.relay.outlets.items outlet →
-      port.link ≡ outlet.tape.link → HasPut outlet.told port) → (port : StretchPort) (outlet : Outlet) → Contains after.outs.items port →
-      Contains after.relay.outlets.items outlet → port.link ≡ outlet.tape.link → HasPut outlet.told port
+  pub put_still : ((port : SegmentPort) (outlet : Outlet) → Contains before.outs.items port → Contains before.relay.outlets.items outlet →
+      port.link ≡ outlet.trace.link → HasPut outlet.told port) → (port : SegmentPort) (outlet : Outlet) → Contains after.outs.items port →
+      Contains after.relay.outlets.items outlet → port.link ≡ outlet.trace.link → HasPut outlet.told port
   put_still put port outlet held there link =
       let was = was_outlet before.relay after.relay same told outlet there in
       subst (λ (n : ℕ). HasPut n port) (sym was.told)
-      (put port was.was (subst (λ (ports : List StretchPort). Contains ports port) outs held) was.there (link ∙ was.link))
+      (put port was.was (subst (λ (ports : List SegmentPort). Contains ports port) outs held) was.there (link ∙ was.link))
 
   -- each wire says whether its link ends in a bridge
-  pub wires_still : All (λ (outlet : Outlet). outlet.wire.onward ≡ is_onward t.domain outlet.tape.link) before.relay.outlets.items →
-      All (λ (outlet : Outlet). outlet.wire.onward ≡ is_onward t.domain outlet.tape.link) after.relay.outlets.items
+  pub wires_still : All (λ (outlet : Outlet). outlet.wire.onward ≡ is_onward t.domain outlet.trace.link) before.relay.outlets.items →
+      All (λ (outlet : Outlet). outlet.wire.onward ≡ is_onward t.domain outlet.trace.link) after.relay.outlets.items
   wires_still wires =
-      all_from_members (λ (outlet : Outlet). outlet.wire.onward ≡ is_onward t.domain outlet.tape.link) after.relay.outlets.items (λ outlet held.
+      all_from_members (λ (outlet : Outlet). outlet.wire.onward ≡ is_onward t.domain outlet.trace.link) after.relay.outlets.items (λ outlet held.
       let was = was_outlet before.relay after.relay same told outlet held in
       ap (λ (wire : Wire). wire.onward) was.wire
-      ∙ All-contains (λ (it : Outlet). it.wire.onward ≡ is_onward t.domain it.tape.link) before.relay.outlets.items was.was wires was.there
+      ∙ All-contains (λ (it : Outlet). it.wire.onward ≡ is_onward t.domain it.trace.link) before.relay.outlets.items was.was wires was.there
       ∙ ap (is_onward t.domain) (sym was.link))
 
 -- what a worker takes while no link passes on more
@@ -148,6 +148,6 @@ module _ (before after : Worker) (agenda : after.agenda ≡ before.agenda) (tabl
   -- and it may arrive
   pub may_same : (t : Offering) → MayHaveComeTo t after → MayHaveComeTo t before
   may_same t may = record {
-    stretches = subst (λ (ports : List StretchPort). (l : ℕ) → AreNextStretches 0 (stretches_at ports l)) ins may.stretches;
+    segments = subst (λ (ports : List SegmentPort). (l : ℕ) → AreNextSegments 0 (segments_at ports l)) ins may.segments;
     tables = subst (λ (come : Come). MayBeTables t.domain come.tables) come_same may.tables;
   }

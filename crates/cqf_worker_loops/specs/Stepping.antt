@@ -5,7 +5,7 @@ use Rattle.cqf_model.specs.Limits.{most_cycles}
 use Rattle.cqf_model.specs.Run.{AreOffers}
 use Rattle.cqf_admission.specs.Tables.{CycleTable}
 use Rattle.cqf_relay.specs.declared.outlet.Outlet.{Outlet}
-use Rattle.cqf_relay.specs.Stretches.{Sendings, all_frames, batch_at, came_in}
+use Rattle.cqf_relay.specs.Segments.{Sendings, all_frames, batch_at, came_in}
 use Rattle.cqf_relay.specs.Logs.{is_in}
 use Rattle.cqf_relay.specs.Sending.{IsTidy}
 use Rattle.cqf_relay.specs.Standing.{IsWithin, StandsSo, is_onward, link_in, link_out, links_from, links_into}
@@ -13,16 +13,16 @@ use Rattle.cqf_worker_loops.specs.declared.carried.Carried.TheVariants.{Item}
 use Rattle.cqf_worker_loops.specs.declared.worker.Worker.{Worker}
 use Rattle.cqf_worker_loops.specs.Rows.{with_item, wires_of}
 use Rattle.cqf_worker_loops.specs.Stops.{AreItems}
-use Rattle.cqf_worker_loops.specs.Workers.{AreDropsOf, HasGoneThrough, HasItsOffers, HasPut, MayHaveComeTo, Offering, StretchPort}
-use Rattle.cqf_worker_loops.specs.Workers.{come_to, items_in, link_of, links_onward, stretches_at}
+use Rattle.cqf_worker_loops.specs.Workers.{AreDropsOf, HasGoneThrough, HasItsOffers, HasPut, MayHaveComeTo, Offering, SegmentPort}
+use Rattle.cqf_worker_loops.specs.Workers.{come_to, items_in, link_of, links_onward, segments_at}
 use Rattle.cqf_worker_loops.specs.PipeRule.{most_items}
 
 -- what a link that ends in another bridge has put of each cycle: all frames that it sent in the cycle, as they arrive, if it has passed the
 -- cycle on; else none
 pub record HasHandedOn (t : Offering) (w : Worker) (sends : Sendings) (outlet : Outlet) : Type 0 where
-  pub each : (cycle : ℕ) → is_onward t.domain outlet.tape.link ≡ true →
-      filter (is_in cycle) (all_frames (stretches_at w.outs.items outlet.tape.link))
-      ≡ (if nat_lt cycle outlet.told then map (came_in t.domain outlet.tape.link cycle) (batch_at (sends outlet.tape.link) cycle) else [])
+  pub each : (cycle : ℕ) → is_onward t.domain outlet.trace.link ≡ true →
+      filter (is_in cycle) (all_frames (segments_at w.outs.items outlet.trace.link))
+      ≡ (if nat_lt cycle outlet.told then map (came_in t.domain outlet.trace.link cycle) (batch_at (sends outlet.trace.link) cycle) else [])
 
 -- the worker's bridge is in the state that follows from what has arrived: its links have sent these frames, each link has passed on the
 -- cycles that it records as passed on, and the drops are those of the offers that weren't covered
@@ -32,7 +32,7 @@ pub record HasComeSoFar (t : Offering) (number : ℕ) (w : Worker) : Type 0 wher
   pub handed : All (HasHandedOn t w sends) w.relay.outlets.items
   pub drops : AreDropsOf t.domain number (come_to w) w.relay.tables w.relay.edge.drops.items
 
--- a worker under way. In any case the tables and stretches that it took are items, its links are tidy and have sent no more than its
+-- a worker under way. In any case the tables and segments that it took are items, its links are tidy and have sent no more than its
 -- cycles, and through each port went the cycles that the port's link has passed on. If what has arrived may arrive (MayHaveComeTo), its
 -- bridge is in the state that follows from it
 pub record IsUnderWay (t : Offering) (number : ℕ) (w : Worker) : Type 0 where
@@ -46,14 +46,14 @@ pub record IsUnderWay (t : Offering) (number : ℕ) (w : Worker) : Type 0 where
   pub early : w.relay.tables ≤ w.relay.cycles
   pub links_in : map link_of w.ins.items ≡ links_into t.domain number
   pub inlets : map link_in w.relay.inlets.items ≡ links_into t.domain number
-  pub ins : All (λ (port : StretchPort). AreItems port.pipe.items) w.ins.items
+  pub ins : All (λ (port : SegmentPort). AreItems port.pipe.items) w.ins.items
   pub links_out : map link_of w.outs.items ≡ links_onward t.domain number
   pub outlets : map link_out w.relay.outlets.items ≡ links_from t.domain number
-  pub wires : All (λ (outlet : Outlet). outlet.wire.onward ≡ is_onward t.domain outlet.tape.link) w.relay.outlets.items
+  pub wires : All (λ (outlet : Outlet). outlet.wire.onward ≡ is_onward t.domain outlet.trace.link) w.relay.outlets.items
   pub tidy : All IsTidy w.relay.outlets.items
   pub within : All (IsWithin w.relay.cycles) w.relay.outlets.items
-  pub outs : (port : StretchPort) (outlet : Outlet) → Contains w.outs.items port → Contains w.relay.outlets.items outlet →
-      port.link ≡ outlet.tape.link → HasPut outlet.told port
+  pub outs : (port : SegmentPort) (outlet : Outlet) → Contains w.outs.items port → Contains w.relay.outlets.items outlet →
+      port.link ≡ outlet.trace.link → HasPut outlet.told port
   pub come : MayHaveComeTo t w → HasComeSoFar t number w
 
 -- a worker under way, for some traffic
@@ -76,11 +76,11 @@ pub record GoesFurther (before after : Worker) : Type 0 where
   pub same : IsSameWorker before after
   pub way : (t : Offering) (number : ℕ) → IsUnderWay t number before → IsUnderWay t number after
 
--- a worker that gives up has put only stretches, and there is room for a Stop
-pub record HasPutStretches (before after : Worker) : Type 0 where
+-- a worker that gives up has put only segments, and there is room for a Stop
+pub record HasPutSegments (before after : Worker) : Type 0 where
   pub outs : wires_of after.outs.items ≡ wires_of before.outs.items
-  pub items : All (λ (port : StretchPort). AreItems port.pipe.items) after.outs.items
-  pub room : All (λ (port : StretchPort). length port.pipe.items < most_items) after.outs.items
+  pub items : All (λ (port : SegmentPort). AreItems port.pipe.items) after.outs.items
+  pub room : All (λ (port : SegmentPort). length port.pipe.items < most_items) after.outs.items
 
 -- a worker that has taken a table from its pipe, which its bridge hasn't taken yet
 pub record HasTable (table : CycleTable) (w : Worker) : Type 0 where
@@ -104,24 +104,24 @@ pub record HandsOnAt (place port : ℕ) (w : Worker) : Type 0 where
   pub there : slice_get w.relay.outlets.items place ≡ Some outlet
   pub onward : outlet.wire.onward ≡ true
   pub more : outlet.told < outlet.sent
-  pub at : StretchPort
+  pub at : SegmentPort
   pub its_port : slice_get w.outs.items port ≡ Some at
-  pub same_link : at.link ≡ outlet.tape.link
+  pub same_link : at.link ≡ outlet.trace.link
 
--- what the bridge has sent and dropped is on the worker's reel
-pub record KeepsReel (before after : Worker) : Type 0 where
+-- what the bridge has sent and dropped is on the worker's bridge trace
+pub record KeepsBridgeTrace (before after : Worker) : Type 0 where
   pub agenda : after.agenda ≡ before.agenda
   pub tables : after.tables ≡ before.tables
   pub ins : after.ins ≡ before.ins
-  pub tapes : after.reel.tapes.items ≡ map (λ (outlet : Outlet). outlet.tape) before.relay.outlets.items
-  pub drops : after.reel.drops ≡ before.relay.edge.drops
+  pub traces : after.bridge_trace.traces.items ≡ map (λ (outlet : Outlet). outlet.trace) before.relay.outlets.items
+  pub drops : after.bridge_trace.drops ≡ before.relay.edge.drops
 
--- a worker has gone through all cycles: it keeps its pipes, has put only stretches, and its bridge did its part for all traffic for which
+-- a worker has gone through all cycles: it keeps its pipes, has put only segments, and its bridge did its part for all traffic for which
 -- it was under way
 pub record EndsSo (before after : Worker) : Type 0 where
   pub tables : after.tables.pipe ≡ before.tables.pipe
   pub ins : wires_of after.ins.items ≡ wires_of before.ins.items
   pub outs : wires_of after.outs.items ≡ wires_of before.outs.items
-  pub items : All (λ (port : StretchPort). AreItems port.pipe.items) after.outs.items
-  pub room : All (λ (port : StretchPort). length port.pipe.items < most_items) after.outs.items
+  pub items : All (λ (port : SegmentPort). AreItems port.pipe.items) after.outs.items
+  pub room : All (λ (port : SegmentPort). length port.pipe.items < most_items) after.outs.items
   pub part : (t : Offering) (number : ℕ) → IsUnderWay t number before → HasGoneThrough t number before.relay.cycles after

@@ -13,10 +13,10 @@ use Rattle.cqf_model.specs.Table.{table_of}
 use Rattle.cqf_laws_cycle.specs.Gathered.{offered_for}
 use Rattle.cqf_admission.specs.Tables.{CycleTable}
 use Rattle.cqf_bridge.specs.Agenda.{AgendaOf, offers_listed_at}
-use Rattle.cqf_tape.specs.declared.tape.Tape.{Tape}
-use Rattle.cqf_tape.specs.Tapes.{links_of, mark_of_sent, starts_at}
-use Rattle.cqf_relay.specs.declared.moving.Stretch.{Stretch}
-use Rattle.cqf_relay.specs.Stretches.{AreNextStretches, Sendings, all_frames, batch_at, came_in, end_of_stretches}
+use Rattle.cqf_trace.specs.declared.trace.Trace.{Trace}
+use Rattle.cqf_trace.specs.Traces.{links_of, mark_of_sent, starts_at}
+use Rattle.cqf_relay.specs.declared.moving.Segment.{Segment}
+use Rattle.cqf_relay.specs.Segments.{AreNextSegments, Sendings, all_frames, batch_at, came_in, end_of_segments}
 use Rattle.cqf_relay.specs.Logs.{is_in}
 use Rattle.cqf_relay.specs.Offering.{dropped_behind}
 use Rattle.cqf_relay.specs.Standing.{Come, HasGoneOnBy, MayBeTables, StandsSo, is_onward, links_from, links_into, nothing_yet, offers_in}
@@ -41,29 +41,29 @@ item_in Stop = []
 abbrev pub items_in : {T : Type 0} → List (Carried T) → List T
 items_in carried = flat_map item_in carried
 
--- an end of a pipe of stretches, with the number of its link
-abbrev pub StretchPort : Type 0
-StretchPort = LinkEnd (End (Carried Stretch))
+-- an end of a pipe of segments, with the number of its link
+abbrev pub SegmentPort : Type 0
+SegmentPort = LinkEnd (End (Carried Segment))
 
--- the stretches that went through a port, and through the port of a link
-abbrev pub stretches_in : StretchPort → List Stretch
-stretches_in port = items_in port.pipe.items
+-- the segments that went through a port, and through the port of a link
+abbrev pub segments_in : SegmentPort → List Segment
+segments_in port = items_in port.pipe.items
 
-abbrev pub stretches_at : List StretchPort → ℕ → List Stretch
-stretches_at [] l = []
-stretches_at (port ∷ ports) l = if port.link == l then stretches_in port else stretches_at ports l
+abbrev pub segments_at : List SegmentPort → ℕ → List Segment
+segments_at [] l = []
+segments_at (port ∷ ports) l = if port.link == l then segments_in port else segments_at ports l
 
 -- the rows of a table
 abbrev pub rows_in : CycleTable → List Row
 rows_in table = table.rows
 
 -- what arrived by these tables, with an agenda's offers of their cycles, and through these ports
-abbrev pub come_by : List CycleTable → AgendaOf → List StretchPort → Come
+abbrev pub come_by : List CycleTable → AgendaOf → List SegmentPort → Come
 come_by tables agenda ins = record {
   tables = map rows_in tables;
   offers = each_below (λ cycle. offers_listed_at agenda cycle ∷ []) (length tables);
-  upto = λ m. end_of_stretches 0 (stretches_at ins m);
-  brought = λ m. all_frames (stretches_at ins m);
+  upto = λ m. end_of_segments 0 (segments_at ins m);
+  brought = λ m. all_frames (segments_at ins m);
 }
 
 -- a domain, and what is offered at its bridges
@@ -79,9 +79,9 @@ HasItsOffers t number agenda = (cycle : ℕ) → offers_listed_at agenda cycle �
 abbrev pub come_to : Worker → Come
 come_to w = come_by (items_in w.tables.items) w.agenda w.ins.items
 
--- what may arrive at a worker: through each link consecutive stretches, and tables that a history can have
+-- what may arrive at a worker: through each link consecutive segments, and tables that a history can have
 pub record MayHaveComeTo (t : Offering) (w : Worker) : Type 0 where
-  pub stretches : (l : ℕ) → AreNextStretches 0 (stretches_at w.ins.items l)
+  pub segments : (l : ℕ) → AreNextSegments 0 (segments_at w.ins.items l)
   pub tables : MayBeTables t.domain (come_to w).tables
 
 -- the link number of a port; and a port at which nothing was put or taken
@@ -113,11 +113,11 @@ pub record MayWork (cycles : ℕ) (w : Worker) : Type 0 where
   pub is : IsWorkerOf traffic number w
   pub has_cycles : w.relay.cycles ≡ cycles
 
--- through a port consecutive stretches were put, from cycle 0 up to the given cycle, and nothing else
-pub record HasPut (upto : ℕ) (port : StretchPort) : Type 0 where
+-- through a port consecutive segments were put, from cycle 0 up to the given cycle, and nothing else
+pub record HasPut (upto : ℕ) (port : SegmentPort) : Type 0 where
   pub items : AreItems port.pipe.items
-  pub next : AreNextStretches 0 (stretches_in port)
-  pub ends : end_of_stretches 0 (stretches_in port) ≡ upto
+  pub next : AreNextSegments 0 (segments_in port)
+  pub ends : end_of_segments 0 (segments_in port) ≡ upto
   pub few : length port.pipe.items ≤ upto
 
 -- the drops of the first cycles, cycle by cycle: in each cycle the offers that weren't covered, by frame number
@@ -129,28 +129,28 @@ pub record AreDropsOf (d : Domain) (number : ℕ) (come : Come) (cycles : ℕ) (
   pub by_frame : (cycle : ℕ) → cycle < cycles → IsNonDecreasingBy (λ (x : Dropped). x.frame) (fresh cycle)
 
 -- what a bridge's links have sent in the first cycles, given what arrived. Each link sends what follows from what arrived; the same was put
--- through the link's port, and is on the reel, with the drops
+-- through the link's port, and is on the bridge trace, with the drops
 pub record HasSentAll (t : Offering) (number cycles : ℕ) (done : Worker) : Type 0 where
   pub sends : Sendings
   pub gone : (l : ℕ) → leaves t.domain l number ≡ true → HasGoneOnBy t.domain number (come_to done) l (sends l)
   pub all : (l : ℕ) → leaves t.domain l number ≡ true → length (sends l) ≡ cycles
   pub put : (l cycle : ℕ) → leaves t.domain l number ≡ true → is_onward t.domain l ≡ true →
-      filter (is_in cycle) (all_frames (stretches_at done.outs.items l)) ≡ map (came_in t.domain l cycle) (batch_at (sends l) cycle)
+      filter (is_in cycle) (all_frames (segments_at done.outs.items l)) ≡ map (came_in t.domain l cycle) (batch_at (sends l) cycle)
   pub starts : (l : ℕ) → leaves t.domain l number ≡ true →
-      starts_at done.reel.tapes.items l ≡ map mark_of_sent (flat_map (λ (batch : List Sent). batch) (sends l))
-  pub no_background : All (λ (tape : Tape). tape.background.items ≡ []) done.reel.tapes.items
-  pub came : All (λ (port : StretchPort). cycles ≤ end_of_stretches 0 (stretches_in port)) done.ins.items
-  pub drops : AreDropsOf t.domain number (come_to done) cycles done.reel.drops.items
+      starts_at done.bridge_trace.traces.items l ≡ map mark_of_sent (flat_map (λ (batch : List Sent). batch) (sends l))
+  pub no_background : All (λ (trace : Trace). trace.background.items ≡ []) done.bridge_trace.traces.items
+  pub came : All (λ (port : SegmentPort). cycles ≤ end_of_segments 0 (segments_in port)) done.ins.items
+  pub drops : AreDropsOf t.domain number (come_to done) cycles done.bridge_trace.drops.items
 
--- the bridge did its part: it took the tables of all cycles, its links put stretches up to the last cycle, and its reel has a tape of each
+-- the bridge did its part: it took the tables of all cycles, its links put segments up to the last cycle, and its bridge trace has a trace of each
 -- of its links. If what arrived may arrive, the links have sent everything
 pub record HasGoneThrough (t : Offering) (number cycles : ℕ) (done : Worker) : Type 0 where
   pub is_agenda : HasItsOffers t number done.agenda
   pub tables : AreItems done.tables.items
   pub had_tables : length (items_in done.tables.items) ≡ cycles
-  pub ins : All (λ (port : StretchPort). AreItems port.pipe.items) done.ins.items
+  pub ins : All (λ (port : SegmentPort). AreItems port.pipe.items) done.ins.items
   pub outs : All (HasPut cycles) done.outs.items
-  pub links : links_of done.reel.tapes.items ≡ links_from t.domain number
+  pub links : links_of done.bridge_trace.traces.items ≡ links_from t.domain number
   pub sent : MayHaveComeTo t done → HasSentAll t number cycles done
 
 -- what a worker promises: it keeps its pipes, and its bridge did its part, for any traffic whose worker it is

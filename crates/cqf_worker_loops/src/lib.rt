@@ -8,10 +8,10 @@
 //!   [`SealingFault`], and what other threads need to see of it. [`stop_each`] and [`stop_tables`] notify other threads that no more items follow.
 //! - **Pipes.** [`pipe`] returns the two ends of a pipe. Items are put at [`PipeIn`], one by one or several at once, and are taken at [`PipeOut`]
 //!   one by one, in the same order. Both ends together give the number of items still under way. In a run a pipe's items are of type [`Carried`]:
-//!   an item such as a [`Stretch`], or a notice that no more items follow. [`LinkEnd`] is an end of a link's pipe.
-//! - **Bells.** A thread that takes from several pipes waits at its [`Bell`], which other threads ring by a `Ringer`. [`pipe_to`] and
+//!   an item such as a [`Segment`], or a notice that no more items follow. [`LinkEnd`] is an end of a link's pipe.
+//! - **Notifiers.** A thread that takes from several pipes waits at its [`Notifier`], which other threads ring by a `Ringer`. [`pipe_to`] and
 //!   [`pipe_between`] return pipes that ring it. The thread looks at each pipe until none has an item left, and then waits. A thread that puts
-//!   into several pipes doesn't wait for room in one of them: it tries ([`PipeIn::try_put`]), and its bell is rung when there is room again.
+//!   into several pipes doesn't wait for room in one of them: it tries ([`PipeIn::try_put`]), and its notifier is rung when there is room again.
 //!
 //! ```text
 //! let (mut into, mut out) = pipe(alloc)?;
@@ -21,7 +21,7 @@
 //! ```
 #![tactic(auto)]
 
-mod bells;
+mod notifiers;
 mod calling;
 mod carried;
 mod link_ends;
@@ -33,7 +33,7 @@ mod rows;
 mod sealing;
 mod worker;
 
-pub use bells::Bell;
+pub use notifiers::Notifier;
 pub use calling::{CallFault, Unmade, make_calls};
 pub use carried::Carried;
 pub use link_ends::LinkEnd;

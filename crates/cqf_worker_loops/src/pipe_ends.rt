@@ -5,7 +5,7 @@ ghost use Rattle.crossbeam_channel.specs.Ends.{receives_on};
 ghost use Rattle.cqf_worker_loops.specs.PipeEnds.{AreLeft, IsTaker, item_back, items_found};
 ghost use Rattle.cqf_worker_loops.specs.PipeRule.{IsTaken, most_items};
 
-use crate::bells::{Bell, Ringer};
+use crate::notifiers::{Notifier, Ringer};
 use crate::pipe_rule::{
     Bundle, InOrder, PipeLog, PipeReceiver, PipeSender, Puts, Roles, Takes, Token, Total,
 };
@@ -32,7 +32,7 @@ pub struct PipeIn<T: Drop> {
     pass: Token<T>,
     puts: u64,
     /// What is rung after each put, and when this end is gone: fields are dropped in order, so this one after the sender.
-    bell: Option<Ringer>,
+    notifier: Option<Ringer>,
 }
 
 impl<T: Drop> Model for PipeIn<T> {
@@ -61,7 +61,7 @@ pub struct PipeOut<T: Drop> {
     streak: usize,
     /// What is rung when the channel is found empty after that many bundles were taken that it may have been full, as there is room again;
     /// and when this end is gone.
-    bell: Option<Ringer>,
+    notifier: Option<Ringer>,
 }
 
 impl<T: Drop> Model for PipeOut<T> {
@@ -110,11 +110,11 @@ pub fn pipe<T: Drop + Send>(alloc: Global) -> Result<(PipeIn<T>, PipeOut<T>), Me
     Ok(ends)
 }
 
-/// Returns the two ends of such a pipe to a thread that waits at a bell. The bell is rung after each put, and when the putting end is gone.
+/// Returns the two ends of such a pipe to a thread that waits at a notifier. The notifier is rung after each put, and when the putting end is gone.
 /// Returns `Memory` if an allocation fails.
 pub fn pipe_to<T: Drop + Send>(
     alloc: Global,
-    taker: &Bell,
+    taker: &Notifier,
 ) -> Result<(PipeIn<T>, PipeOut<T>), Memory>
     ensures pair { IfOk result (λ ends. ends.0.pipe ≡ ends.1.pipe) }
     ensures nothing_put { IfOk result (λ ends. ends.0.items ≡ []) }
@@ -125,13 +125,13 @@ pub fn pipe_to<T: Drop + Send>(
     Ok(ends)
 }
 
-/// Returns the two ends of such a pipe between two threads that wait at bells. The taker's bell is rung after each put, and when the
-/// putting end is gone. The putter's bell is rung when there is room in the pipe again, and when the taking end is gone. Returns `Memory`
+/// Returns the two ends of such a pipe between two threads that wait at notifiers. The taker's notifier is rung after each put, and when the
+/// putting end is gone. The putter's notifier is rung when there is room in the pipe again, and when the taking end is gone. Returns `Memory`
 /// if an allocation fails.
 pub fn pipe_between<T: Drop + Send>(
     alloc: Global,
-    putter: &Bell,
-    taker: &Bell,
+    putter: &Notifier,
+    taker: &Notifier,
 ) -> Result<(PipeIn<T>, PipeOut<T>), Memory>
     ensures pair { IfOk result (λ ends. ends.0.pipe ≡ ends.1.pipe) }
     ensures nothing_put { IfOk result (λ ends. ends.0.items ≡ []) }
@@ -162,7 +162,7 @@ fn pipe_with<T: Drop + Send>(
         sender,
         pass,
         puts: 0,
-        bell: onward,
+        notifier: onward,
     };
     let out = PipeOut {
         receiver,
@@ -170,14 +170,14 @@ fn pipe_with<T: Drop + Send>(
         waiting: VecDeque::new(alloc),
         takes: 0,
         streak: 0,
-        bell: back,
+        notifier: back,
     };
     Ok((into, out))
 }
 
-/// Rings a bell, if there is one.
-fn ring(bell: &Option<Ringer>) {
-    if let Some(ringer) = bell {
+/// Rings a notifier, if there is one.
+fn ring(notifier: &Option<Ringer>) {
+    if let Some(ringer) = notifier {
         ringer.ring();
     }
 }
@@ -242,7 +242,7 @@ impl<T: Drop> PipeIn<T> {
         match self.sender.send_as::<Puts, R>(rt, &mut self.pass, bundle) {
             Ok(()) => {
                 self.puts += count;
-                ring(&self.bell);
+                ring(&self.notifier);
                 Ok(())
             }
             Err(refused) => {
@@ -271,7 +271,7 @@ impl<T: Drop> PipeIn<T> {
         {
             Ok(()) => {
                 self.puts += 1;
-                ring(&self.bell);
+                ring(&self.notifier);
                 Ok(())
             }
             Err(TrySendError::Full(back)) => {
@@ -302,7 +302,7 @@ impl<T: Drop> PipeIn<T> {
             sender,
             mut pass,
             puts,
-            bell: _onward,
+            notifier: _onward,
         } = self;
         let PipeOut {
             receiver: _receiver,
@@ -310,7 +310,7 @@ impl<T: Drop> PipeIn<T> {
             waiting: _waiting,
             takes,
             streak: _streak,
-            bell: _back,
+            notifier: _back,
         } = out;
         sender.absorb::<Roles>(&mut pass, other);
         sender.learn_as::<Total>(&mut pass);
@@ -320,7 +320,7 @@ impl<T: Drop> PipeIn<T> {
 
 impl<T: Drop> PipeOut<T> {
     /// Takes the first item put of those that wait. Returns `Nothing` if none waits, and `Gone` if also the other end is gone. If `Nothing`
-    /// is found, and the pipe may have been full since the last time, the bell of the other end's thread is rung. So a thread that takes
+    /// is found, and the pipe may have been full since the last time, the notifier of the other end's thread is rung. So a thread that takes
     /// items until none is left leaves nobody waiting for room. It doesn't block and allocates no memory.
     pub fn look<R: Wait>(&mut self, rt: &R) -> FoundItem<T>
         ensures pipe { self.new.pipe ≡ self.old.pipe }
@@ -346,12 +346,12 @@ impl<T: Drop> PipeOut<T> {
         }
     }
 
-    /// Notes that the channel was found empty. Rings the bell if the channel may have been full before, as there is room again.
+    /// Notes that the channel was found empty. Rings the notifier if the channel may have been full before, as there is room again.
     fn end_streak(&mut self)
         ensures { self.new ≡ self.old }
     {
         if self.streak >= CAPACITY {
-            ring(&self.bell);
+            ring(&self.notifier);
         }
         self.streak = 0;
     }

@@ -1,7 +1,7 @@
 //! The rounds of a bridge's thread: each link goes on independently.
 ghost use Rattle.std.specs.Prelude.{◌≡◌, ◌<◌, IfErr, IfOk, OnErr, OnOk, length};
 ghost use Rattle.cqf_worker_loops.specs.GivingUp.{GivesUpFor};
-ghost use Rattle.cqf_worker_loops.specs.Stepping.{EndsSo, EntersTable, GoesFurther, HandsOnAt, HasPutStretches, HasTable, KeepsReel, SomeUnderWay};
+ghost use Rattle.cqf_worker_loops.specs.Stepping.{EndsSo, EntersTable, GoesFurther, HandsOnAt, HasPutSegments, HasTable, KeepsBridgeTrace, SomeUnderWay};
 ghost use Rattle.cqf_worker_loops.specs.declared.worker.WorkerFault.TheVariants.{Memory};
 
 use crate::carried::Carried;
@@ -35,7 +35,7 @@ fn look_for_tables<R: Wait, P: Pace>(
 ) -> Result<(), WorkerFault>
     requires { SomeUnderWay worker.old }
     ensures ok { OnOk result (GoesFurther worker.old worker.new) }
-    ensures err { OnErr result (HasPutStretches worker.old worker.new) }
+    ensures err { OnErr result (HasPutSegments worker.old worker.new) }
 {
     for _table in worker.relay.tables()..worker.relay.cycles() {
         if !worker.relay.wants_table() {
@@ -50,16 +50,16 @@ fn look_for_tables<R: Wait, P: Pace>(
     Ok(())
 }
 
-/// Takes the stretches that have arrived through the inlet at this index, until none is left.
-fn look_for_stretches<R: Wait>(rt: &R, worker: &mut Worker, place: usize) -> Result<(), WorkerFault>
+/// Takes the segments that have arrived through the inlet at this index, until none is left.
+fn look_for_segments<R: Wait>(rt: &R, worker: &mut Worker, place: usize) -> Result<(), WorkerFault>
     requires way { SomeUnderWay worker.old }
     requires place { place < length worker.old.ins.items }
     ensures ok { OnOk result (GoesFurther worker.old worker.new) }
-    ensures err { OnErr result (HasPutStretches worker.old worker.new) }
+    ensures err { OnErr result (HasPutSegments worker.old worker.new) }
 {
-    for _stretch in 0..u64::MAX {
+    for _segment in 0..u64::MAX {
         match worker.ins[place].pipe.look(rt) {
-            FoundItem::Item(Carried::Item(stretch)) => worker.relay.take_stretch(place, &stretch)?,
+            FoundItem::Item(Carried::Item(segment)) => worker.relay.take_segment(place, &segment)?,
             FoundItem::Nothing => break,
             _ => return Err(WorkerFault::Stopped),
         }
@@ -71,17 +71,17 @@ fn look_for_stretches<R: Wait>(rt: &R, worker: &mut Worker, place: usize) -> Res
 fn look<R: Wait, P: Pace>(rt: &R, pace: &P, worker: &mut Worker) -> Result<(), WorkerFault>
     requires { SomeUnderWay worker.old }
     ensures ok { OnOk result (GoesFurther worker.old worker.new) }
-    ensures err { OnErr result (HasPutStretches worker.old worker.new) }
+    ensures err { OnErr result (HasPutSegments worker.old worker.new) }
 {
     look_for_tables(rt, pace, worker)?;
     for place in 0..worker.ins.len() {
-        look_for_stretches(rt, worker, place)?;
+        look_for_segments(rt, worker, place)?;
     }
     Ok(())
 }
 
 /// Passes on what the link at index `place` has sent, to the bridge at its end, through the port at index `port`. If the pipe is full, the
-/// bridge keeps it for later: the bell rings when there is room.
+/// bridge keeps it for later: the notifier rings when there is room.
 fn tell_on<R: Wait>(
     rt: &R,
     alloc: Global,
@@ -92,11 +92,11 @@ fn tell_on<R: Wait>(
     requires way { SomeUnderWay worker.old }
     requires at { HandsOnAt place port worker.old }
     ensures ok { OnOk result (GoesFurther worker.old worker.new) }
-    ensures err { OnErr result (HasPutStretches worker.old worker.new) }
+    ensures err { OnErr result (HasPutSegments worker.old worker.new) }
 {
     let told = worker.relay.outlets()[place].told();
-    let stretch = worker.relay.stretch_of(alloc, place);
-    match worker.outs[port].pipe.try_put(rt, Carried::Item(stretch)) {
+    let segment = worker.relay.segment_of(alloc, place);
+    match worker.outs[port].pipe.try_put(rt, Carried::Item(segment)) {
         Ok(()) => Ok(()),
         Err(NotPut::Full(Carried::Item(back))) => {
             worker.relay.keep_back(place, told, back);
@@ -110,7 +110,7 @@ fn tell_on<R: Wait>(
 fn tell<R: Wait>(rt: &R, alloc: Global, worker: &mut Worker) -> Result<(), WorkerFault>
     requires { SomeUnderWay worker.old }
     ensures ok { OnOk result (GoesFurther worker.old worker.new) }
-    ensures err { OnErr result (HasPutStretches worker.old worker.new) }
+    ensures err { OnErr result (HasPutSegments worker.old worker.new) }
 {
     let cycles = worker.relay.cycles();
     let mut port = 0;
@@ -135,7 +135,7 @@ fn go_on<R: Wait, P: Pace>(
 ) -> Result<bool, WorkerFault>
     requires { SomeUnderWay worker.old }
     ensures ok { IfOk result (λ went. GoesFurther worker.old worker.new) }
-    ensures err { OnErr result (HasPutStretches worker.old worker.new) }
+    ensures err { OnErr result (HasPutSegments worker.old worker.new) }
 {
     look(rt, pace, worker)?;
     let may_send = worker.relay.may_send();
@@ -147,18 +147,18 @@ fn go_on<R: Wait, P: Pace>(
     Ok(may_send)
 }
 
-/// Moves what the bridge has sent and dropped to the worker's reel.
+/// Moves what the bridge has sent and dropped to the worker's bridge trace.
 fn keep(alloc: Global, worker: &mut Worker) -> Result<(), WorkerFault>
-    ensures ok { OnOk result (KeepsReel worker.old worker.new) }
+    ensures ok { OnOk result (KeepsBridgeTrace worker.old worker.new) }
     ensures err { IfErr result (λ fault. fault ≡ Memory) }
     ensures outs { worker.new.outs ≡ worker.old.outs }
 {
-    worker.reel = worker.relay.take_reel(alloc)?;
+    worker.bridge_trace = worker.relay.take_bridge_trace(alloc)?;
     Ok(())
 }
 
-/// Goes through all cycles. If no link can go on with what has arrived so far, it waits at its bell. The bell is rung for each table and
-/// each stretch, and when there is room for what couldn't be passed on. It waits nowhere else.
+/// Goes through all cycles. If no link can go on with what has arrived so far, it waits at its notifier. The notifier is rung for each table and
+/// each segment, and when there is room for what couldn't be passed on. It waits nowhere else.
 pub(crate) fn work_rounds<R: Wait, P: Pace>(
     rt: &R,
     alloc: Global,
@@ -168,7 +168,7 @@ pub(crate) fn work_rounds<R: Wait, P: Pace>(
     requires { SomeUnderWay worker.old }
     ensures ok { OnOk result (EndsSo worker.old worker.new) }
     ensures err { IfErr result (GivesUpFor worker.old.relay.cycles) }
-    ensures put { OnErr result (HasPutStretches worker.old worker.new) }
+    ensures put { OnErr result (HasPutSegments worker.old worker.new) }
 {
     for _round in rt.forever() {
         if worker.relay.is_over() {
@@ -176,7 +176,7 @@ pub(crate) fn work_rounds<R: Wait, P: Pace>(
         }
         let went = go_on(rt, alloc, pace, worker)?;
         if !went && !worker.relay.is_over() {
-            worker.bell.wait(rt);
+            worker.notifier.wait(rt);
         }
     }
     keep(alloc, worker)

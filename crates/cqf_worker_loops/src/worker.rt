@@ -12,11 +12,11 @@ use crate::link_ends::LinkEnd;
 use crate::pace::Pace;
 use crate::rounds::work_rounds;
 use crate::rows::stop_each;
-use crate::{Bell, PipeIn, PipeOut};
+use crate::{Notifier, PipeIn, PipeOut};
 use cqf_admission::Table;
 use cqf_bridge::Agenda;
-use cqf_relay::{Relay, Stretch};
-use cqf_tape::Reel;
+use cqf_relay::{Relay, Segment};
+use cqf_trace::BridgeTrace;
 use cqf_units::Memory;
 use std::alloc::Global;
 use std::sync::Wait;
@@ -25,18 +25,18 @@ use std::sync::Wait;
 #[derive(Drop)]
 pub struct Worker {
     pub relay: Relay,
-    /// Where it waits. The bell is rung for each table and each stretch that arrives, and for room in a pipe that was full.
-    pub bell: Bell,
+    /// Where it waits. The notifier is rung for each table and each segment that arrives, and for room in a pipe that was full.
+    pub notifier: Notifier,
     /// The offers at the bridge, by cycle.
     pub agenda: Agenda,
     /// Where the table of each cycle arrives.
     pub tables: PipeOut<Carried<Table>>,
     /// The ends of the pipes on the links that end in the bridge, by link number.
-    pub ins: Vec<LinkEnd<PipeOut<Carried<Stretch>>>>,
+    pub ins: Vec<LinkEnd<PipeOut<Carried<Segment>>>>,
     /// The ends of the pipes on the links that leave the bridge and end in another bridge, by link number.
-    pub outs: Vec<LinkEnd<PipeIn<Carried<Stretch>>>>,
+    pub outs: Vec<LinkEnd<PipeIn<Carried<Segment>>>>,
     /// What the bridge has sent and dropped.
-    pub reel: Reel,
+    pub bridge_trace: BridgeTrace,
 }
 
 /// Why a worker ends before its last cycle is over.
@@ -60,18 +60,18 @@ impl From<Memory> for WorkerFault {
 }
 
 /// What a worker returns when it gives up: the number of its bridge, from 0, the fault, and the ends at which it put items. At each of
-/// these it put stretches, and then at most one `Stop`.
+/// these it put segments, and then at most one `Stop`.
 #[derive(Drop)]
 pub struct GaveUp {
     pub bridge: u16,
     pub fault: WorkerFault,
-    pub outs: Vec<LinkEnd<PipeIn<Carried<Stretch>>>>,
+    pub outs: Vec<LinkEnd<PipeIn<Carried<Segment>>>>,
 }
 
 /// Drops a worker. It first drops the ends at which the worker takes, so that no thread that puts there waits for room any more. Then it
 /// notifies the threads that take from the worker that no more items follow. Returns the ends at which a `Stop` was put after nothing but
-/// stretches.
-fn let_go<R: Wait>(rt: &R, worker: Worker) -> Vec<LinkEnd<PipeIn<Carried<Stretch>>>>
+/// segments.
+fn let_go<R: Wait>(rt: &R, worker: Worker) -> Vec<LinkEnd<PipeIn<Carried<Segment>>>>
     requires room { All (λ port. length port.pipe.items < most_items) worker.outs.items }
     requires batches { All (λ port. AreItems port.pipe.items) worker.outs.items }
     ensures count { length result.items ≡ length worker.outs.items }
@@ -84,9 +84,9 @@ fn let_go<R: Wait>(rt: &R, worker: Worker) -> Vec<LinkEnd<PipeIn<Carried<Stretch
         ins,
         mut outs,
         relay: _relay,
-        bell: _bell,
+        notifier: _notifier,
         agenda: _agenda,
-        reel: _reel,
+        bridge_trace: _bridge_trace,
     } = worker;
     drop(tables);
     drop(ins);
@@ -95,10 +95,10 @@ fn let_go<R: Wait>(rt: &R, worker: Worker) -> Vec<LinkEnd<PipeIn<Carried<Stretch
 }
 
 /// Goes through all cycles of a run with a bridge on its thread. The worker has done nothing before. It comes back with what went through
-/// its pipes, and with what its bridge sent and dropped on its reel. The pace is called in each cycle once the cycle's table has arrived,
-/// while no lock is held. The worker waits only at its bell, unless it gives up. If it gives up, it first notifies the threads that put
-/// items for it, and then those that take from it. The ends at which it notifies the latter come back. The rest is gone with its reel, and
-/// without the reel there is no book. It returns `Memory` if an allocation fails, and `Stopped`, only if there are cycles, if it is
+/// its pipes, and with what its bridge sent and dropped on its bridge trace. The pace is called in each cycle once the cycle's table has arrived,
+/// while no lock is held. The worker waits only at its notifier, unless it gives up. If it gives up, it first notifies the threads that put
+/// items for it, and then those that take from it. The ends at which it notifies the latter come back. The rest is gone with its bridge trace, and
+/// without the bridge trace there is no book. It returns `Memory` if an allocation fails, and `Stopped`, only if there are cycles, if it is
 /// stopped. The caller ensures that there are at most 100,000 cycles.
 pub fn work<R: Wait, P: Pace>(
     rt: &R,

@@ -6,7 +6,7 @@ ghost use Rattle.cqf_model.specs.Run.{AreBackground, AreOffers};
 ghost use Rattle.cqf_world.specs.Beginning.{new_world};
 ghost use Rattle.cqf_world.specs.World.{ArePagesOfTheBook};
 ghost use Rattle.cqf_world.specs.Events.{AnswersEvent, Happens, IsEnabled, MayBeGiven, MayPost, MayStep, MayTake};
-ghost use Rattle.cqf_model.specs.Limits.{most_calls, most_cycles, most_rows};
+ghost use Rattle.cqf_model.specs.Limits.{most_calls, most_cycles, most_offers};
 
 use crate::calling::{ask, close_cycle};
 use crate::events::{Applied, Event};
@@ -100,9 +100,9 @@ impl<'a> World<'a> {
         requires domain { admission.domain ≡ plan.now }
         requires no_seal { seals admission.entries ≡ 0 }
         requires offers { AreOffers plan.now offers.now }
-        requires few_offers { length offers.now ≤ most_rows }
+        requires few_offers { length offers.now ≤ most_offers }
         requires background { AreBackground plan.now background.now }
-        requires few_background { length background.now ≤ most_rows }
+        requires few_background { length background.now ≤ most_offers }
         requires few_cycles { cycles ≤ most_cycles }
         ensures { IfOk result (λ world. world ≡ new_world admission offers.now background.now cycles) }
     {

@@ -15,7 +15,7 @@ use Rattle.cqf_program_scenario.specs.Lines.{domain_line}
 use Rattle.cqf_program_scenario.specs.Parts.{two_parts}
 use Rattle.cqf_model.specs.Refusals.{text_of_refusal}
 use Rattle.cqf_model.specs.declared.history.Refused.{Refused}
-use Rattle.cqf_press.specs.Stops.{line_of, or_line}
+use Rattle.cqf_output.specs.Stops.{line_of, or_line}
 use Rattle.cqf_model.specs.Limits.{most_streams}
 use Rattle.cqf_program_plans.specs.Reserving.{requests_in}
 

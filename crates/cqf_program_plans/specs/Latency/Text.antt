@@ -13,7 +13,7 @@ use Rattle.cqf_laws_timing.specs.Verdicts.{Sure, InTime, Late, MayBeLate, sure_o
 use Rattle.cqf_report.specs.Records.{Fields}
 use Rattle.cqf_report.specs.Written.{line_of_fields}
 use Rattle.cqf_program_plans.specs.EndNames.{name_of_end}
-use Rattle.cqf_press.specs.Stops.{fault_line}
+use Rattle.cqf_output.specs.Stops.{fault_line}
 use Rattle.cqf_program_plans.specs.declared.latency.latencies.Latency.{Latency}
 use Rattle.cqf_program_plans.specs.declared.latency.latencies.Verdict.{Verdict}
 use Rattle.cqf_program_plans.specs.declared.latency.latencies.Verdict.TheVariants as told

@@ -16,7 +16,7 @@ use Rattle.cqf_gates.specs.declared.faults.TextFault.{TextFault}
 use Rattle.cqf_program_scenario.specs.Parts.{two_parts}
 use Rattle.cqf_report.specs.Faults.{table_fault_text}
 use Rattle.cqf_report.specs.declared.tables.TableFault.{TableFault}
-use Rattle.cqf_press.specs.Stops.{fault_line, or_line}
+use Rattle.cqf_output.specs.Stops.{fault_line, or_line}
 
 -- the line for a gate list that is refused
 abbrev pub list_line : TextFault → List ℕ

@@ -11,7 +11,7 @@ ghost use Rattle.cqf_program_plans.specs.Compile.Output.{configuration_of, AreAl
 ghost use Rattle.cqf_program_plans.specs.Compile.Told.{text_of_config};
 ghost use Rattle.cqf_admission.specs.Turns.{AreOfGoodPaces};
 ghost use Rattle.cqf_admission.specs.Orders.{request_at};
-ghost use Rattle.cqf_press.specs.Stops.{EndsWith, IsRefused};
+ghost use Rattle.cqf_output.specs.Stops.{EndsWith, IsRefused};
 
 use crate::compile::outputs::ConfigOutput;
 use crate::reserving::requests_in;
@@ -19,7 +19,7 @@ use cqf_admission::{Ledger, Receipt, Refused, count_places, judge_paced};
 use cqf_compile::compile;
 use cqf_laws_history::state_follows_history;
 use cqf_model::{Limits, Row};
-use cqf_press::{REFUSED, Sheet, Stop};
+use cqf_output::{REFUSED, Buffer, Stop};
 use cqf_program_scenario::{domain_part, two_parts};
 use cqf_topology::{Domain, PacedRequest};
 use cqf_units::{Cycle, Memory};
@@ -221,8 +221,8 @@ fn config_ready(alloc: Global, domain: &Domain, rows: Vec<Row>) -> Result<Config
     ensures { IfOk result (λ output. output ≡ record { domain = domain.now; rows = rows.items }) }
 {
     let plan = compile(alloc, domain)?;
-    let sheet = Sheet::new(alloc)?;
-    Ok(ConfigOutput { plan, rows, sheet })
+    let buffer = Buffer::new(alloc)?;
+    Ok(ConfigOutput { plan, rows, buffer })
 }
 
 /// Returns the configuration of a domain with these streams, ready to be written.

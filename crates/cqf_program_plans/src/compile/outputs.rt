@@ -1,18 +1,18 @@
 //! The output of `compile`.
 ghost use Rattle.cqf_program_plans.specs.Compile.Told.{text_of_config};
-ghost use Rattle.cqf_press.specs.Edge.{HasTold, writing};
+ghost use Rattle.cqf_output.specs.Edge.{HasTold, writing};
 
 use cqf_compile::{Plan, put_config};
 use cqf_model::Row;
-use cqf_press::{Press, Sheet, Sink, Told};
+use cqf_output::{Writer, Buffer, Sink, Told};
 use std::marker::Model;
 
-/// The output of `compile` before it is written: the plan of a domain, the rows of its streams by number, and a sheet.
+/// The output of `compile` before it is written: the plan of a domain, the rows of its streams by number, and a buffer.
 #[derive(Drop)]
 pub struct ConfigOutput {
     pub(crate) plan: Plan,
     pub(crate) rows: Vec<Row>,
-    pub(crate) sheet: Sheet,
+    pub(crate) buffer: Buffer,
 }
 
 impl Model for ConfigOutput {
@@ -31,9 +31,9 @@ impl ConfigOutput {
     pub fn tell<W: Sink>(self, told: &mut Told<W>)
         ensures { HasTold (writing W.contents told.old told.new) (text_of_config self) }
     {
-        let ConfigOutput { plan, rows, sheet } = self;
-        let mut press = Press::new(told, sheet);
-        put_config(&mut press, &plan, rows.as_slice());
-        let _told = press.close();
+        let ConfigOutput { plan, rows, buffer } = self;
+        let mut writer = Writer::new(told, buffer);
+        put_config(&mut writer, &plan, rows.as_slice());
+        let _told = writer.close();
     }
 }

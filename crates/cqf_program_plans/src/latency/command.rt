@@ -3,7 +3,7 @@ ghost use Rattle.std.specs.Prelude.{ℕ, ◌≡◌, true, Ok, IfOk, IfErr, OnOk,
 ghost use Rattle.cqf_admission.specs.Asking.{asked_paced};
 ghost use Rattle.cqf_admission.specs.Turns.{AreOfGoodPaces};
 ghost use Rattle.cqf_laws_history.specs.StateLaws.{AreHeld};
-ghost use Rattle.cqf_press.specs.Stops.{EndsWith, IsRefused};
+ghost use Rattle.cqf_output.specs.Stops.{EndsWith, IsRefused};
 ghost use Rattle.cqf_program_plans.specs.Latency.Text.{first_line_of, first_not_sure, is_not_sure, latencies_of, latency_text, not_sure_line, text_of_latency};
 ghost use Rattle.cqf_program_plans.specs.Latency.Input.{asked_in, deadlines_in, latency_of_input};
 ghost use Rattle.cqf_program_plans.specs.Latency.Output.{latency_of_plan, unless_strict};
@@ -15,7 +15,7 @@ use crate::latency::outputs::LatencyOutput;
 use crate::latency::reading::{parted, read_planned};
 use crate::rows_of_cycle_0;
 use cqf_model::{Limits, Row};
-use cqf_press::{REFUSED, Sheet, Stop};
+use cqf_output::{REFUSED, Buffer, Stop};
 use cqf_topology::{Domain, PacedRequest, Planned};
 use cqf_units::Memory;
 use std::alloc::Global;
@@ -78,8 +78,8 @@ fn latencies_ready(
     ensures { IfOk result (λ output. output ≡ latencies_of domain rows.items deadlines.now) }
 {
     let latencies = latencies_of_rows(alloc, &domain, rows.as_slice(), deadlines)?;
-    let sheet = Sheet::new(alloc)?;
-    Ok(LatencyOutput { latencies, sheet })
+    let buffer = Buffer::new(alloc)?;
+    Ok(LatencyOutput { latencies, buffer })
 }
 
 /// Returns the output for a table's rows.

@@ -1,14 +1,14 @@
 //! The output of `latency`, before it is written.
 
 use crate::latency::latencies::Latency;
-use cqf_press::Sheet;
+use cqf_output::Buffer;
 use std::marker::Model;
 
-/// The output of `latency` before it is written: the latencies, and a sheet. Contracts see only the latencies.
+/// The output of `latency` before it is written: the latencies, and a buffer. Contracts see only the latencies.
 #[derive(Drop)]
 pub struct LatencyOutput {
     pub(crate) latencies: Vec<Latency>,
-    pub(crate) sheet: Sheet,
+    pub(crate) buffer: Buffer,
 }
 
 impl Model for LatencyOutput {

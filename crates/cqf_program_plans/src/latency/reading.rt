@@ -2,12 +2,12 @@
 ghost use Rattle.std.specs.Prelude.{◌≡◌, Ok, IfErr, IfOk, map};
 ghost use Rattle.cqf_admission.specs.Asking.{asked_paced};
 ghost use Rattle.cqf_program_plans.specs.Latency.Input.{asked_in, deadlines_in, latency_input};
-ghost use Rattle.cqf_press.specs.Stops.{IsRefused};
+ghost use Rattle.cqf_output.specs.Stops.{IsRefused};
 ghost use Rattle.cqf_topology.specs.PlannedText.{planned_text};
 
 use crate::reserving::planned_in;
 use cqf_model::Limits;
-use cqf_press::Stop;
+use cqf_output::Stop;
 use cqf_program_scenario::{domain_part, two_parts};
 use cqf_topology::{Domain, PacedRequest, Planned};
 use cqf_units::Memory;

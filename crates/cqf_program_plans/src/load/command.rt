@@ -4,14 +4,14 @@ ghost use Rattle.cqf_model.specs.History.{Asked};
 ghost use Rattle.cqf_admission.specs.Asking.{asked_paced};
 ghost use Rattle.cqf_program_plans.specs.Load.Output.{listed_from, loaded_input};
 ghost use Rattle.cqf_program_plans.specs.Load.Text.{text_of_load};
-ghost use Rattle.cqf_press.specs.Stops.{IsRefused};
+ghost use Rattle.cqf_output.specs.Stops.{IsRefused};
 
 use crate::load::listing::LoadListing;
 use crate::load::outputs::LoadOutput;
 use crate::{read_plan, stream_stop};
 use cqf_admission::count_places;
 use cqf_model::Limits;
-use cqf_press::{Sheet, Stop};
+use cqf_output::{Buffer, Stop};
 use cqf_topology::{Domain, PacedRequest};
 use std::alloc::Global;
 
@@ -67,11 +67,11 @@ pub fn load_output(alloc: Global, limits: Limits, input: &[u8]) -> Result<LoadOu
 {
     let (domain, requests) = read_plan(alloc, limits, input)?;
     let listing = list_all(alloc, &domain, requests.as_slice())?;
-    match Sheet::new(alloc) {
-        Ok(sheet) => Ok(LoadOutput {
+    match Buffer::new(alloc) {
+        Ok(buffer) => Ok(LoadOutput {
             domain,
             listing,
-            sheet,
+            buffer,
         }),
         Err(_) => Err(Stop::memory(alloc)),
     }

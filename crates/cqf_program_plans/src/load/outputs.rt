@@ -1,16 +1,16 @@
 //! The output of `load`, before it is written.
 
 use crate::load::listing::LoadListing;
-use cqf_press::Sheet;
+use cqf_output::Buffer;
 use cqf_topology::Domain;
 use std::marker::Model;
 
-/// The output of `load` before it is written: a domain, its streams, and a sheet.
+/// The output of `load` before it is written: a domain, its streams, and a buffer.
 #[derive(Drop)]
 pub struct LoadOutput {
     pub(crate) domain: Domain,
     pub(crate) listing: LoadListing,
-    pub(crate) sheet: Sheet,
+    pub(crate) buffer: Buffer,
 }
 
 impl Model for LoadOutput {

@@ -3,14 +3,14 @@ ghost use Rattle.std.specs.Prelude.{◌≡◌, ◌-◌, ◌<◌, ◌^◌, decima
 ghost use Rattle.cqf_model.specs.Domain.{budget};
 ghost use Rattle.cqf_program_plans.specs.Load.Fitting.{fits_in, megabits_of, rate_on};
 ghost use Rattle.cqf_program_plans.specs.Load.Text.{left_text, lines_of_links, load_fields, load_header, load_text, percentage_text, text_of_load, used_text};
-ghost use Rattle.cqf_press.specs.Edge.{HasTold, writing};
-ghost use Rattle.cqf_press.specs.Press.{Puts};
+ghost use Rattle.cqf_output.specs.Edge.{HasTold, writing};
+ghost use Rattle.cqf_output.specs.Writer.{Puts};
 ghost use Rattle.cqf_report.specs.Written.{line_of_fields};
 
 use crate::load::listing::LoadListing;
 use crate::load::outputs::LoadOutput;
 use cqf_model::MOST_OCTETS;
-use cqf_press::{Press, Sink, Told};
+use cqf_output::{Writer, Sink, Told};
 use cqf_topology::{Domain, put_link};
 use cqf_units::Rate;
 
@@ -65,90 +65,90 @@ fn fits_in(left: u64) -> u64
 }
 
 /// Puts what is left of a budget, negative if more is held.
-fn put_left<W: Sink>(press: &mut Press<'_, W>, budget: u64, held: u64)
-    ensures { Puts W.contents press.old press.new (left_text budget held) }
+fn put_left<W: Sink>(writer: &mut Writer<'_, W>, budget: u64, held: u64)
+    ensures { Puts W.contents writer.old writer.new (left_text budget held) }
 {
     if held <= budget {
-        press.put_number(budget - held);
+        writer.put_number(budget - held);
     } else {
-        press.put_byte(b'-');
-        press.put_number(held - budget);
+        writer.put_byte(b'-');
+        writer.put_number(held - budget);
     }
 }
 
 /// Puts thousandths as a percentage.
-fn put_percentage<W: Sink>(press: &mut Press<'_, W>, thousandths: u64)
-    ensures { Puts W.contents press.old press.new (percentage_text thousandths) }
+fn put_percentage<W: Sink>(writer: &mut Writer<'_, W>, thousandths: u64)
+    ensures { Puts W.contents writer.old writer.new (percentage_text thousandths) }
 {
-    press.put_number(thousandths / 10);
-    press.put_byte(b'.');
-    press.put_number(thousandths % 10);
+    writer.put_number(thousandths / 10);
+    writer.put_byte(b'.');
+    writer.put_number(thousandths % 10);
 }
 
 /// Puts the share of a budget that is held; nothing if the budget is 0.
-fn put_used<W: Sink>(press: &mut Press<'_, W>, budget: u64, held: u64)
+fn put_used<W: Sink>(writer: &mut Writer<'_, W>, budget: u64, held: u64)
     requires { held < 2 ^ 36 }
-    ensures { Puts W.contents press.old press.new (used_text budget held) }
+    ensures { Puts W.contents writer.old writer.new (used_text budget held) }
 {
     if budget != 0 {
-        put_percentage(press, 1000 * held / budget);
+        put_percentage(writer, 1000 * held / budget);
     }
 }
 
 /// Puts the greatest reservation that still fits a budget.
-fn put_fits<W: Sink>(press: &mut Press<'_, W>, budget: u64, held: u64)
+fn put_fits<W: Sink>(writer: &mut Writer<'_, W>, budget: u64, held: u64)
     requires { budget < 2 ^ 32 }
-    ensures { Puts W.contents press.old press.new (decimal (fits_in (budget - held))) }
+    ensures { Puts W.contents writer.old writer.new (decimal (fits_in (budget - held))) }
 {
-    press.put_number(fits_in(budget.saturating_sub(held)));
+    writer.put_number(fits_in(budget.saturating_sub(held)));
 }
 
 /// Puts the line of a link.
-fn put_line<W: Sink>(press: &mut Press<'_, W>, domain: &Domain, listing: &LoadListing, link: u16)
+fn put_line<W: Sink>(writer: &mut Writer<'_, W>, domain: &Domain, listing: &LoadListing, link: u16)
     requires { link < length domain.now.links }
-    ensures { Puts W.contents press.old press.new (line_of_fields (load_fields domain.now listing.now link)) }
+    ensures { Puts W.contents writer.old writer.new (line_of_fields (load_fields domain.now listing.now link)) }
 {
     let (most, held) = (budget_on(domain, link), listing.cost_on(link));
-    put_link(press, domain, link);
-    press.put_byte(b',');
-    press.put_number(rate_on(domain, link));
-    press.put_byte(b',');
-    press.put_number(most);
-    press.put_byte(b',');
-    press.put_number(held);
-    press.put_byte(b',');
-    put_left(press, most, held);
-    press.put_byte(b',');
-    put_fits(press, most, held);
-    press.put_byte(b',');
-    press.put_number(listing.streams_on(link));
-    press.put_byte(b',');
-    put_used(press, most, held);
-    press.put_byte(b'\n');
+    put_link(writer, domain, link);
+    writer.put_byte(b',');
+    writer.put_number(rate_on(domain, link));
+    writer.put_byte(b',');
+    writer.put_number(most);
+    writer.put_byte(b',');
+    writer.put_number(held);
+    writer.put_byte(b',');
+    put_left(writer, most, held);
+    writer.put_byte(b',');
+    put_fits(writer, most, held);
+    writer.put_byte(b',');
+    writer.put_number(listing.streams_on(link));
+    writer.put_byte(b',');
+    put_used(writer, most, held);
+    writer.put_byte(b'\n');
 }
 
 /// Puts the header.
-fn put_header<W: Sink>(press: &mut Press<'_, W>)
-    ensures { Puts W.contents press.old press.new (line_of_fields load_header) }
+fn put_header<W: Sink>(writer: &mut Writer<'_, W>)
+    ensures { Puts W.contents writer.old writer.new (line_of_fields load_header) }
 {
-    press.put(b"link,rate,budget,held,left,fits,streams,used\n");
+    writer.put(b"link,rate,budget,held,left,fits,streams,used\n");
 }
 
 /// Puts a line for each link.
-fn put_lines<W: Sink>(press: &mut Press<'_, W>, domain: &Domain, listing: &LoadListing)
-    ensures { Puts W.contents press.old press.new (lines_of_links domain.now listing.now (length domain.now.links)) }
+fn put_lines<W: Sink>(writer: &mut Writer<'_, W>, domain: &Domain, listing: &LoadListing)
+    ensures { Puts W.contents writer.old writer.new (lines_of_links domain.now listing.now (length domain.now.links)) }
 {
     for link in 0..domain.links() {
-        put_line(press, domain, listing, link);
+        put_line(writer, domain, listing, link);
     }
 }
 
 /// Puts the header, and a line for each link.
-fn put_load<W: Sink>(press: &mut Press<'_, W>, domain: &Domain, listing: &LoadListing)
-    ensures { Puts W.contents press.old press.new (load_text domain.now listing.now) }
+fn put_load<W: Sink>(writer: &mut Writer<'_, W>, domain: &Domain, listing: &LoadListing)
+    ensures { Puts W.contents writer.old writer.new (load_text domain.now listing.now) }
 {
-    put_header(press);
-    put_lines(press, domain, listing);
+    put_header(writer);
+    put_lines(writer, domain, listing);
 }
 
 impl LoadOutput {
@@ -159,10 +159,10 @@ impl LoadOutput {
         let LoadOutput {
             domain,
             listing,
-            sheet,
+            buffer,
         } = self;
-        let mut press = Press::new(told, sheet);
-        put_load(&mut press, &domain, &listing);
-        let _told = press.close();
+        let mut writer = Writer::new(told, buffer);
+        put_load(&mut writer, &domain, &listing);
+        let _told = writer.close();
     }
 }

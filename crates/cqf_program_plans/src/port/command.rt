@@ -1,17 +1,17 @@
 //! The command `port`: the starts of one output port before an instant.
 ghost use Rattle.std.specs.Prelude.{◌≡◌, ◌≢◌, ◌<◌, ◌^◌, [], Ok, IfOk, IfErr};
 ghost use Rattle.cqf_gates.specs.TxText.{list_of_text};
-ghost use Rattle.cqf_press.specs.Edge.{HasTold, writing};
+ghost use Rattle.cqf_output.specs.Edge.{HasTold, writing};
 ghost use Rattle.cqf_report.specs.Arrivals.{arrivals_of_table};
 ghost use Rattle.cqf_port.specs.PortState.{rules_of};
-ghost use Rattle.cqf_press.specs.Stops.{EndsWith, IsRefused, or_line};
+ghost use Rattle.cqf_output.specs.Stops.{EndsWith, IsRefused, or_line};
 ghost use Rattle.cqf_program_plans.specs.Port.Output.{arrivals_line, list_line, port_input, AreOfferable, IsStartsText, IsPortOutput};
 ghost use Rattle.cqf_program_plans.specs.Port.Told.{text_of_port};
 
 use crate::port::outputs::PortOutput;
 use cqf_gates::{TextFault, TxList, read_tx};
 use cqf_port::{Arrival, Port};
-use cqf_press::{Press, Sheet, Sink, Stop, Told};
+use cqf_output::{Writer, Buffer, Sink, Stop, Told};
 use cqf_program_scenario::{put_starts_of_port, two_parts};
 use cqf_report::{TableFault, read_arrivals};
 use cqf_units::{Memory, Nanos, Rate};
@@ -84,8 +84,8 @@ fn starts_ready(
 {
     let mut port = Port::with_arrivals(alloc, list, rate, arrivals);
     port.run_to(Nanos(until))?;
-    let sheet = Sheet::new(alloc)?;
-    Ok(PortOutput { port, rate, sheet })
+    let buffer = Buffer::new(alloc)?;
+    Ok(PortOutput { port, rate, buffer })
 }
 
 impl PortOutput {
@@ -93,10 +93,10 @@ impl PortOutput {
     pub fn tell<W: Sink>(self, told: &mut Told<W>)
         ensures { HasTold (writing W.contents told.old told.new) (text_of_port self) }
     {
-        let PortOutput { port, rate, sheet } = self;
-        let mut press = Press::new(told, sheet);
-        put_starts_of_port(&mut press, port.arrivals(), port.starts(), rate);
-        let _told = press.close();
+        let PortOutput { port, rate, buffer } = self;
+        let mut writer = Writer::new(told, buffer);
+        put_starts_of_port(&mut writer, port.arrivals(), port.starts(), rate);
+        let _told = writer.close();
     }
 }
 

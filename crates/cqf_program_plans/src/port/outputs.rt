@@ -1,16 +1,16 @@
 //! The output of `port`, before it is written.
 
 use cqf_port::Port;
-use cqf_press::Sheet;
+use cqf_output::Buffer;
 use cqf_units::Rate;
 use std::marker::Model;
 
-/// The output of `port` before it is written: a port with its starts, the rate of its link, and a sheet.
+/// The output of `port` before it is written: a port with its starts, the rate of its link, and a buffer.
 #[derive(Drop)]
 pub struct PortOutput {
     pub(crate) port: Port,
     pub(crate) rate: Rate,
-    pub(crate) sheet: Sheet,
+    pub(crate) buffer: Buffer,
 }
 
 impl Model for PortOutput {

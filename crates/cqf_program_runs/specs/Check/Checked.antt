@@ -16,7 +16,7 @@ use Rattle.cqf_model.specs.Traffic.{numbered}
 use Rattle.cqf_topology.specs.PlannedText.{PlannedText}
 use Rattle.cqf_report.specs.Books.{name_of_reason}
 use Rattle.cqf_program_plans.specs.Latency.Text.{text_of_deadline}
-use Rattle.cqf_press.specs.Stops.{fault_line, line_of}
+use Rattle.cqf_output.specs.Stops.{fault_line, line_of}
 use Rattle.cqf_program_runs.specs.declared.check.checked.CheckCounts.{CheckCounts}
 use Rattle.cqf_program_runs.specs.declared.check.checked.OfferCounts.{OfferCounts}
 use Rattle.cqf_program_runs.specs.declared.deliveries.delivery.Passage.{Passage}

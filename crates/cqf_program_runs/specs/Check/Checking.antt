@@ -4,7 +4,7 @@ use Rattle.cqf_model.specs.History.{streams_of}
 use Rattle.cqf_topology.specs.PlannedText.{PlannedText}
 use Rattle.cqf_program_scenario.specs.Calls.{history_of}
 use Rattle.cqf_program_scenario.specs.Closing.{scenario_given}
-use Rattle.cqf_press.specs.declared.stops.Stop.{Stop}
+use Rattle.cqf_output.specs.declared.stops.Stop.{Stop}
 use Rattle.cqf_program_runs.specs.declared.check.checked.OfferCounts.{OfferCounts}
 use Rattle.cqf_program_runs.specs.declared.deliveries.reading.PlannedGiven.{PlannedGiven}
 use Rattle.cqf_program_runs.specs.Check.Checked.{offer_counts}

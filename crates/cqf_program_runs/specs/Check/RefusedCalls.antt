@@ -5,7 +5,7 @@ use Rattle.cqf_model.specs.declared.history.Reply.{Reply}
 use Rattle.cqf_model.specs.declared.history.Reply.TheVariants.{Accepted, Sealed, Refused as RefusedFor}
 use Rattle.cqf_model.specs.History.{Act, Admits, Recorded, Seals, Withdraws, is_seal}
 use Rattle.cqf_report.specs.HistoryText.{reply_text}
-use Rattle.cqf_press.specs.Stops.{fault_line}
+use Rattle.cqf_output.specs.Stops.{fault_line}
 
 -- whether an answer refuses a call
 abbrev pub is_refused : Reply → Bool

@@ -7,7 +7,7 @@ use Rattle.cqf_model.specs.declared.frames.Offer.{Offer}
 use Rattle.cqf_model.specs.declared.frames.Offered.{Offered}
 use Rattle.cqf_model.specs.declared.topology.Row.{Row}
 use Rattle.cqf_model.specs.Domain.{Domain}
-use Rattle.cqf_model.specs.Limits.{most_rows}
+use Rattle.cqf_model.specs.Limits.{most_offers}
 use Rattle.cqf_model.specs.Run.{AreOffers}
 use Rattle.cqf_model.specs.Traffic.{numbered}
 use Rattle.cqf_program_runs.specs.declared.deliveries.noted.Noted.{Noted}
@@ -43,10 +43,10 @@ deliveries_among over offers = deliveries_of_all over.domain over.cycles (known_
 abbrev pub deliveries_over : Over → List Delivery
 deliveries_over over = deliveries_among over (numbered over.offers)
 
--- the offers are those of its domain and at most `most_rows`, and each has its verdict and its deadline
+-- the offers are those of its domain and at most `most_offers`, and each has its verdict and its deadline
 pub record IsOver (over : Over) : Type 0 where
   pub offers : AreOffers over.domain over.offers
-  pub few : length over.offers ≤ most_rows
+  pub few : length over.offers ≤ most_offers
   pub judged : length over.edge_verdicts ≡ length over.offers
   pub due : over.dues ≡ map (λ (offer : Offer). deadline_in over.due offer.stream) over.offers
 

@@ -12,7 +12,7 @@ use Rattle.cqf_program_scenario.specs.Parts.{RunTexts, run_parts}
 use Rattle.cqf_program_plans.specs.Latency.Input.{asked_in}
 use Rattle.cqf_program_scenario.specs.Calls.{history_of}
 use Rattle.cqf_program_scenario.specs.Scenario.{Scenario, scenario_behind}
-use Rattle.cqf_press.specs.Stops.{or_line}
+use Rattle.cqf_output.specs.Stops.{or_line}
 
 -- the scenario of the parts over some cycles, and its streams with their deadlines; or the line of the parts' first
 -- fault: of the domain, then of the streams, the script, the offers and the background frames

@@ -13,7 +13,7 @@ use Rattle.cqf_program_scenario.specs.Lines.{offers_line}
 use Rattle.cqf_program_scenario.specs.Parts.{one_part}
 use Rattle.cqf_program_scenario.specs.Books.{IsBookOfScenario}
 use Rattle.cqf_program_scenario.specs.Calls.{history_of}
-use Rattle.cqf_press.specs.Stops.{or_line}
+use Rattle.cqf_output.specs.Stops.{or_line}
 use Rattle.cqf_program_runs.specs.Line.{line_domain, line_scenario, line_tables}
 
 -- the offers of an input to a domain, or the line of the first fault: of the parts, then of the offers

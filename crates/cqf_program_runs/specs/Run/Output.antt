@@ -9,7 +9,7 @@ use Rattle.cqf_report.specs.HistoryText.{history_text}
 use Rattle.cqf_program_scenario.specs.Books.{IsBookOfScenario}
 use Rattle.cqf_program_scenario.specs.Calls.{history_of}
 use Rattle.cqf_program_scenario.specs.Scenario.{Scenario, scenario_input}
-use Rattle.cqf_press.specs.Stops.{line_of}
+use Rattle.cqf_output.specs.Stops.{line_of}
 
 -- the texts of a history and of a book, separated by the line that divides parts
 abbrev pub run_text : Domain → List Recorded → Contents → List ℕ

@@ -1,6 +1,6 @@
 //! Whether all goes well in a run, by its deliveries.
 ghost use Rattle.std.specs.Prelude.{◌≡◌, ◌+◌, ◌≤◌, ◌++◌, ◌&&◌, ℕ, [], true, IfOk, List, length, count_by, find, option_copied, string_bytes};
-ghost use Rattle.cqf_model.specs.Limits.{most_rows};
+ghost use Rattle.cqf_model.specs.Limits.{most_offers};
 ghost use Rattle.cqf_program_runs.specs.Check.Checked.{complaint_line, complaint_of, counts_of, is_bad, is_delivered};
 ghost use Rattle.cqf_program_runs.specs.Check.Checked.{is_finished, is_timed, is_under_way, none_come_line, none_offered_line, some_come_line};
 ghost use Rattle.cqf_program_runs.specs.Check.Checked.{unfinished_line, well_line};
@@ -129,7 +129,7 @@ impl CheckCounts {
     /// Adds the deliveries of one offer, at most 200, to the counts.
     pub(crate) fn with(self, here: &[Delivery]) -> CheckCounts
         requires few { length here.now ≤ 200 }
-        requires early { AreCountsBefore most_rows self }
+        requires early { AreCountsBefore most_offers self }
         ensures counts { (offers : SomeOffers) (done : List ADelivery) → self ≡ counts_of offers done →
             result ≡ counts_of offers (done ++ here.now) }
         ensures more { (place : ℕ) → AreCountsBefore place self → AreCountsBefore (place + 1) result }

@@ -7,7 +7,7 @@ ghost use Rattle.cqf_program_scenario.specs.Calls.{history_of};
 ghost use Rattle.cqf_program_scenario.specs.Closing.{MayBeRun, scenario_given};
 ghost use Rattle.cqf_program_scenario.specs.Logged.{HasOrders};
 ghost use Rattle.cqf_program_scenario.specs.Outcomes.{IsOutcomeOf};
-ghost use Rattle.cqf_press.specs.Stops.{EndsWith, IsRefused};
+ghost use Rattle.cqf_output.specs.Stops.{EndsWith, IsRefused};
 ghost use Rattle.cqf_program_runs.specs.Check.Checked.{complaint_line, finished, is_bad, none_offered_line, unfinished_line, well_line};
 ghost use Rattle.cqf_program_runs.specs.Deliveries.{fate_of};
 ghost use Rattle.cqf_program_runs.specs.Check.Output.{IsCheckRefusal, IsChecked};
@@ -36,7 +36,7 @@ use crate::{
 use cqf_admission::Logged;
 use cqf_laws_coverage::book_of_history_is_there;
 use cqf_model::Limits;
-use cqf_press::{REFUSED, Sheet, Stop};
+use cqf_output::{REFUSED, Buffer, Stop};
 use cqf_program_scenario::{RunInput, ScenarioOutcome, outcome_of};
 use cqf_units::Memory;
 use std::alloc::Global;
@@ -50,14 +50,14 @@ fn output_of(alloc: Global, cycles: u32, planned: PlannedGiven) -> Result<Delive
 {
     let (noted, under_way) = noted_of_scenario(alloc, cycles, &planned)?;
     let here = Few::new(alloc)?;
-    let sheet = Sheet::new(alloc)?;
+    let buffer = Buffer::new(alloc)?;
     Ok(DeliveriesOutput {
         planned,
         cycles,
         noted,
         under_way,
         here,
-        sheet,
+        buffer,
     })
 }
 

@@ -1,6 +1,6 @@
 //! Deliveries, written line by line.
 ghost use Rattle.std.specs.Prelude.{ℕ, ◌≡◌, ◌∷◌, [], Option};
-ghost use Rattle.cqf_press.specs.Press.{Puts};
+ghost use Rattle.cqf_output.specs.Writer.{Puts};
 ghost use Rattle.cqf_report.specs.Written.{line_of_fields};
 ghost use Rattle.cqf_program_runs.specs.Deliveries.Text.{passage_fields, deliveries_header, delivery_fields};
 ghost use Rattle.cqf_program_runs.specs.Deliveries.Text.{lines_of_deliveries, name_of_fate, text_of_deliveries};
@@ -13,7 +13,7 @@ use crate::deliveries::delivery::{Delivery, Fate, Journey, Passage, latency};
 use crate::deliveries::few::Few;
 use crate::deliveries::made::{CompletedRun, put_those_of};
 use crate::deliveries::under_way::UnderWay;
-use cqf_press::{Press, Sink};
+use cqf_output::{Writer, Sink};
 use cqf_program_plans::put_deadline;
 use cqf_report::reason_name;
 use cqf_units::Nanos;
@@ -33,120 +33,120 @@ impl Fate {
 }
 
 /// Puts the header of deliveries.
-fn put_header<W: Sink>(press: &mut Press<'_, W>)
-    ensures { Puts W.contents press.old press.new (line_of_fields deliveries_header) }
+fn put_header<W: Sink>(writer: &mut Writer<'_, W>)
+    ensures { Puts W.contents writer.old writer.new (line_of_fields deliveries_header) }
 {
-    press.put(b"frame,stream,octets,at,listener,whole,latency,deadline,what\n");
+    writer.put(b"frame,stream,octets,at,listener,whole,latency,deadline,what\n");
 }
 
 /// Puts the instant at which a frame is whole, if there is one.
-fn put_instant<W: Sink>(press: &mut Press<'_, W>, whole: Option<Nanos>)
-    ensures { Puts W.contents press.old press.new (text_of_instant whole) }
+fn put_instant<W: Sink>(writer: &mut Writer<'_, W>, whole: Option<Nanos>)
+    ensures { Puts W.contents writer.old writer.new (text_of_instant whole) }
 {
     if let Some(whole) = whole {
-        press.put_number(whole.0);
+        writer.put_number(whole.0);
     }
 }
 
 /// Puts how long the frame takes, if it is whole.
-fn put_latency<W: Sink>(press: &mut Press<'_, W>, at: Nanos, whole: Option<Nanos>)
-    ensures { Puts W.contents press.old press.new (text_of_listeners_latency at.0 whole) }
+fn put_latency<W: Sink>(writer: &mut Writer<'_, W>, at: Nanos, whole: Option<Nanos>)
+    ensures { Puts W.contents writer.old writer.new (text_of_listeners_latency at.0 whole) }
 {
     if let Some(whole) = whole {
-        press.put_number(latency(at, whole));
+        writer.put_number(latency(at, whole));
     }
 }
 
 /// Puts the fields of a frame that goes to a listener, and the last field.
-fn put_journey<W: Sink>(press: &mut Press<'_, W>, at: Nanos, journey: &Journey, last: &[u8])
-    ensures { Puts W.contents press.old press.new (line_of_fields (passage_fields at.0 (Passage.Goes journey.now) (last.now ∷ []))) }
+fn put_journey<W: Sink>(writer: &mut Writer<'_, W>, at: Nanos, journey: &Journey, last: &[u8])
+    ensures { Puts W.contents writer.old writer.new (line_of_fields (passage_fields at.0 (Passage.Goes journey.now) (last.now ∷ []))) }
 {
-    press.put(journey.listener.as_bytes());
-    press.put_byte(b',');
-    put_instant(press, journey.whole);
-    press.put_byte(b',');
-    put_latency(press, at, journey.whole);
-    press.put_byte(b',');
-    put_deadline(press, journey.deadline);
-    press.put_byte(b',');
-    press.put(last);
-    press.put_byte(b'\n');
+    writer.put(journey.listener.as_bytes());
+    writer.put_byte(b',');
+    put_instant(writer, journey.whole);
+    writer.put_byte(b',');
+    put_latency(writer, at, journey.whole);
+    writer.put_byte(b',');
+    put_deadline(writer, journey.deadline);
+    writer.put_byte(b',');
+    writer.put(last);
+    writer.put_byte(b'\n');
 }
 
 /// Puts the empty fields of a dropped frame, and the last field.
-fn put_drop<W: Sink>(press: &mut Press<'_, W>, last: &[u8])
-    ensures { Puts W.contents press.old press.new (line_of_fields ([] ∷ [] ∷ [] ∷ [] ∷ last.now ∷ [])) }
+fn put_drop<W: Sink>(writer: &mut Writer<'_, W>, last: &[u8])
+    ensures { Puts W.contents writer.old writer.new (line_of_fields ([] ∷ [] ∷ [] ∷ [] ∷ last.now ∷ [])) }
 {
-    press.put(b",,,,");
-    press.put(last);
-    press.put_byte(b'\n');
+    writer.put(b",,,,");
+    writer.put(last);
+    writer.put_byte(b'\n');
 }
 
 /// Puts the fields of a frame's passage, and the last field.
-fn put_passage<W: Sink>(press: &mut Press<'_, W>, at: Nanos, passage: &Passage, last: &[u8])
-    ensures { Puts W.contents press.old press.new (line_of_fields (passage_fields at.0 passage.now (last.now ∷ []))) }
+fn put_passage<W: Sink>(writer: &mut Writer<'_, W>, at: Nanos, passage: &Passage, last: &[u8])
+    ensures { Puts W.contents writer.old writer.new (line_of_fields (passage_fields at.0 passage.now (last.now ∷ []))) }
 {
     match passage {
-        Passage::Dropped(_) => put_drop(press, last),
-        Passage::Goes(journey) => put_journey(press, at, journey, last),
+        Passage::Dropped(_) => put_drop(writer, last),
+        Passage::Goes(journey) => put_journey(writer, at, journey, last),
     }
 }
 
 /// Puts the line of a delivery.
-fn put_delivery<W: Sink>(press: &mut Press<'_, W>, delivery: &Delivery)
-    ensures { Puts W.contents press.old press.new (line_of_fields (delivery_fields delivery.now)) }
+fn put_delivery<W: Sink>(writer: &mut Writer<'_, W>, delivery: &Delivery)
+    ensures { Puts W.contents writer.old writer.new (line_of_fields (delivery_fields delivery.now)) }
 {
-    press.put_number(delivery.frame);
-    press.put_byte(b',');
-    press.put(delivery.stream.as_bytes());
-    press.put_byte(b',');
-    press.put_number(delivery.octets);
-    press.put_byte(b',');
-    press.put_number(delivery.at.0);
-    press.put_byte(b',');
+    writer.put_number(delivery.frame);
+    writer.put_byte(b',');
+    writer.put(delivery.stream.as_bytes());
+    writer.put_byte(b',');
+    writer.put_number(delivery.octets);
+    writer.put_byte(b',');
+    writer.put_number(delivery.at.0);
+    writer.put_byte(b',');
     let last = delivery.fate().name();
-    put_passage(press, delivery.at, &delivery.passage, last.as_bytes());
+    put_passage(writer, delivery.at, &delivery.passage, last.as_bytes());
 }
 
 /// Puts a line for each delivery.
-fn put_each<W: Sink>(press: &mut Press<'_, W>, deliveries: &[Delivery])
-    ensures { Puts W.contents press.old press.new (lines_of_deliveries deliveries.now) }
+fn put_each<W: Sink>(writer: &mut Writer<'_, W>, deliveries: &[Delivery])
+    ensures { Puts W.contents writer.old writer.new (lines_of_deliveries deliveries.now) }
 {
     for delivery in deliveries {
-        put_delivery(press, delivery);
+        put_delivery(writer, delivery);
     }
 }
 
 /// Puts a line for each delivery of a run that is over, whose frames are followed from the first offer on.
 fn put_all<W: Sink>(
-    press: &mut Press<'_, W>,
+    writer: &mut Writer<'_, W>,
     here: Few,
     under_way: UnderWay,
     ended: &CompletedRun<'_>,
 )
     requires { CanFollow ended.now 0 under_way }
     ensures { (whole : ℕ → ℕ → Option AnInstant) → IsFollowed (over_of ended.now whole) 0 under_way →
-        Puts W.contents press.old press.new (lines_of_deliveries (deliveries_over (over_of ended.now whole))) }
+        Puts W.contents writer.old writer.new (lines_of_deliveries (deliveries_over (over_of ended.now whole))) }
 {
     let (mut here, mut under_way) = (here, under_way);
     for place in 0..ended.offers.len() {
         put_those_of(&mut here, ended, &mut under_way, place);
-        put_each(press, here.as_slice());
+        put_each(writer, here.as_slice());
     }
 }
 
 /// Puts the text of the deliveries of a run that is over, whose frames are followed from the first offer on. `here` is
 /// room for the deliveries of one offer; what it had is discarded.
 pub(crate) fn put_deliveries<W: Sink>(
-    press: &mut Press<'_, W>,
+    writer: &mut Writer<'_, W>,
     here: Few,
     under_way: UnderWay,
     ended: &CompletedRun<'_>,
 )
     requires { CanFollow ended.now 0 under_way }
     ensures { (whole : ℕ → ℕ → Option AnInstant) → IsFollowed (over_of ended.now whole) 0 under_way →
-        Puts W.contents press.old press.new (text_of_deliveries (deliveries_over (over_of ended.now whole))) }
+        Puts W.contents writer.old writer.new (text_of_deliveries (deliveries_over (over_of ended.now whole))) }
 {
-    put_header(press);
-    put_all(press, here, under_way, ended);
+    put_header(writer);
+    put_all(writer, here, under_way, ended);
 }

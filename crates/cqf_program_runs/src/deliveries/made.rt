@@ -14,7 +14,7 @@ ghost use Rattle.cqf_program_runs.specs.Deliveries.ByVerdict.{deliveries_for};
 ghost use Rattle.cqf_program_runs.specs.Deliveries.{deliveries_to, delivery_of, delivery_to};
 ghost use Rattle.cqf_program_runs.specs.Deliveries.Ending.{deliveries_at, due_of, known_over, over_of};
 ghost use Rattle.cqf_program_runs.specs.Deliveries.Deadlines.{deadline_in};
-ghost use Rattle.cqf_model.specs.Limits.{most_rows};
+ghost use Rattle.cqf_model.specs.Limits.{most_offers};
 
 use crate::deliveries::delivery::{Delivery, Journey, Passage};
 use crate::deliveries::few::Few;
@@ -45,7 +45,7 @@ pub struct CompletedRun<'r> {
 
 /// Returns the offer at an index, with its number.
 fn offered(place: usize, offer: &Offer) -> Offered
-    requires { place < most_rows }
+    requires { place < most_offers }
     ensures { result ≡ record { frame = place + 1; offer = offer.now } }
 {
     Offered {

@@ -1,6 +1,6 @@
 //! The output of `deliveries`, before it is written.
 ghost use Rattle.std.specs.Prelude.{ℕ, List};
-ghost use Rattle.cqf_press.specs.Edge.{HasTold, writing};
+ghost use Rattle.cqf_output.specs.Edge.{HasTold, writing};
 ghost use Rattle.cqf_program_runs.specs.Deliveries.Following.{AreDeliveriesTold};
 
 use crate::deliveries::few::Few;
@@ -8,11 +8,11 @@ use crate::deliveries::lines::put_deliveries;
 use crate::deliveries::noted::Noted;
 use crate::deliveries::reading::PlannedGiven;
 use crate::deliveries::under_way::UnderWay;
-use cqf_press::{Press, Sheet, Sink, Told};
+use cqf_output::{Writer, Buffer, Sink, Told};
 use std::marker::Model;
 
 /// The data of the output of `deliveries`: a scenario with its notes, its frames under way, room for the deliveries of
-/// one offer, and a sheet.
+/// one offer, and a buffer.
 #[derive(Drop)]
 pub struct DeliveriesOutput {
     pub(crate) planned: PlannedGiven,
@@ -20,7 +20,7 @@ pub struct DeliveriesOutput {
     pub(crate) noted: Noted,
     pub(crate) under_way: UnderWay,
     pub(crate) here: Few,
-    pub(crate) sheet: Sheet,
+    pub(crate) buffer: Buffer,
 }
 
 impl Model for DeliveriesOutput {
@@ -44,10 +44,10 @@ impl DeliveriesOutput {
             noted,
             under_way,
             here,
-            sheet,
+            buffer,
         } = self;
-        let mut press = Press::new(told, sheet);
-        put_deliveries(&mut press, here, under_way, &noted.over(&planned, cycles));
-        let _told = press.close();
+        let mut writer = Writer::new(told, buffer);
+        put_deliveries(&mut writer, here, under_way, &noted.over(&planned, cycles));
+        let _told = writer.close();
     }
 }

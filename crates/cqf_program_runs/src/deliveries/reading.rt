@@ -2,13 +2,13 @@
 ghost use Rattle.std.specs.Prelude.{IfErr, IfOk};
 ghost use Rattle.cqf_program_scenario.specs.Lines.{streams_line};
 ghost use Rattle.cqf_program_scenario.specs.RunParts.{texts_of};
-ghost use Rattle.cqf_press.specs.Stops.{IsRefused, or_line};
+ghost use Rattle.cqf_output.specs.Stops.{IsRefused, or_line};
 ghost use Rattle.cqf_topology.specs.PlannedText.{planned_of_text};
 ghost use Rattle.cqf_program_runs.specs.Deliveries.PlannedScenario.{planned_scenario, planned_scenario_of};
 ghost use Rattle.cqf_program_runs.specs.Deliveries.Reading.{ArePlannedIn, IsPlannedGiven, IsPlannedIn};
 
 use cqf_model::Limits;
-use cqf_press::Stop;
+use cqf_output::Stop;
 use cqf_program_plans::parted;
 use cqf_program_scenario::{RunInput, RunParts, domain_part, planned_part, read_behind, run_parts};
 use cqf_topology::PacedRequest;

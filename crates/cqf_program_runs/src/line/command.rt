@@ -2,19 +2,19 @@
 ghost use Rattle.std.specs.Prelude.{ℕ, ◌≡◌, ◌≤◌, Ok, IfOk, IfErr, List, length};
 ghost use Rattle.cqf_laws_coverage.specs.Judged.{StandInOrder};
 ghost use Rattle.cqf_model.specs.Run.{AreOffers};
-ghost use Rattle.cqf_press.specs.Edge.{HasTold, writing};
-ghost use Rattle.cqf_press.specs.Stops.{IsRefused};
+ghost use Rattle.cqf_output.specs.Edge.{HasTold, writing};
+ghost use Rattle.cqf_output.specs.Stops.{IsRefused};
 ghost use Rattle.cqf_program_runs.specs.Line.{line_domain};
 ghost use Rattle.cqf_program_runs.specs.Line.Told.{IsLineTold};
 ghost use Rattle.cqf_program_runs.specs.Line.Output.{line_input, offers_input, IsBookText, IsLineOutput};
-ghost use Rattle.cqf_model.specs.Limits.{most_cycles, most_rows};
+ghost use Rattle.cqf_model.specs.Limits.{most_cycles, most_offers};
 
 use crate::line::domain::domain_of_line;
 use crate::line::given::given_to_line;
 use crate::line::outputs::LineOutput;
 use cqf_laws_history::{closed_tables_stay, state_follows_history};
 use cqf_model::Offer;
-use cqf_press::{Press, Sheet, Sink, Stop, Told};
+use cqf_output::{Writer, Buffer, Sink, Stop, Told};
 use cqf_program_scenario::{book_of_outcome, offers_part, one_part, outcome_of};
 use cqf_report::offers_are_read_in_order;
 use cqf_topology::Domain;
@@ -25,7 +25,7 @@ use std::alloc::Global;
 fn read_line(alloc: Global, domain: &Domain, input: &[u8]) -> Result<Vec<Offer>, Stop>
     ensures ok { IfOk result (λ offers. offers_input domain.now input.now ≡ Ok offers.items) }
     ensures good { IfOk result (λ offers. AreOffers domain.now offers.items) }
-    ensures few { IfOk result (λ offers. length offers.items ≤ most_rows) }
+    ensures few { IfOk result (λ offers. length offers.items ≤ most_offers) }
     ensures order { IfOk result (λ offers. StandInOrder offers.items) }
     ensures err { IfErr result (IsRefused (offers_input domain.now input.now)) }
 {
@@ -43,7 +43,7 @@ fn output_of_line(
 ) -> Result<LineOutput, Memory>
     requires domain { domain ≡ line_domain }
     requires offers { AreOffers line_domain offers.items }
-    requires few { length offers.items ≤ most_rows }
+    requires few { length offers.items ≤ most_offers }
     requires order { StandInOrder offers.items }
     requires short { cycles ≤ most_cycles }
     ensures { IfOk result (λ output. (text : List ℕ) × IsLineTold output text × IsBookText cycles offers.items text) }
@@ -53,11 +53,11 @@ fn output_of_line(
     let given = given_to_line(alloc, domain, offers)?;
     let outcome = outcome_of(alloc, cycles, &given)?;
     let book = book_of_outcome(alloc, cycles, &given, &outcome)?;
-    let sheet = Sheet::new(alloc)?;
+    let buffer = Buffer::new(alloc)?;
     Ok(LineOutput {
         domain: given.domain,
         book,
-        sheet,
+        buffer,
     })
 }
 
@@ -69,11 +69,11 @@ impl LineOutput {
         let LineOutput {
             domain,
             book,
-            sheet,
+            buffer,
         } = self;
-        let mut press = Press::new(told, sheet);
-        book.put(&mut press, &domain);
-        let _told = press.close();
+        let mut writer = Writer::new(told, buffer);
+        book.put(&mut writer, &domain);
+        let _told = writer.close();
     }
 }
 

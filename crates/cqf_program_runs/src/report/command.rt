@@ -1,7 +1,7 @@
 //! The command `report`: the sums by link of a scenario's book.
 ghost use Rattle.std.specs.Prelude.{◌≤◌, IfErr, IfOk};
 ghost use Rattle.cqf_model.specs.Limits.{most_cycles};
-ghost use Rattle.cqf_press.specs.Stops.{IsRefused};
+ghost use Rattle.cqf_output.specs.Stops.{IsRefused};
 ghost use Rattle.cqf_program_runs.specs.Report.Output.{IsReportOutput};
 ghost use Rattle.cqf_program_runs.specs.Report.Telling.{TellsTheSums};
 ghost use Rattle.cqf_program_scenario.specs.Closing.{MayBeRun, scenario_given};
@@ -11,7 +11,7 @@ ghost use Rattle.cqf_program_scenario.specs.Scenario.{scenario_input};
 use crate::report::carried::carried_columns;
 use cqf_laws_coverage::book_of_history_is_there;
 use cqf_model::Limits;
-use cqf_press::Stop;
+use cqf_output::Stop;
 use cqf_program_scenario::{RunInput, outcome_of, read_given};
 use cqf_report::{report_is_told, write_columns};
 use cqf_units::Memory;

@@ -1,7 +1,7 @@
 //! The command `run`: the history and the book of a scenario.
 ghost use Rattle.std.specs.Prelude.{ℕ, ◌≤◌, IfErr, IfOk, List};
 ghost use Rattle.cqf_model.specs.Limits.{most_cycles};
-ghost use Rattle.cqf_press.specs.Stops.{IsRefused};
+ghost use Rattle.cqf_output.specs.Stops.{IsRefused};
 ghost use Rattle.cqf_program_runs.specs.Run.Output.{IsRunOutput};
 ghost use Rattle.cqf_program_runs.specs.Run.Told.{IsRunTold, TellsTheRun};
 ghost use Rattle.cqf_program_scenario.specs.Closing.{MayBeRun, scenario_given};
@@ -10,7 +10,7 @@ ghost use Rattle.cqf_program_scenario.specs.Scenario.{scenario_input};
 
 use crate::run::outputs::RunOutput;
 use cqf_model::Limits;
-use cqf_press::{Sheet, Stop};
+use cqf_output::{Buffer, Stop};
 use cqf_program_scenario::{RunInput, book_of_outcome, outcome_of, read_given};
 use cqf_units::Memory;
 use std::alloc::Global;
@@ -24,12 +24,12 @@ fn output_of(alloc: Global, cycles: u32, given: RunInput) -> Result<RunOutput, M
 {
     let outcome = outcome_of(alloc, cycles, &given)?;
     let book = book_of_outcome(alloc, cycles, &given, &outcome)?;
-    let sheet = Sheet::new(alloc)?;
+    let buffer = Buffer::new(alloc)?;
     Ok(RunOutput {
         given,
         entries: outcome.entries,
         book,
-        sheet,
+        buffer,
     })
 }
 

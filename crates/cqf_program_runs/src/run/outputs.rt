@@ -3,28 +3,28 @@ ghost use Rattle.std.specs.Prelude.{ℕ, List, codes, map};
 ghost use Rattle.cqf_admission.specs.Asking.{asked_paced};
 ghost use Rattle.cqf_admission.specs.Running.{AreThere};
 ghost use Rattle.cqf_model.specs.Book.{Contents};
-ghost use Rattle.cqf_press.specs.Edge.{HasTold, writing};
-ghost use Rattle.cqf_press.specs.Press.{Puts};
-ghost use Rattle.cqf_press.specs.Stops.{line_of};
+ghost use Rattle.cqf_output.specs.Edge.{HasTold, writing};
+ghost use Rattle.cqf_output.specs.Writer.{Puts};
+ghost use Rattle.cqf_output.specs.Stops.{line_of};
 ghost use Rattle.cqf_program_runs.specs.Run.Output.{run_text};
 ghost use Rattle.cqf_program_runs.specs.Run.Told.{IsRunTold};
 ghost use Rattle.cqf_program_scenario.specs.ExactBooks.{AreExactParts};
 ghost use Rattle.cqf_program_scenario.specs.Logged.{entries_in};
 
 use cqf_admission::Logged;
-use cqf_press::{Press, Sheet, Sink, Told};
+use cqf_output::{Writer, Buffer, Sink, Told};
 use cqf_program_scenario::{ExactBook, RunInput};
 use cqf_report::put_log;
 use std::marker::Model;
 
-/// The data of the output of `run`: a scenario with the log of its history and its book, and a sheet.
+/// The data of the output of `run`: a scenario with the log of its history and its book, and a buffer.
 #[derive(Drop)]
 pub struct RunOutput {
     pub(crate) given: RunInput,
     /// The log's entries, which refer to the scenario's own requests and script.
     pub(crate) entries: Vec<Logged>,
     pub(crate) book: ExactBook,
-    pub(crate) sheet: Sheet,
+    pub(crate) buffer: Buffer,
 }
 
 impl Model for RunOutput {
@@ -41,24 +41,24 @@ impl Model for RunOutput {
 }
 
 /// Puts the line `%%`.
-fn put_parting<W: Sink>(press: &mut Press<'_, W>)
-    ensures { Puts W.contents press.old press.new (line_of (codes "%%")) }
+fn put_parting<W: Sink>(writer: &mut Writer<'_, W>)
+    ensures { Puts W.contents writer.old writer.new (line_of (codes "%%")) }
 {
-    press.put(b"%%\n");
+    writer.put(b"%%\n");
 }
 
 /// Puts the text of the history of a scenario's log and of a book that is ready to be written, separated by a line
 /// `%%`.
-fn put_run<W: Sink>(press: &mut Press<'_, W>, given: &RunInput, entries: &[Logged], book: ExactBook)
+fn put_run<W: Sink>(writer: &mut Writer<'_, W>, given: &RunInput, entries: &[Logged], book: ExactBook)
     requires { AreThere (map asked_paced given.now.requests.items) given.now.script.items entries.now }
     ensures { (of_parts : Contents) → AreExactParts book of_parts →
-        Puts W.contents press.old press.new (run_text given.now.domain (entries_in given.now entries.now) of_parts) }
+        Puts W.contents writer.old writer.new (run_text given.now.domain (entries_in given.now entries.now) of_parts) }
 {
     let requests = given.requests.as_slice();
     let script = given.script.as_slice();
-    put_log(press, requests, script, entries);
-    put_parting(press);
-    book.put(press, &given.domain);
+    put_log(writer, requests, script, entries);
+    put_parting(writer);
+    book.put(writer, &given.domain);
 }
 
 impl RunOutput {
@@ -71,10 +71,10 @@ impl RunOutput {
             given,
             entries,
             book,
-            sheet,
+            buffer,
         } = self;
-        let mut press = Press::new(told, sheet);
-        put_run(&mut press, &given, entries.as_slice(), book);
-        let _told = press.close();
+        let mut writer = Writer::new(told, buffer);
+        put_run(&mut writer, &given, entries.as_slice(), book);
+        let _told = writer.close();
     }
 }

@@ -11,7 +11,7 @@ use Rattle.cqf_text.specs.Parts.{parts_of}
 use Rattle.cqf_topology.specs.DomainText.{domain_within}
 use Rattle.cqf_topology.specs.PacedText.{paced_of_text}
 use Rattle.cqf_admission.specs.Asking.{asked_by}
-use Rattle.cqf_press.specs.Stops.{fault_line, or_line}
+use Rattle.cqf_output.specs.Stops.{fault_line, or_line}
 use Rattle.cqf_program_scenario.specs.Lines.{domain_line, streams_line}
 use Rattle.cqf_program_scenario.specs.Parts.{RunTexts, run_parts}
 use Rattle.cqf_program_scenario.specs.Scenario.{Scenario, scenario_behind}

@@ -3,7 +3,7 @@ ghost use Rattle.std.specs.Prelude.{ℕ, ◌≤◌, IfErr, IfOk, List};
 ghost use Rattle.cqf_model.specs.Limits.{most_cycles};
 ghost use Rattle.cqf_program_scenario.specs.Closing.{MayBeRun, scenario_given};
 ghost use Rattle.cqf_program_scenario.specs.Logged.{HasOrders};
-ghost use Rattle.cqf_press.specs.Stops.{IsRefused};
+ghost use Rattle.cqf_output.specs.Stops.{IsRefused};
 ghost use Rattle.cqf_program_summary.specs.Hops.Gathered.{wanted_by};
 ghost use Rattle.cqf_program_summary.specs.Hops.Known.{wanted_scenario};
 ghost use Rattle.cqf_program_summary.specs.Hops.Output.{IsHopsOutput, TellsHopsOf};
@@ -14,7 +14,7 @@ use crate::hops::preparing::prepare;
 use crate::hops::reading::read_wanted;
 use crate::hops::wanting::FrameFilter;
 use cqf_model::Limits;
-use cqf_press::{Sheet, Stop};
+use cqf_output::{Buffer, Stop};
 use cqf_program_scenario::{RunInput, outcome_of};
 use cqf_units::Memory;
 use std::alloc::Global;
@@ -33,13 +33,13 @@ fn output_of(
 {
     let outcome = outcome_of(alloc, cycles, &given)?;
     let prepared = prepare(alloc, cycles, choice, &given, &outcome)?;
-    let sheet = Sheet::new(alloc)?;
+    let buffer = Buffer::new(alloc)?;
     let RunInput { domain, offers, .. } = given;
     Ok(HopsOutput {
         domain,
         offers,
         prepared,
-        sheet,
+        buffer,
     })
 }
 

@@ -9,7 +9,7 @@ ghost use Rattle.cqf_program_summary.specs.Hops.Reading.{EndsWithThat};
 
 use crate::hops::wanting::FrameFilter;
 use cqf_model::Offer;
-use cqf_press::{REFUSED, Stop};
+use cqf_output::{REFUSED, Stop};
 use cqf_topology::PacedRequest;
 use cqf_units::Name;
 use std::alloc::{AllocError, Global};

@@ -4,7 +4,7 @@ ghost use Rattle.cqf_model.specs.declared.frames.Started.{Started as AStart};
 ghost use Rattle.cqf_instants.specs.Progress.{AreStartsOf};
 ghost use Rattle.cqf_model.specs.Domain.{delay_of, octet_time_of};
 ghost use Rattle.cqf_laws_timing.specs.Latency.{whole_of};
-ghost use Rattle.cqf_press.specs.Press.{Puts};
+ghost use Rattle.cqf_output.specs.Writer.{Puts};
 ghost use Rattle.cqf_report.specs.Written.{line_of_fields};
 ghost use Rattle.cqf_program_summary.specs.Hops.Gathered.{IsLegInTime};
 ghost use Rattle.cqf_program_summary.specs.declared.hops.legs.Leg.{Leg as ALeg};
@@ -18,7 +18,7 @@ use crate::hops::rounds::Round;
 use crate::hops::steps::{HopsRun, LegsUnderWay};
 use crate::hops::wanting::stream_of;
 use cqf_model::{Dropped, Offer, Started};
-use cqf_press::{Press, Sink};
+use cqf_output::{Writer, Sink};
 use cqf_report::reason_name;
 use cqf_topology::{Domain, put_bridge, put_link};
 use cqf_units::{octet_ticks, time_in_ticks};
@@ -61,91 +61,91 @@ fn whole_of(domain: &Domain, started: &Started) -> u64
 }
 
 /// Puts the line of a start of a stream's frame.
-fn put_started<W: Sink>(press: &mut Press<'_, W>, domain: &Domain, stream: &str, started: &Started)
+fn put_started<W: Sink>(writer: &mut Writer<'_, W>, domain: &Domain, stream: &str, started: &Started)
     requires { whole_of domain.now started.now < 2 ^ 64 }
-    ensures { Puts W.contents press.old press.new (line_of_fields (started_fields domain.now stream.now started.now)) }
+    ensures { Puts W.contents writer.old writer.new (line_of_fields (started_fields domain.now stream.now started.now)) }
 {
-    press.put_number(started.frame);
-    press.put_byte(b',');
-    press.put(stream.as_bytes());
-    press.put_byte(b',');
-    press.put_number(started.octets);
-    press.put_byte(b',');
-    press.put_number(started.cycle.0);
-    press.put_byte(b',');
-    put_link(press, domain, started.link);
-    press.put_byte(b',');
-    press.put_number(started.start.0);
-    press.put_byte(b',');
-    press.put_number(end_of(domain, started));
-    press.put_byte(b',');
-    press.put_number(whole_of(domain, started));
-    press.put_byte(b',');
-    press.put_byte(b'\n');
+    writer.put_number(started.frame);
+    writer.put_byte(b',');
+    writer.put(stream.as_bytes());
+    writer.put_byte(b',');
+    writer.put_number(started.octets);
+    writer.put_byte(b',');
+    writer.put_number(started.cycle.0);
+    writer.put_byte(b',');
+    put_link(writer, domain, started.link);
+    writer.put_byte(b',');
+    writer.put_number(started.start.0);
+    writer.put_byte(b',');
+    writer.put_number(end_of(domain, started));
+    writer.put_byte(b',');
+    writer.put_number(whole_of(domain, started));
+    writer.put_byte(b',');
+    writer.put_byte(b'\n');
 }
 
 /// Puts the fields of a drop after its bridge.
-fn put_reason<W: Sink>(press: &mut Press<'_, W>, reason: &[u8])
-    ensures { Puts W.contents press.old press.new (line_of_fields ([] ∷ [] ∷ [] ∷ reason.now ∷ [])) }
+fn put_reason<W: Sink>(writer: &mut Writer<'_, W>, reason: &[u8])
+    ensures { Puts W.contents writer.old writer.new (line_of_fields ([] ∷ [] ∷ [] ∷ reason.now ∷ [])) }
 {
-    press.put(b",,,");
-    press.put(reason);
-    press.put_byte(b'\n');
+    writer.put(b",,,");
+    writer.put(reason);
+    writer.put_byte(b'\n');
 }
 
 /// Puts the line of a drop of a stream's frame.
-fn put_dropped<W: Sink>(press: &mut Press<'_, W>, domain: &Domain, stream: &str, dropped: &Dropped)
-    ensures { Puts W.contents press.old press.new (line_of_fields (dropped_fields domain.now stream.now dropped.now)) }
+fn put_dropped<W: Sink>(writer: &mut Writer<'_, W>, domain: &Domain, stream: &str, dropped: &Dropped)
+    ensures { Puts W.contents writer.old writer.new (line_of_fields (dropped_fields domain.now stream.now dropped.now)) }
 {
-    press.put_number(dropped.frame);
-    press.put_byte(b',');
-    press.put(stream.as_bytes());
-    press.put_byte(b',');
-    press.put_number(dropped.octets);
-    press.put_byte(b',');
-    press.put_number(dropped.cycle.0);
-    press.put_byte(b',');
-    put_bridge(press, domain, dropped.bridge);
-    press.put_byte(b',');
+    writer.put_number(dropped.frame);
+    writer.put_byte(b',');
+    writer.put(stream.as_bytes());
+    writer.put_byte(b',');
+    writer.put_number(dropped.octets);
+    writer.put_byte(b',');
+    writer.put_number(dropped.cycle.0);
+    writer.put_byte(b',');
+    put_bridge(writer, domain, dropped.bridge);
+    writer.put_byte(b',');
     let reason = reason_name(dropped.reason);
-    put_reason(press, reason.as_bytes());
+    put_reason(writer, reason.as_bytes());
 }
 
 /// Puts the line of a start or a drop of one of the offers' frames.
-fn put_leg<W: Sink>(press: &mut Press<'_, W>, domain: &Domain, offers: &[Offer], leg: &Leg)
+fn put_leg<W: Sink>(writer: &mut Writer<'_, W>, domain: &Domain, offers: &[Offer], leg: &Leg)
     requires { IsLegInTime domain.now leg.now }
-    ensures { Puts W.contents press.old press.new (line_of_fields (leg_fields domain.now offers.now leg.now)) }
+    ensures { Puts W.contents writer.old writer.new (line_of_fields (leg_fields domain.now offers.now leg.now)) }
 {
     match leg {
         Leg::Started(started) => {
-            put_started(press, domain, stream_of(offers, started.frame), started)
+            put_started(writer, domain, stream_of(offers, started.frame), started)
         }
         Leg::Dropped(dropped) => {
-            put_dropped(press, domain, stream_of(offers, dropped.frame), dropped)
+            put_dropped(writer, domain, stream_of(offers, dropped.frame), dropped)
         }
     }
 }
 
 /// Puts the header.
-fn put_header<W: Sink>(press: &mut Press<'_, W>)
-    ensures { Puts W.contents press.old press.new (line_of_fields hops_header) }
+fn put_header<W: Sink>(writer: &mut Writer<'_, W>)
+    ensures { Puts W.contents writer.old writer.new (line_of_fields hops_header) }
 {
-    press.put(b"frame,stream,octets,cycle,where,start,end,whole,dropped\n");
+    writer.put(b"frame,stream,octets,cycle,where,start,end,whole,dropped\n");
 }
 
 /// Puts the lines.
-fn put_each<W: Sink>(press: &mut Press<'_, W>, domain: &Domain, offers: &[Offer], legs: &[Leg])
+fn put_each<W: Sink>(writer: &mut Writer<'_, W>, domain: &Domain, offers: &[Offer], legs: &[Leg])
     requires { All (IsLegInTime domain.now) legs.now }
-    ensures { Puts W.contents press.old press.new (lines_of_legs domain.now offers.now legs.now) }
+    ensures { Puts W.contents writer.old writer.new (lines_of_legs domain.now offers.now legs.now) }
 {
     for leg in legs {
-        put_leg(press, domain, offers, leg);
+        put_leg(writer, domain, offers, leg);
     }
 }
 
 /// Puts the legs of a round, in order.
 fn put_round<W: Sink>(
-    press: &mut Press<'_, W>,
+    writer: &mut Writer<'_, W>,
     domain: &Domain,
     run: &HopsRun<'_>,
     round: &Round,
@@ -156,19 +156,19 @@ fn put_round<W: Sink>(
     requires drops { round.now.drops ≤ length run.now.drops.now }
     requires can { SomeRoundCanBeTold domain.now (source_of run.now) round.now under_way.old }
     ensures { (starts : List AStart) → RoundCanBeTold starts domain.now (source_of run.now) round.now under_way.old →
-        TellsRound starts domain.now (source_of run.now) round.now under_way.old under_way.new (Puts W.contents press.old press.new) }
+        TellsRound starts domain.now (source_of run.now) round.now under_way.old under_way.new (Puts W.contents writer.old writer.new) }
 {
     match under_way.go_through(run, round) {
         Ok(()) => {}
         Err(_) => unreachable!(),
     }
     under_way.sort_here();
-    put_each(press, domain, run.offers, under_way.here.as_slice());
+    put_each(writer, domain, run.offers, under_way.here.as_slice());
 }
 
 /// Puts the text of frames' starts and drops, round by round.
 pub(crate) fn put_rounds<W: Sink>(
-    press: &mut Press<'_, W>,
+    writer: &mut Writer<'_, W>,
     domain: &Domain,
     run: &HopsRun<'_>,
     rounds: &[Round],
@@ -179,11 +179,11 @@ pub(crate) fn put_rounds<W: Sink>(
     requires can { SomeCanBeTold (told_from domain.now run.now rounds.now under_way) }
     ensures { (starts : List AStart) (legs : List ALeg) → CanBeTold starts (told_from domain.now run.now rounds.now under_way) →
         AreToldLegs starts (told_from domain.now run.now rounds.now under_way) legs →
-        Puts W.contents press.old press.new (text_of_legs domain.now run.now.offers.now legs) }
+        Puts W.contents writer.old writer.new (text_of_legs domain.now run.now.offers.now legs) }
 {
     let mut under_way = under_way;
-    put_header(press);
+    put_header(writer);
     for round in rounds {
-        put_round(press, domain, run, round, &mut under_way);
+        put_round(writer, domain, run, round, &mut under_way);
     }
 }

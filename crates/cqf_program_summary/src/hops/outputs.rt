@@ -1,23 +1,23 @@
 //! The output of `hops`, before it is written.
 ghost use Rattle.std.specs.Prelude.{ℕ, List};
-ghost use Rattle.cqf_press.specs.Edge.{HasTold, writing};
+ghost use Rattle.cqf_output.specs.Edge.{HasTold, writing};
 ghost use Rattle.cqf_program_summary.specs.Hops.Rounds.{IsToldText};
 
 use crate::hops::lines::put_rounds;
 use crate::hops::preparing::Prepared;
 use crate::hops::steps::{HopsRun, LegsUnderWay};
 use cqf_model::Offer;
-use cqf_press::{Press, Sheet, Sink, Told};
+use cqf_output::{Writer, Buffer, Sink, Told};
 use cqf_topology::Domain;
 use std::marker::Model;
 
-/// The data of the output of `hops`: a domain, the offers, what was prepared for their frames, and a sheet.
+/// The data of the output of `hops`: a domain, the offers, what was prepared for their frames, and a buffer.
 #[derive(Drop)]
 pub struct HopsOutput {
     pub(crate) domain: Domain,
     pub(crate) offers: Vec<Offer>,
     pub(crate) prepared: Prepared,
-    pub(crate) sheet: Sheet,
+    pub(crate) buffer: Buffer,
 }
 
 impl Model for HopsOutput {
@@ -40,7 +40,7 @@ impl HopsOutput {
             domain,
             offers,
             prepared,
-            sheet,
+            buffer,
         } = self;
         let Prepared {
             wanted,
@@ -56,8 +56,8 @@ impl HopsOutput {
             drops: drops.as_slice(),
         };
         let under_way = LegsUnderWay::at_first(pass, kept, here);
-        let mut press = Press::new(told, sheet);
-        put_rounds(&mut press, &domain, &run, rounds.as_slice(), under_way);
-        let _told = press.close();
+        let mut writer = Writer::new(told, buffer);
+        put_rounds(&mut writer, &domain, &run, rounds.as_slice(), under_way);
+        let _told = writer.close();
     }
 }

@@ -1,6 +1,6 @@
 //! The input of `hops`: a scenario that has the requested stream and frame.
 ghost use Rattle.std.specs.Prelude.{IfErr, IfOk};
-ghost use Rattle.cqf_press.specs.Stops.{IsRefused};
+ghost use Rattle.cqf_output.specs.Stops.{IsRefused};
 ghost use Rattle.cqf_program_scenario.specs.RunParts.{texts_of};
 ghost use Rattle.cqf_program_summary.specs.Hops.Gathered.{wanted_by};
 ghost use Rattle.cqf_program_summary.specs.Hops.Known.{paced_scenario, paced_scenario_of, wanted_scenario};
@@ -9,7 +9,7 @@ ghost use Rattle.cqf_program_summary.specs.Hops.Reading.{IsPacedGiven, IsPacedIn
 use crate::hops::known::know;
 use crate::hops::wanting::FrameFilter;
 use cqf_model::Limits;
-use cqf_press::Stop;
+use cqf_output::Stop;
 use cqf_program_scenario::{RunInput, RunParts, domain_part, read_behind, run_parts, streams_part};
 use std::alloc::Global;
 

@@ -3,7 +3,7 @@ ghost use Rattle.std.specs.Prelude.{◌≤◌, IfErr, IfOk};
 ghost use Rattle.cqf_model.specs.Limits.{most_cycles};
 ghost use Rattle.cqf_program_scenario.specs.Closing.{MayBeRun, scenario_given};
 ghost use Rattle.cqf_program_scenario.specs.Logged.{HasOrders};
-ghost use Rattle.cqf_press.specs.Stops.{IsRefused};
+ghost use Rattle.cqf_output.specs.Stops.{IsRefused};
 ghost use Rattle.cqf_program_runs.specs.Deliveries.PlannedScenario.{planned_scenario};
 ghost use Rattle.cqf_program_summary.specs.Summary.Gathering.{IsSummaryOf};
 ghost use Rattle.cqf_program_summary.specs.Summary.Output.{IsSummaryOutput};
@@ -12,7 +12,7 @@ ghost use Rattle.cqf_program_summary.specs.Summary.Text.{text_of_summary};
 use crate::summary::gathering::sums_of_scenario;
 use crate::summary::outputs::SummaryOutput;
 use cqf_model::Limits;
-use cqf_press::{Sheet, Stop};
+use cqf_output::{Buffer, Stop};
 use cqf_program_runs::{PlannedGiven, read_planned_given};
 use cqf_units::Memory;
 use std::alloc::Global;
@@ -25,8 +25,8 @@ fn output_of(alloc: Global, cycles: u32, planned: &PlannedGiven) -> Result<Summa
     ensures { IfOk result (IsSummaryOf cycles planned.now) }
 {
     let sums = sums_of_scenario(alloc, cycles, planned)?;
-    let sheet = Sheet::new(alloc)?;
-    Ok(SummaryOutput { sums, sheet })
+    let buffer = Buffer::new(alloc)?;
+    Ok(SummaryOutput { sums, buffer })
 }
 
 /// Returns the output of `summary` over `cycles` cycles, 0 to 100,000, for an input that is read within given limits,

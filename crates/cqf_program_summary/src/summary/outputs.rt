@@ -1,17 +1,17 @@
 //! The output of `summary`, before it is written.
-ghost use Rattle.cqf_press.specs.Edge.{HasTold, writing};
+ghost use Rattle.cqf_output.specs.Edge.{HasTold, writing};
 ghost use Rattle.cqf_program_summary.specs.Summary.Text.{text_of_summary};
 
 use crate::summary::lines::put_summary;
 use crate::summary::sums::StreamSums;
-use cqf_press::{Press, Sheet, Sink, Told};
+use cqf_output::{Writer, Buffer, Sink, Told};
 use std::marker::Model;
 
-/// The data of the output of `summary`: the counts of each stream, and a sheet. In contracts it is the summary.
+/// The data of the output of `summary`: the counts of each stream, and a buffer. In contracts it is the summary.
 #[derive(Drop)]
 pub struct SummaryOutput {
     pub(crate) sums: StreamSums,
-    pub(crate) sheet: Sheet,
+    pub(crate) buffer: Buffer,
 }
 
 impl Model for SummaryOutput {
@@ -27,9 +27,9 @@ impl SummaryOutput {
     pub fn tell<W: Sink>(self, told: &mut Told<W>)
         ensures { HasTold (writing W.contents told.old told.new) (text_of_summary self) }
     {
-        let SummaryOutput { sums, sheet } = self;
-        let mut press = Press::new(told, sheet);
-        put_summary(&mut press, &sums);
-        let _told = press.close();
+        let SummaryOutput { sums, buffer } = self;
+        let mut writer = Writer::new(told, buffer);
+        put_summary(&mut writer, &sums);
+        let _told = writer.close();
     }
 }

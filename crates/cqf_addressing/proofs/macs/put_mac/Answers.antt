@@ -1,5 +1,5 @@
 use Rattle.std.proofs.Common.{ap}
-use Rattle.cqf_press.proofs.PressLemmas.{Puts-as}
+use Rattle.cqf_output.proofs.WriterLemmas.{Puts-as}
 use Rattle.cqf_addressing.specs.Mac.{mac_text}
 use Rattle.cqf_addressing.proofs.macs.put_mac.Goals as goal
 

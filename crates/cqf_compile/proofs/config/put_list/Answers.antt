@@ -2,7 +2,7 @@
 use Rattle.std.proofs.Common.{◌+◌, sym, take}
 use Rattle.cqf_gates.proofs.Written.{text_of_entries-more}
 use Rattle.cqf_gates.specs.GateListText.{text_of_entries}
-use Rattle.cqf_press.proofs.PressLemmas.{Puts-as, Puts-then}
+use Rattle.cqf_output.proofs.WriterLemmas.{Puts-as, Puts-then}
 use Rattle.cqf_compile.proofs.config.put_list.Goals as goal
 
 pub loop-entry-preserved : goal.loop-entry-preserved

@@ -3,7 +3,7 @@ use Rattle.std.proofs.Common.{◌+◌, sym, take}
 use Rattle.std.specs.List.{flat_map}
 use Rattle.cqf_compile.proofs.Pieces.{flat_map_found}
 use Rattle.cqf_compile.specs.ConfigText.{text_of_link}
-use Rattle.cqf_press.proofs.PressLemmas.{Puts-as, Puts-then}
+use Rattle.cqf_output.proofs.WriterLemmas.{Puts-as, Puts-then}
 use Rattle.cqf_compile.proofs.ConfigPieces.{port_pieces}
 use Rattle.cqf_compile.proofs.config.put_ports.Goals as goal
 

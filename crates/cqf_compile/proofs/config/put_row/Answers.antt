@@ -4,7 +4,7 @@ use Rattle.std.specs.List.{flat_map}
 use Rattle.cqf_compile.proofs.Pieces.{flat_map_taken}
 use Rattle.cqf_compile.specs.ConfigText.{text_at}
 use Rattle.cqf_gates.specs.StreamText.{text_of_stream_entries}
-use Rattle.cqf_press.proofs.PressLemmas.{Puts-as, Puts-then}
+use Rattle.cqf_output.proofs.WriterLemmas.{Puts-as, Puts-then}
 use Rattle.cqf_topology.specs.NodeNames.{name_of_bridge}
 use Rattle.cqf_compile.proofs.ConfigPieces.{row_pieces}
 use Rattle.cqf_compile.proofs.config.put_row.Goals as goal

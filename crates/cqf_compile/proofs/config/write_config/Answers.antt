@@ -2,7 +2,7 @@ use Rattle.std.proofs.Common.{◌∙◌, List, ap, rules}
 use Rattle.std.specs.List.{flat_map}
 use Rattle.cqf_model.specs.declared.topology.Row.{Row}
 use Rattle.cqf_compile.specs.ConfigText.{config_text, text_of_row, texts_of_links}
-use Rattle.cqf_press.proofs.PressLemmas.{Puts-as, Puts-then, text-pressed}
+use Rattle.cqf_output.proofs.WriterLemmas.{Puts-as, Puts-then, text-written}
 use Rattle.cqf_compile.proofs.config.write_config.Goals as goal
 
 pub put_shared-requires-clause-along : goal.put_shared-requires-clause-along
@@ -18,7 +18,7 @@ returns c =
     let rows = Puts-as _ (flat_map (text_of_row plan) c.args.table.now.rows)
     (ap (λ (rows : List Row). flat_map (text_of_row plan) rows) c.rows.ensures.rows) c.put_shared.ensures in
     let puts = Puts-then (texts_of_links plan) (flat_map (text_of_row plan) c.args.table.now.rows) links rows in
-    let names = c.close-told.ensures.same ∙ puts.same ∙ c.new-press.ensures.same in
-    text-pressed c.close-told.result.now (config_text plan c.args.table.now.rows) c.told_text.result
+    let names = c.close-told.ensures.same ∙ puts.same ∙ c.new-writer.ensures.same in
+    text-written c.close-told.result.now (config_text plan c.args.table.now.rows) c.told_text.result
     (ap (λ list. list.items) c.new-told.ensures.writer ∙ c.new.ensures.items)
-    c.new-press.ensures.opens puts c.close-told.ensures.closes c.told_text.ensures.ok (search rules) (search rules)
+    c.new-writer.ensures.opens puts c.close-told.ensures.closes c.told_text.ensures.ok (search rules) (search rules)

@@ -1,4 +1,4 @@
-use Rattle.cqf_press.proofs.PressLemmas.{Puts-as, Puts-then}
+use Rattle.cqf_output.proofs.WriterLemmas.{Puts-as, Puts-then}
 use Rattle.cqf_gates.proofs.Written.{open_pieces}
 use Rattle.cqf_gates.proofs.stream_text.put_open.Goals as goal
 

@@ -3,7 +3,7 @@ use Rattle.std.proofs.Common.{◌+◌, None, sym, take}
 use Rattle.cqf_gates.proofs.Written.{text_of_stream_entries-more}
 use Rattle.cqf_gates.specs.StreamText.{text_of_stream_entries}
 use Rattle.cqf_model.specs.declared.gates.StreamEntry.{StreamEntry}
-use Rattle.cqf_press.proofs.PressLemmas.{Puts-as, Puts-then}
+use Rattle.cqf_output.proofs.WriterLemmas.{Puts-as, Puts-then}
 use Rattle.cqf_gates.proofs.stream_text.put_stream.Goals as goal
 
 pub loop-entry-preserved : goal.loop-entry-preserved

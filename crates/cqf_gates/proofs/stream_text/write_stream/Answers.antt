@@ -1,11 +1,11 @@
 use Rattle.std.proofs.Common.{◌∙◌, ap, rules}
-use Rattle.cqf_press.proofs.PressLemmas.{text-pressed}
+use Rattle.cqf_output.proofs.WriterLemmas.{text-written}
 use Rattle.cqf_gates.specs.StreamText.{text_of_stream_entries}
 use Rattle.cqf_gates.proofs.stream_text.write_stream.Goals as goal
 
 pub returns : goal.returns
 returns c =
-    let names = c.close-told.ensures.same ∙ c.put_stream.ensures.same ∙ c.new-press.ensures.same in
-    text-pressed c.close-told.result.now (text_of_stream_entries c.args.list.now) c.told_text.result
+    let names = c.close-told.ensures.same ∙ c.put_stream.ensures.same ∙ c.new-writer.ensures.same in
+    text-written c.close-told.result.now (text_of_stream_entries c.args.list.now) c.told_text.result
     (ap (λ list. list.items) c.new-told.ensures.writer ∙ c.new.ensures.items)
-    c.new-press.ensures.opens c.put_stream.ensures c.close-told.ensures.closes c.told_text.ensures.ok (search rules) (search rules)
+    c.new-writer.ensures.opens c.put_stream.ensures c.close-told.ensures.closes c.told_text.ensures.ok (search rules) (search rules)

@@ -5,16 +5,16 @@ use Rattle.std.proofs.lemmas.List.{length-map}
 use Rattle.cqf_model.specs.declared.ports.Arrival.{Arrival}
 use Rattle.cqf_lists.specs.ByNumber.{lists_of}
 use Rattle.cqf_instants_run.specs.Feeding.{AreFed}
-use Rattle.cqf_instants_run.proofs.Backing.{backs_the_tapes, on_some_link, tapes_taken}
+use Rattle.cqf_instants_run.proofs.Backing.{backs_the_traces, on_some_link, traces_taken}
 use Rattle.cqf_instants_run.proofs.taping.keep_background.Goals as goal
 
 -- each background frame is on a link of the domain
 pub feed_frames-requires : goal.feed_frames-requires
 feed_frames-requires c =
-    on_some_link c.args.domain.now c.args.end.0 c.args.background.now c.args.tapes.now c.requires.run c.as_slice.result.now
+    on_some_link c.args.domain.now c.args.end.0 c.args.background.now c.args.traces.now c.requires.run c.as_slice.result.now
     (c.as_slice.ensures.value ∙ c.in_ok-frames.ensures) c.links-links.result c.links-links.ensures
 
--- the tapes are in order of link number
+-- the traces are in order of link number
 pub keep_on_each-requires-clause-links : goal.keep_on_each-requires-clause-links
 keep_on_each-requires-clause-links c = c.requires.run.is.links
 
@@ -35,15 +35,15 @@ keep_on_each-requires-clause-early c = c.requires.run.is.early
 -- the ports may take what they are given
 pub keep_on_each-requires-clause-taken : goal.keep_on_each-requires-clause-taken
 keep_on_each-requires-clause-taken c =
-    λ l inside. tapes_taken c.args.domain.now c.args.end.0 c.args.background.now c.args.tapes.now c.requires.run c.as_slice.result.now
+    λ l inside. traces_taken c.args.domain.now c.args.end.0 c.args.background.now c.args.traces.now c.requires.run c.as_slice.result.now
     (c.as_slice.ensures.value ∙ c.in_ok-frames.ensures) (lists_of c.in_ok-lists.lists.items)
     (subst (λ k. AreFed c.as_slice.result.now [] k (lists_of c.in_ok-lists.lists.items)) c.links-links.ensures c.in_ok-lists.ensures) l
     (omega (arith, inside, length-map c.in_ok-lists.lists.items (λ (v : Vec Arrival Global). v.items)))
 
--- the tapes have what the network starts
+-- the traces have what the network starts
 pub returns : goal.returns
 returns c =
-    backs_the_tapes c.gate_gives_class.ensures c.port_starts_the_background.ensures c.args.domain.now c.args.end.0 c.args.background.now c.args.tapes.now _
+    backs_the_traces c.gate_gives_class.ensures c.port_starts_the_background.ensures c.args.domain.now c.args.end.0 c.args.background.now c.args.traces.now _
     c.as_slice.result.now (lists_of c.in_ok-lists.lists.items) (c.as_slice.ensures.value ∙ c.in_ok-frames.ensures)
     (subst (λ k. AreFed c.as_slice.result.now [] k (lists_of c.in_ok-lists.lists.items)) c.links-links.ensures c.in_ok-lists.ensures)
     c.in_ok-keep_on_each.ensures

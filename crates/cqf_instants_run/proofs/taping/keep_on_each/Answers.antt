@@ -4,35 +4,35 @@ use Rattle.std.proofs.lemmas.List.{length-append}
 use Rattle.cqf_lists.specs.ByNumber.{lists_of}
 use Rattle.cqf_model.specs.declared.ports.Arrival.{Arrival}
 use Rattle.cqf_port.specs.PortState.{AreTaken}
-use Rattle.cqf_tape.specs.declared.tape.Mark.{Mark}
+use Rattle.cqf_trace.specs.declared.trace.Mark.{Mark}
 use Rattle.cqf_instants_run.specs.Feeding.{fed}
 use Rattle.cqf_instants_run.specs.Taping.{arrival_of_mark}
-use Rattle.cqf_instants_run.proofs.Tapes.{all_take, as_many_tapes, next_has, next_link, next_marks, next_there, none_take}
+use Rattle.cqf_instants_run.proofs.Traces.{all_take, as_many_traces, next_has, next_link, next_marks, next_there, none_take}
 use Rattle.cqf_instants_run.proofs.Tellings.{below_all, list_there}
 use Rattle.cqf_instants_run.proofs.taping.keep_on_each.Goals as goal
 
--- at first no tape has its background frames
+-- at first no trace has its background frames
 pub loop-frames-init : goal.loop-frames-init
 loop-frames-init c = (
   c.into_iter-frames-iterator.ensures.into_iter_gives.0,
   refl,
-  none_take c.args.domain.now c.args.end.0 (λ k. get_or (lists_of c.args.lists.items) k []) c.args.tapes.now,
+  none_take c.args.domain.now c.args.end.0 (λ k. get_or (lists_of c.args.lists.items) k []) c.args.traces.now,
 )
 
--- the next tape is there
-pub bounds-tapes-place : goal.bounds-tapes-place
-bounds-tapes-place c =
+-- the next trace is there
+pub bounds-traces-place : goal.bounds-traces-place
+bounds-traces-place c =
     let all : c.loop-frames.yielded ++ c.in-Some.frames ∷ into_iter_items c.next.new.self ≡ c.args.lists.items =
     ap (λ xs. c.loop-frames.yielded ++ xs) (sym c.in-Some.ensures.steps.0) ∙ c.loop-frames.invariant.0 in
     let is_link : c.loop-frames.place < length c.args.domain.now.links =
     omega (arith, below_all c.loop-frames.yielded c.in-Some.frames _ c.args.lists.items c.loop-frames.place all c.loop-frames.invariant.1, c.requires.one_each)
     in
-    next_there c.args.domain.now c.args.end.0 (λ k. get_or (lists_of c.args.lists.items) k []) c.args.tapes.now c.loop-frames.tapes c.loop-frames.place
+    next_there c.args.domain.now c.args.end.0 (λ k. get_or (lists_of c.args.lists.items) k []) c.args.traces.now c.loop-frames.traces c.loop-frames.place
     c.loop-frames.invariant.2 c.requires.links is_link
 
 -- and its offset fits
-pub offset_bounds-tapes-place : goal.offset_bounds-tapes-place
-offset_bounds-tapes-place c =
+pub offset_bounds-traces-place : goal.offset_bounds-traces-place
+offset_bounds-traces-place c =
     let all : c.loop-frames.yielded ++ c.in-Some.frames ∷ into_iter_items c.next.new.self ≡ c.args.lists.items =
     ap (λ xs. c.loop-frames.yielded ++ xs) (sym c.in-Some.ensures.steps.0) ∙ c.loop-frames.invariant.0 in
     omega (
@@ -49,7 +49,7 @@ keep_on-requires-clause-link c =
     let is_link : c.loop-frames.place < length c.args.domain.now.links =
     omega (arith, below_all c.loop-frames.yielded c.in-Some.frames _ c.args.lists.items c.loop-frames.place all c.loop-frames.invariant.1, c.requires.one_each)
     in
-    next_link c.args.domain.now c.args.end.0 (λ k. get_or (lists_of c.args.lists.items) k []) c.args.tapes.now c.loop-frames.tapes c.loop-frames.place
+    next_link c.args.domain.now c.args.end.0 (λ k. get_or (lists_of c.args.lists.items) k []) c.args.traces.now c.loop-frames.traces c.loop-frames.place
     c.loop-frames.invariant.2 c.requires.links is_link _
 
 -- its port may take what it is given
@@ -66,11 +66,11 @@ keep_on-requires-clause-taken c =
     subst AreTaken
     (ap₂ (λ (xs : List Arrival) (ms : List Mark). fed xs (map (arrival_of_mark d) ms))
     (list_there front c.in-Some.frames rest c.args.lists.items place all c.loop-frames.invariant.1)
-    (sym (next_marks d c.args.end.0 (λ k. get_or (lists_of c.args.lists.items) k []) c.args.tapes.now c.loop-frames.tapes place c.loop-frames.invariant.2
+    (sym (next_marks d c.args.end.0 (λ k. get_or (lists_of c.args.lists.items) k []) c.args.traces.now c.loop-frames.traces place c.loop-frames.invariant.2
     c.requires.links is_link _)))
     (c.requires.taken place within)
 
--- one more tape has its background frames
+-- one more trace has its background frames
 pub loop-frames-preserved : goal.loop-frames-preserved
 loop-frames-preserved c =
     let d = c.args.domain.now in
@@ -83,8 +83,8 @@ loop-frames-preserved c =
     omega (arith, below_all front c.in-Some.frames rest c.args.lists.items place all c.loop-frames.invariant.1, c.requires.one_each) in (
       append_assoc front (c.in-Some.frames ∷ []) rest ∙ all,
       omega (arith, length-append front (c.in-Some.frames ∷ []), c.loop-frames.invariant.1),
-      next_has d c.args.end.0 (λ k. get_or (lists_of c.args.lists.items) k []) c.args.tapes.now c.loop-frames.tapes place c.loop-frames.invariant.2
-          c.requires.links is_link c.in-Some.frames.items c.index-tapes-place.result _
+      next_has d c.args.end.0 (λ k. get_or (lists_of c.args.lists.items) k []) c.args.traces.now c.loop-frames.traces place c.loop-frames.invariant.2
+          c.requires.links is_link c.in-Some.frames.items c.index-traces-place.result _
           (list_there front c.in-Some.frames rest c.args.lists.items place all c.loop-frames.invariant.1) c.in_ok-keep_on.ensures,
     )
 
@@ -93,7 +93,7 @@ pub returns : goal.returns
 returns c =
     let none = sym c.loop-frames.frames-iterator.rest.ok.0 ∙ c.in-None.ensures.steps.0 in
     let many = length-append c.loop-frames.yielded (into_iter_items c.loop-frames.frames-iterator) in
-    all_take c.args.domain.now c.args.end.0 (λ k. get_or (lists_of c.args.lists.items) k []) c.args.tapes.now c.loop-frames.tapes c.loop-frames.place
+    all_take c.args.domain.now c.args.end.0 (λ k. get_or (lists_of c.args.lists.items) k []) c.args.traces.now c.loop-frames.traces c.loop-frames.place
     c.loop-frames.invariant.2
     (omega (
       arith,
@@ -102,5 +102,5 @@ returns c =
       ap length c.loop-frames.invariant.0,
       c.loop-frames.invariant.1,
       c.requires.one_each,
-      as_many_tapes (length c.args.domain.now.links) c.args.tapes.now c.requires.links,
+      as_many_traces (length c.args.domain.now.links) c.args.traces.now c.requires.links,
     ))

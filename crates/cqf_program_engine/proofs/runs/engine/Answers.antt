@@ -1,6 +1,6 @@
 use Rattle.std.proofs.Common.{map}
 use Rattle.cqf_program_engine.specs.Edge.{reading}
-use Rattle.cqf_press.specs.Edge.{writing}
+use Rattle.cqf_output.specs.Edge.{writing}
 use Rattle.cqf_program_engine.proofs.RunLemmas.{Ends-ran, Ends-stopped}
 use Rattle.cqf_program_engine.proofs.runs.engine.Goals as goal
 

@@ -1,5 +1,5 @@
 use Rattle.std.proofs.Common.{map, subst, sym}
-use Rattle.cqf_press.specs.declared.stops.Stop.{Stop}
+use Rattle.cqf_output.specs.declared.stops.Stop.{Stop}
 use Rattle.cqf_program_engine.specs.Run.{TellsPlainly}
 use Rattle.cqf_program_words.proofs.WordLemmas.{EndsWords-told}
 use Rattle.cqf_program_engine.proofs.runs.read_line.Goals as goal

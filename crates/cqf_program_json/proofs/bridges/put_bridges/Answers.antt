@@ -1,5 +1,5 @@
 use Rattle.std.proofs.Common.{◌≡◌, ◌∙◌, ◌<◌, ◌==◌, [], ap, arith, codes, length, map, sym, true, ℕ}
-use Rattle.cqf_press.proofs.PressLemmas.{Puts-as, Puts-then}
+use Rattle.cqf_output.proofs.WriterLemmas.{Puts-as, Puts-then}
 use Rattle.cqf_program_json.specs.Arrays.{end_text, listed}
 use Rattle.cqf_program_json.specs.Text.{bridge_text, numbers_below}
 use Rattle.cqf_program_json.proofs.Listing.{listed_number, nil_of_numbers}

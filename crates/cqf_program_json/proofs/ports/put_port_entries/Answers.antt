@@ -1,5 +1,5 @@
 use Rattle.std.proofs.Common.{sym}
-use Rattle.cqf_press.proofs.PressLemmas.{Puts-as, Puts-then}
+use Rattle.cqf_output.proofs.WriterLemmas.{Puts-as, Puts-then}
 use Rattle.cqf_program_json.specs.Text.{port_entry}
 use Rattle.cqf_program_json.proofs.Listing.{listed_at}
 use Rattle.cqf_program_json.proofs.ports.put_port_entries.Goals as goal

@@ -1,9 +1,9 @@
 -- The entries so far are put.
 use Rattle.std.proofs.Common.{map, take, true}
-use Rattle.cqf_press.specs.Press.{Puts}
+use Rattle.cqf_output.specs.Writer.{Puts}
 use Rattle.cqf_program_json.specs.Arrays.{listed}
 use Rattle.cqf_program_json.specs.Text.{port_entry}
 use Rattle.cqf_program_json.proofs.ports.put_port_entries.Given as goal
 
 abbrev pub invariant-loop-place : goal.invariant-loop-place
-invariant-loop-place g l = Puts g.W.Write.contents l.initial.press l.press (listed true (map port_entry (take l.place l.entries)))
+invariant-loop-place g l = Puts g.W.Write.contents l.initial.writer l.writer (listed true (map port_entry (take l.place l.entries)))

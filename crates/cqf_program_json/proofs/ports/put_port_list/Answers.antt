@@ -1,5 +1,5 @@
 use Rattle.std.proofs.Common.{ap, codes}
-use Rattle.cqf_press.proofs.PressLemmas.{Puts-as, Puts-then}
+use Rattle.cqf_output.proofs.WriterLemmas.{Puts-as, Puts-then}
 use Rattle.cqf_program_json.specs.Arrays.{end_text}
 use Rattle.cqf_program_json.specs.Text.{port_entry}
 use Rattle.cqf_program_json.proofs.Listing.{nil_length}

@@ -1,5 +1,5 @@
 use Rattle.std.proofs.Common.{ap, decimal}
-use Rattle.cqf_press.proofs.PressLemmas.{Puts-as, Puts-then}
+use Rattle.cqf_output.proofs.WriterLemmas.{Puts-as, Puts-then}
 use Rattle.cqf_program_json.proofs.ports.put_port_round.Goals as goal
 
 pub returns : goal.returns

@@ -1,6 +1,6 @@
 use Rattle.std.proofs.Common.{◌≡◌, ◌∙◌, ◌&&◌, ◌++◌, [], Bool, ap, arith, codes, cond, length, map, not, refl, sym, true, ℕ}
 use Rattle.cqf_model.specs.Domain.{leaves}
-use Rattle.cqf_press.proofs.PressLemmas.{Puts-as, Puts-nil, Puts-then}
+use Rattle.cqf_output.proofs.WriterLemmas.{Puts-as, Puts-nil, Puts-then}
 use Rattle.cqf_program_json.specs.Arrays.{end_text, front_text, is_nil, listed}
 use Rattle.cqf_program_json.specs.Text.{left_below, port_text}
 use Rattle.cqf_program_json.proofs.Listing.{first_more, nil_map, ports_more}

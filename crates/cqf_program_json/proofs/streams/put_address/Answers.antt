@@ -1,5 +1,5 @@
 use Rattle.std.proofs.Common.{ap, decimal}
-use Rattle.cqf_press.proofs.PressLemmas.{Puts-as, Puts-then}
+use Rattle.cqf_output.proofs.WriterLemmas.{Puts-as, Puts-then}
 use Rattle.cqf_program_json.specs.Arrays.{number_or_null}
 use Rattle.cqf_program_json.specs.Text.{mac_or_null}
 use Rattle.cqf_program_json.proofs.streams.put_address.Goals as goal

@@ -1,6 +1,6 @@
 use Rattle.std.proofs.Common.{None, sym}
 use Rattle.cqf_model.specs.declared.gates.StreamEntry.{StreamEntry}
-use Rattle.cqf_press.proofs.PressLemmas.{Puts-as, Puts-then}
+use Rattle.cqf_output.proofs.WriterLemmas.{Puts-as, Puts-then}
 use Rattle.cqf_program_json.specs.Text.{gate_entry}
 use Rattle.cqf_program_json.proofs.Listing.{listed_at}
 use Rattle.cqf_program_json.proofs.streams.put_gate_entries.Goals as goal

@@ -1,6 +1,6 @@
 use Rattle.std.proofs.Common.{◌≡◌, ◌∙◌, ◌++◌, ◌==◌, List, ap, arith, codes, get_or, length, map, sym, take, true, ℕ}
 use Rattle.std.proofs.lemmas.List.{take_all}
-use Rattle.cqf_press.proofs.PressLemmas.{Puts-as, Puts-then}
+use Rattle.cqf_output.proofs.WriterLemmas.{Puts-as, Puts-then}
 use Rattle.cqf_program_json.specs.Arrays.{end_text, front_text, is_nil, listed}
 use Rattle.cqf_program_json.specs.Text.{stream_text}
 use Rattle.std.specs.Prelude.{filter}

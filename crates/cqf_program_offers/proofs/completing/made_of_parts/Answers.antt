@@ -1,7 +1,7 @@
 use Rattle.std.proofs.Common.{ℕ, ◌∙◌, List, ap, subst, sym}
 use Rattle.std.proofs.lemmas.Result.{IfErr-weaker, IfOk-weaker}
 use Rattle.cqf_program_offers.specs.Made.{made_of_parts}
-use Rattle.cqf_press.specs.Stops.{IsRefused}
+use Rattle.cqf_output.specs.Stops.{IsRefused}
 use Rattle.cqf_program_offers.proofs.Making.{four_parts, three_parts}
 use Rattle.cqf_program_offers.proofs.completing.made_of_parts.Goals as goal
 

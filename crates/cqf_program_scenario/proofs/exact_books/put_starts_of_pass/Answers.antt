@@ -4,24 +4,24 @@ use Rattle.cqf_model.specs.Book.{starts_of}
 use Rattle.cqf_model.specs.declared.frames.Started.{Started}
 use Rattle.cqf_instants.specs.Progress.{IsBasisOf, starts_of_cycle}
 use Rattle.cqf_instants.proofs.Steps.{starts_more}
-use Rattle.cqf_press.proofs.PressLemmas.{Puts-as, Puts-then}
+use Rattle.cqf_output.proofs.WriterLemmas.{Puts-as, Puts-then}
 use Rattle.cqf_report.specs.Books.{lines_of_starts, started_fields}
 use Rattle.cqf_report.specs.Written.{line_of_fields}
 use Rattle.cqf_program_scenario.proofs.exact_books.put_starts_of_pass.Goals as goal
 
-pub loop-press-preserved : goal.loop-press-preserved
-loop-press-preserved g c =
-    let next = c.next_cycle.ensures.next c.loop-press-test.true in
-    let so_far = c.loop-press.invariant in
+pub loop-writer-preserved : goal.loop-writer-preserved
+loop-writer-preserved g c =
+    let next = c.next_cycle.ensures.next c.loop-writer-test.true in
+    let so_far = c.loop-writer.invariant in
     let lines = lines_of_starts (codes "start") c.args.domain.now in
     record {
       basis = next.basis ∙ so_far.basis;
       puts = λ given is.
-          let told = starts_of given.run.domain c.loop-press.pass.told given.net.carried in
-          let here = starts_of_cycle given c.loop-press.pass.told in
+          let told = starts_of given.run.domain c.loop-writer.pass.told given.net.carried in
+          let here = starts_of_cycle given c.loop-writer.pass.told in
           Puts-as (lines told ++ lines c.starts.result.now) (lines (starts_of given.run.domain c.next_cycle.new.self.told given.net.carried))
           (ap (λ (xs : List Started). lines told ++ lines xs) (c.starts.ensures ∙ next.starts given (subst (IsBasisOf given) (sym so_far.basis) is))
           ∙ sym (flat_map-append (λ (started : Started). line_of_fields (started_fields (codes "start") c.args.domain.now started)) told here)
-          ∙ ap lines (starts_more given c.loop-press.pass.told ∙ ap (λ (n : ℕ). starts_of given.run.domain n given.net.carried) (sym next.told)))
+          ∙ ap lines (starts_more given c.loop-writer.pass.told ∙ ap (λ (n : ℕ). starts_of given.run.domain n given.net.carried) (sym next.told)))
           (Puts-then (lines told) (lines c.starts.result.now) (so_far.puts given is) c.put_starts.ensures);
     }

@@ -1,7 +1,7 @@
 use Rattle.std.proofs.Common.{◌∙◌, ℕ, List, Result, sym, subst}
 use Rattle.std.proofs.lemmas.Result.{IfErr-weaker, IfOk-weaker}
 use Rattle.cqf_program_scenario.specs.RunParts.{texts_of}
-use Rattle.cqf_press.specs.Stops.{IsRefused}
+use Rattle.cqf_output.specs.Stops.{IsRefused}
 use Rattle.cqf_program_scenario.specs.Scenario.{Scenario}
 use Rattle.cqf_program_scenario.proofs.ReadInput.{scenario_of-is}
 use Rattle.cqf_program_scenario.proofs.given.read_parts.Goals as goal

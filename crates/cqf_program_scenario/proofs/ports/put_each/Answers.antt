@@ -1,7 +1,7 @@
 use Rattle.std.proofs.Common.{◌+◌, map, take, arith}
 use Rattle.std.proofs.lemmas.Grind.{common_steps}
 use Rattle.cqf_port.specs.PortState.{start_of}
-use Rattle.cqf_press.proofs.PressLemmas.{Puts-as, Puts-then}
+use Rattle.cqf_output.proofs.WriterLemmas.{Puts-as, Puts-then}
 use Rattle.cqf_report.specs.Starts.{lines_of_port}
 use Rattle.cqf_units.specs.Timing.{ticks_of_octet}
 use Rattle.cqf_program_scenario.proofs.ports.put_each.Goals as goal

@@ -1,6 +1,6 @@
 use Rattle.std.proofs.Common.{map}
 use Rattle.cqf_port.specs.PortState.{start_of}
-use Rattle.cqf_press.proofs.PressLemmas.{Puts-then}
+use Rattle.cqf_output.proofs.WriterLemmas.{Puts-then}
 use Rattle.cqf_report.specs.Written.{line_of_fields}
 use Rattle.cqf_report.specs.Starts.{lines_of_port, start_header}
 use Rattle.cqf_units.specs.Timing.{ticks_of_octet}

@@ -1,6 +1,6 @@
 use Rattle.std.proofs.Common.{ap}
 use Rattle.cqf_model.specs.Network.{compiled_lists}
-use Rattle.cqf_press.proofs.PressLemmas.{Puts-as, Puts-then}
+use Rattle.cqf_output.proofs.WriterLemmas.{Puts-as, Puts-then}
 use Rattle.cqf_program_tc.specs.Words.{tx_words}
 use Rattle.cqf_program_tc.proofs.bridges.put_list_parameter.Goals as goal
 

@@ -1,12 +1,12 @@
 -- The lines up to the next index are put, and it is noted over which links streams arrived.
 use Rattle.std.proofs.Common.{get_or, length}
 use Rattle.cqf_addressing.specs.Streams.{gate_index}
-use Rattle.cqf_press.specs.Press.{Puts}
+use Rattle.cqf_output.specs.Writer.{Puts}
 use Rattle.cqf_program_tc.specs.Bridge.{stream_needs}
 use Rattle.cqf_program_tc.proofs.LeavingRows.{AreSoFar}
 use Rattle.cqf_program_tc.proofs.bridges.put_needs.Given as goal
 
 abbrev pub invariant-loop-place : goal.invariant-loop-place
 invariant-loop-place g l =
-    AreSoFar (λ text. Puts g.W.Write.contents l.initial.press l.press text) (stream_needs l.plan.domain.now (gate_index l.plan.addresses.now) l.plan.rows.now l.bridge) l.plan.domain.now l.bridge l.plan.rows.now l.seen
+    AreSoFar (λ text. Puts g.W.Write.contents l.initial.writer l.writer text) (stream_needs l.plan.domain.now (gate_index l.plan.addresses.now) l.plan.rows.now l.bridge) l.plan.domain.now l.bridge l.plan.rows.now l.seen
     (get_or l.places l.place-index (length l.plan.rows.now))

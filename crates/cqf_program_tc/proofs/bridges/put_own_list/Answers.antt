@@ -1,6 +1,6 @@
 use Rattle.std.proofs.Common.{◌++◌, ◌∙◌, codes, sym}
 use Rattle.cqf_model.specs.Network.{compiled_lists}
-use Rattle.cqf_press.proofs.PressLemmas.{Puts-as}
+use Rattle.cqf_output.proofs.WriterLemmas.{Puts-as}
 use Rattle.cqf_program_tc.specs.Bridge.{own_list}
 use Rattle.cqf_program_tc.specs.Words.{tx_words}
 use Rattle.cqf_program_tc.proofs.Owned.{list_of_owner, owner_inside}

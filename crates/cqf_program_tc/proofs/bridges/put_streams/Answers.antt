@@ -2,8 +2,8 @@ use Rattle.std.proofs.Common.{◌∙◌, ◌<◌, List, [], ap, arith, get_or, l
 use Rattle.std.specs.List.{flat_map}
 use Rattle.std.proofs.lemmas.List.{get_or_default}
 use Rattle.cqf_addressing.specs.Streams.{gate_index}
-use Rattle.cqf_press.specs.Press.{Puts}
-use Rattle.cqf_press.proofs.PressLemmas.{Puts-as, Puts-nil, Puts-then}
+use Rattle.cqf_output.specs.Writer.{Puts}
+use Rattle.cqf_output.proofs.WriterLemmas.{Puts-as, Puts-nil, Puts-then}
 use Rattle.cqf_program_tc.specs.Bridge.{stream_gates, stream_lines}
 use Rattle.cqf_program_tc.specs.Variables.{stream_variable}
 use Rattle.std.specs.Option.{option_map_or}
@@ -16,7 +16,7 @@ use Rattle.cqf_program_tc.proofs.bridges.put_streams.Goals as goal
 pub loop-place-init : goal.loop-place-init
 loop-place-init g c =
     lines_none c.args.plan.domain.now c.args.bridge c.args.plan.rows.now (gate_index c.args.plan.addresses.now)
-    (λ text. Puts g.W.Write.contents c.args.press.now c.args.press.now text) c.args.places.now c.requires.at (Puts-nil _ _)
+    (λ text. Puts g.W.Write.contents c.args.writer.now c.args.writer.now text) c.args.places.now c.requires.at (Puts-nil _ _)
 
 pub stream_at-stream-requires-clause-inside : goal.stream_at-stream-requires-clause-inside
 stream_at-stream-requires-clause-inside g c =
@@ -52,11 +52,11 @@ loop-place-preserved g c =
     let own = Puts-as (shown c.stream_at-stream.result.variable.now c.stream_at-stream.result.gate) (stream_gates d gates rows bridge row)
     (ap (λ (variable : List ℕ). shown variable c.stream_at-stream.result.gate) c.stream_at-stream.ensures.variable
     ∙ ap (λ (gate : ℕ). shown (stream_variable rows row) gate) c.stream_at-stream.ensures.gate) c.put_stream.ensures in
-    lines_next d bridge rows gates (λ text. Puts g.W.Write.contents c.args.press.now c.put_stream.new.press text) places i row c.requires.at
+    lines_next d bridge rows gates (λ text. Puts g.W.Write.contents c.args.writer.now c.put_stream.new.writer text) places i row c.requires.at
     c.loop-place-test.true at.1 (Puts-then (lines place) (stream_gates d gates rows bridge row) put own)
 
 pub returns : goal.returns
 returns g c =
     lines_all c.args.plan.domain.now c.args.bridge c.args.plan.rows.now (gate_index c.args.plan.addresses.now)
-    (λ text. Puts g.W.Write.contents c.args.press.now c.loop-place.press text) c.args.places.now
+    (λ text. Puts g.W.Write.contents c.args.writer.now c.loop-place.writer text) c.args.places.now
     c.loop-place.place-index c.loop-place-test.false c.loop-place.invariant

@@ -1,4 +1,4 @@
-use Rattle.cqf_press.proofs.PressLemmas.{Puts-then}
+use Rattle.cqf_output.proofs.WriterLemmas.{Puts-then}
 use Rattle.cqf_program_tc.proofs.bridges.put_talker_need.Goals as goal
 
 pub returns : goal.returns

@@ -1,7 +1,7 @@
 use Rattle.std.proofs.Common.{◌+◌, take, arith}
 use Rattle.std.specs.List.{flat_map}
 use Rattle.std.proofs.lemmas.Grind.{common_steps}
-use Rattle.cqf_press.proofs.PressLemmas.{Puts-as, Puts-then}
+use Rattle.cqf_output.proofs.WriterLemmas.{Puts-as, Puts-then}
 use Rattle.cqf_program_tc.specs.Bridge.{way_out}
 use Rattle.cqf_program_tc.proofs.bridges.put_ways_out.Goals as goal
 

@@ -1,5 +1,5 @@
 use Rattle.std.proofs.Common.{◌∙◌, ◌<◌, [], ap, arith, length, sym}
-use Rattle.cqf_press.proofs.PressLemmas.{Puts-then}
+use Rattle.cqf_output.proofs.WriterLemmas.{Puts-then}
 use Rattle.cqf_program_tc.proofs.NotedRows.{length-places, list_at}
 use Rattle.cqf_program_tc.proofs.env.put_file.Goals as goal
 

@@ -1,6 +1,6 @@
 use Rattle.std.proofs.Common.{ap, sym, add-one}
 use Rattle.cqf_lists.specs.Lists.{each_below}
-use Rattle.cqf_press.proofs.PressLemmas.{Puts-as, Puts-then}
+use Rattle.cqf_output.proofs.WriterLemmas.{Puts-as, Puts-then}
 use Rattle.cqf_program_tc.specs.Bridge.{if_left}
 use Rattle.cqf_program_tc.specs.Env.{out_lines}
 use Rattle.cqf_program_tc.proofs.env.put_links_out.Goals as goal

@@ -2,8 +2,8 @@ use Rattle.std.proofs.Common.{◌≡◌, ◌∙◌, ◌<◌, ℕ, List, [], ap, 
 use Rattle.std.specs.Option.{option_map_or}
 use Rattle.cqf_addressing.specs.Streams.{gate_index}
 use Rattle.cqf_lists.specs.Lists.{each_below}
-use Rattle.cqf_press.specs.Press.{Puts}
-use Rattle.cqf_press.proofs.PressLemmas.{Puts-as, Puts-nil, Puts-then}
+use Rattle.cqf_output.specs.Writer.{Puts}
+use Rattle.cqf_output.proofs.WriterLemmas.{Puts-as, Puts-nil, Puts-then}
 use Rattle.cqf_program_tc.proofs.LeavingRows.{env_silent, place_inside, so_far_all, so_far_here, so_far_more, so_far_none}
 use Rattle.cqf_program_tc.proofs.Streams.{row_at, seen_none}
 use Rattle.cqf_program_tc.specs.Bridge.{stream_at, way_at}
@@ -15,7 +15,7 @@ pub loop-place-init : goal.loop-place-init
 loop-place-init g c =
     let d = c.args.plan.domain.now in
     let rows = c.args.plan.rows.now in
-    so_far_none d c.args.bridge rows (λ text. Puts g.W.Write.contents c.args.press.now c.args.press.now text) (stream_env c.args.plan.domain.now c.args.interfaces.now c.args.plan.addresses.now c.args.plan.rows.now c.args.bridge) _ (env_silent c.args.plan.domain.now c.args.interfaces.now c.args.plan.addresses.now c.args.plan.rows.now c.args.bridge) c.args.places.now c.requires.at (Puts-nil _ _)
+    so_far_none d c.args.bridge rows (λ text. Puts g.W.Write.contents c.args.writer.now c.args.writer.now text) (stream_env c.args.plan.domain.now c.args.interfaces.now c.args.plan.addresses.now c.args.plan.rows.now c.args.bridge) _ (env_silent c.args.plan.domain.now c.args.interfaces.now c.args.plan.addresses.now c.args.plan.rows.now c.args.bridge) c.args.places.now c.requires.at (Puts-nil _ _)
     (seen_none d c.args.bridge)
 
 pub stream_at-stream-requires-clause-inside : goal.stream_at-stream-requires-clause-inside
@@ -39,7 +39,7 @@ loop-place-preserved g c =
     (ap (λ (variable : List ℕ). option_map_or (lines_by d c.args.interfaces.now c.args.plan.addresses.now bridge variable row) c.way_of-way.result [])
     c.stream_at-stream.ensures.variable
     ∙ ap (λ found. option_map_or (lines_by d c.args.interfaces.now c.args.plan.addresses.now bridge (stream_variable rows row) row) found []) way) c.put_lines_of.ensures in
-    so_far_more d bridge rows (λ text. Puts g.W.Write.contents c.args.press.now c.put_lines_of.new.press text) (stream_env c.args.plan.domain.now c.args.interfaces.now c.args.plan.addresses.now c.args.plan.rows.now c.args.bridge) c.way_of-way.new.seen
+    so_far_more d bridge rows (λ text. Puts g.W.Write.contents c.args.writer.now c.put_lines_of.new.writer text) (stream_env c.args.plan.domain.now c.args.interfaces.now c.args.plan.addresses.now c.args.plan.rows.now c.args.bridge) c.way_of-way.new.seen
     (env_silent c.args.plan.domain.now c.args.interfaces.now c.args.plan.addresses.now c.args.plan.rows.now c.args.bridge) places i row c.requires.at c.loop-place-test.true at.0 at.1
     (Puts-then (each_below (stream_at (stream_env c.args.plan.domain.now c.args.interfaces.now c.args.plan.addresses.now c.args.plan.rows.now c.args.bridge) rows) place) (stream_env c.args.plan.domain.now c.args.interfaces.now c.args.plan.addresses.now c.args.plan.rows.now c.args.bridge (take place rows) row) so_far.put put)
     (c.way_of-way.ensures.noted (take place rows) so_far.noted)
@@ -49,5 +49,5 @@ returns g c =
     let d = c.args.plan.domain.now in
     let bridge = c.args.bridge in
     let rows = c.args.plan.rows.now in
-    so_far_all d bridge rows (λ text. Puts g.W.Write.contents c.args.press.now c.loop-place.press text)
+    so_far_all d bridge rows (λ text. Puts g.W.Write.contents c.args.writer.now c.loop-place.writer text)
     (stream_env c.args.plan.domain.now c.args.interfaces.now c.args.plan.addresses.now c.args.plan.rows.now c.args.bridge) c.loop-place.seen c.args.places.now c.loop-place.place-index c.loop-place-test.false c.loop-place.invariant

@@ -1,6 +1,6 @@
 use Rattle.std.proofs.Common.{ap, sym, add-one}
 use Rattle.cqf_lists.specs.Lists.{each_below}
-use Rattle.cqf_press.proofs.PressLemmas.{Puts-as, Puts-then}
+use Rattle.cqf_output.proofs.WriterLemmas.{Puts-as, Puts-then}
 use Rattle.cqf_program_tc.specs.Text.{choice_line}
 use Rattle.cqf_program_tc.proofs.frame.put_choice_lines.Goals as goal
 

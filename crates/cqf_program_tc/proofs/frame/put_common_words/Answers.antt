@@ -1,6 +1,6 @@
 use Rattle.std.proofs.Common.{◌∙◌, ap}
 use Rattle.cqf_model.specs.GateList.{port_list}
-use Rattle.cqf_press.proofs.PressLemmas.{Puts-as}
+use Rattle.cqf_output.proofs.WriterLemmas.{Puts-as}
 use Rattle.cqf_program_tc.specs.Text.{common_words}
 use Rattle.cqf_program_tc.specs.Words.{tx_words}
 use Rattle.cqf_program_tc.proofs.frame.put_common_words.Goals as goal

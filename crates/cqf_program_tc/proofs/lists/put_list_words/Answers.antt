@@ -1,7 +1,7 @@
 -- One more entry is put.
 use Rattle.std.proofs.Common.{◌+◌, None, sym, take}
 use Rattle.cqf_model.specs.declared.gates.StreamEntry.{StreamEntry}
-use Rattle.cqf_press.proofs.PressLemmas.{Puts-as, Puts-then}
+use Rattle.cqf_output.proofs.WriterLemmas.{Puts-as, Puts-then}
 use Rattle.cqf_program_tc.proofs.WordLemmas.{list_words-more}
 use Rattle.cqf_program_tc.specs.Words.{list_words}
 use Rattle.cqf_program_tc.proofs.lists.put_list_words.Goals as goal

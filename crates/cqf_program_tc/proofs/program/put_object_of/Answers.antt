@@ -1,5 +1,5 @@
 use Rattle.std.proofs.Common.{ap}
-use Rattle.cqf_press.proofs.PressLemmas.{Puts-as}
+use Rattle.cqf_output.proofs.WriterLemmas.{Puts-as}
 use Rattle.cqf_program_tc.specs.Program.{object_text}
 use Rattle.cqf_program_tc.proofs.program.put_object_of.Goals as goal
 

@@ -1,7 +1,7 @@
 use Rattle.std.proofs.Common.{◌∙◌, ◌<◌, [], add-one, ap, arith, length, sym}
 use Rattle.cqf_addressing.specs.Streams.{gate_index}
 use Rattle.cqf_lists.specs.Lists.{each_below}
-use Rattle.cqf_press.proofs.PressLemmas.{Puts-as, Puts-then}
+use Rattle.cqf_output.proofs.WriterLemmas.{Puts-as, Puts-then}
 use Rattle.cqf_program_tc.specs.Bridge.{bridge_text}
 use Rattle.cqf_program_tc.proofs.NotedRows.{length-places, list_at}
 use Rattle.cqf_program_tc.proofs.told.put_bridges.Goals as goal

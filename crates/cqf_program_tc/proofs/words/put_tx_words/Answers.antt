@@ -3,7 +3,7 @@ use Rattle.std.proofs.Common.{All, take, ◌+◌, ◌≡◌, ◌<◌, ◌^◌, �
 use Rattle.std.proofs.lemmas.List.Elements.{All-more}
 use Rattle.std.proofs.lemmas.List.{take_all}
 use Rattle.cqf_model.specs.GateList.{Entry}
-use Rattle.cqf_press.proofs.PressLemmas.{Puts-as, Puts-then}
+use Rattle.cqf_output.proofs.WriterLemmas.{Puts-as, Puts-then}
 use Rattle.cqf_program_tc.specs.Words.{tx_words}
 use Rattle.cqf_program_tc.proofs.WordLemmas.{tx_again, tx_words-more}
 use Rattle.cqf_program_tc.proofs.words.put_tx_words.Goals as goal

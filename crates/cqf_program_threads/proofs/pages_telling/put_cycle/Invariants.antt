@@ -1,13 +1,13 @@
-use Rattle.cqf_press.specs.Press.{Puts}
+use Rattle.cqf_output.specs.Writer.{Puts}
 use Rattle.cqf_report.specs.Books.{lines_of_starts}
-use Rattle.cqf_tape.specs.Tapes.{told_on_links}
+use Rattle.cqf_trace.specs.Traces.{told_on_links}
 use Rattle.cqf_program_threads.proofs.Places.{AreBehindLinks}
 use Rattle.cqf_program_threads.proofs.pages_telling.put_cycle.Given as goal
 
 -- the lines of the links so far are put, and their indexes are after the cycle
 abbrev pub invariant-loop-link : goal.invariant-loop-link
 invariant-loop-link g l = record {
-  places : AreBehindLinks l.part.domain.now l.part.kind l.part.tapes.now l.fn.cycle.0 l.link l.places;
-  puts : Puts g.W.Write.contents l.initial.press l.press
-      (lines_of_starts l.part.what.now l.part.domain.now (told_on_links l.part.domain.now l.part.kind l.part.tapes.now l.fn.cycle.0 l.link));
+  places : AreBehindLinks l.part.domain.now l.part.kind l.part.traces.now l.fn.cycle.0 l.link l.places;
+  puts : Puts g.W.Write.contents l.initial.writer l.writer
+      (lines_of_starts l.part.what.now l.part.domain.now (told_on_links l.part.domain.now l.part.kind l.part.traces.now l.fn.cycle.0 l.link));
 }

@@ -1,8 +1,8 @@
 use Rattle.std.proofs.Common.{◌+◌, ◌∙◌, ℕ, List, ap, arith, filter, length, refl, set, subst, sym}
 use Rattle.cqf_model.specs.declared.frames.Dropped.{Dropped}
-use Rattle.cqf_press.proofs.PressLemmas.{Puts-as, Puts-nothing, Puts-then}
+use Rattle.cqf_output.proofs.WriterLemmas.{Puts-as, Puts-nothing, Puts-then}
 use Rattle.cqf_report.specs.Books.{lines_of_drops}
-use Rattle.cqf_tape.specs.Tapes.{IsDropsEndBefore, drops_at, drops_at_bridges, is_drop_in}
+use Rattle.cqf_trace.specs.Traces.{IsDropsEndBefore, drops_at, drops_at_bridges, is_drop_in}
 use Rattle.cqf_program_threads.proofs.PageLines.{drops_more}
 use Rattle.cqf_program_threads.proofs.Places.{AreBehindBridges, bridges_begin, ends_by_bridge, one_gone}
 use Rattle.cqf_program_threads.proofs.pages_telling.put_drops_of_cycle.Goals as goal
@@ -10,7 +10,7 @@ use Rattle.cqf_program_threads.proofs.pages_telling.put_drops_of_cycle.Goals as 
 -- at first no line is put
 pub loop-bridge-init : goal.loop-bridge-init
 loop-bridge-init g c = record {
-  places = bridges_begin c.args.domain.now c.args.tapes.now c.args.places.now c.args.cycle.0 c.requires.before;
+  places = bridges_begin c.args.domain.now c.args.traces.now c.args.places.now c.args.cycle.0 c.requires.before;
   puts = Puts-nothing _ refl;
 }
 
@@ -18,19 +18,19 @@ loop-bridge-init g c = record {
 pub loop-bridge-preserved : goal.loop-bridge-preserved
 loop-bridge-preserved g c =
     let d = c.args.domain.now in
-    let tapes = c.args.tapes.now in
+    let traces = c.args.traces.now in
     let cycle = c.args.cycle.0 in
     let bridge = c.loop-bridge.bridge in
     let end = c.drops_end_of-end.result in
-    let placed : AreBehindBridges d tapes cycle (bridge + 1) (set c.loop-bridge.places bridge end) =
-    one_gone (ends_by_bridge tapes cycle) (ends_by_bridge tapes (cycle + 1)) (length d.bridges) c.loop-bridge.places bridge end
+    let placed : AreBehindBridges d traces cycle (bridge + 1) (set c.loop-bridge.places bridge end) =
+    one_gone (ends_by_bridge traces cycle) (ends_by_bridge traces (cycle + 1)) (length d.bridges) c.loop-bridge.places bridge end
     (omega (arith, c.loop-bridge-test.true, c.bridges-bridge-end.ensures)) c.loop-bridge.invariant.places
     (subst (λ (drops : List Dropped). IsDropsEndBefore (cycle + 1) drops end) c.drops-drops.ensures c.drops_end_of-end.ensures.behind) in
     record {
-      places = subst (λ (place : ℕ). AreBehindBridges d tapes cycle (bridge + 1) (set c.loop-bridge.places place end))
+      places = subst (λ (place : ℕ). AreBehindBridges d traces cycle (bridge + 1) (set c.loop-bridge.places place end))
           (sym c.from-place.ensures) placed;
-      puts = Puts-as _ (lines_of_drops d (drops_at_bridges tapes cycle (bridge + 1)))
-          (drops_more d d (λ (b : ℕ). filter (is_drop_in cycle) (drops_at tapes b)) bridge _ refl
+      puts = Puts-as _ (lines_of_drops d (drops_at_bridges traces cycle (bridge + 1)))
+          (drops_more d d (λ (b : ℕ). filter (is_drop_in cycle) (drops_at traces b)) bridge _ refl
           (sym c.drops_end_of-end.ensures.of_cycle ∙ ap (filter (is_drop_in cycle)) c.drops-drops.ensures))
           (Puts-then _ _ c.loop-bridge.invariant.puts c.put_drops.ensures);
     }

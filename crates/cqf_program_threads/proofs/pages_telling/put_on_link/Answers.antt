@@ -1,8 +1,8 @@
 use Rattle.std.proofs.Common.{List, [], ◌∷◌, ◌+◌, ◌-◌, ◌∙◌, ap, drop, map, take, take_all}
-use Rattle.cqf_press.proofs.PressLemmas.{Puts-as, Puts-then}
+use Rattle.cqf_output.proofs.WriterLemmas.{Puts-as, Puts-then}
 use Rattle.cqf_report.specs.Books.{lines_of_starts}
-use Rattle.cqf_tape.specs.declared.tape.Mark.{Mark}
-use Rattle.cqf_tape.specs.Tapes.{started_in, told_on}
+use Rattle.cqf_trace.specs.declared.trace.Mark.{Mark}
+use Rattle.cqf_trace.specs.Traces.{started_in, told_on}
 use Rattle.cqf_program_threads.proofs.Marks.{marks_more, told_of_own}
 use Rattle.cqf_program_threads.proofs.pages_telling.put_on_link.Goals as goal
 

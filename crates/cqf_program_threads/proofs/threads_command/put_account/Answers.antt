@@ -1,9 +1,9 @@
 use Rattle.std.proofs.Common.{◌++◌, codes, map, ℕ, List}
 use Rattle.cqf_admission.specs.Admission.{recorded_of}
-use Rattle.cqf_press.proofs.PressLemmas.{Puts-then}
+use Rattle.cqf_output.proofs.WriterLemmas.{Puts-then}
 use Rattle.cqf_report.specs.Books.{text_of_book}
 use Rattle.cqf_report.specs.HistoryText.{history_text}
-use Rattle.cqf_press.specs.Stops.{line_of}
+use Rattle.cqf_output.specs.Stops.{line_of}
 use Rattle.cqf_program_threads.specs.PagedBooks.{contents_told}
 use Rattle.cqf_program_threads.proofs.threads_command.put_account.Goals as goal
 

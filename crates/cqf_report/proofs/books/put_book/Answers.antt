@@ -1,6 +1,6 @@
 use Rattle.std.proofs.Common.{◌++◌, codes, ℕ, List}
 use Rattle.cqf_model.specs.Book.{contents_of}
-use Rattle.cqf_press.proofs.PressLemmas.{Puts-then}
+use Rattle.cqf_output.proofs.WriterLemmas.{Puts-then}
 use Rattle.cqf_report.specs.Books.{book_header, lines_of_drops, lines_of_starts}
 use Rattle.cqf_report.specs.Written.{line_of_fields}
 use Rattle.cqf_report.proofs.books.put_book.Goals as goal

@@ -1,6 +1,6 @@
 use Rattle.std.proofs.Common.{◌+◌, take, arith}
 use Rattle.std.proofs.lemmas.Grind.{common_steps}
-use Rattle.cqf_press.proofs.PressLemmas.{Puts-as, Puts-then}
+use Rattle.cqf_output.proofs.WriterLemmas.{Puts-as, Puts-then}
 use Rattle.cqf_report.specs.Books.{lines_of_starts}
 use Rattle.cqf_report.proofs.books.put_starts.Goals as goal
 

@@ -1,7 +1,7 @@
 use Rattle.std.proofs.Common.{◌≡◌, ◌<◌, ◌+◌, ℕ, [], List, ◌∙◌, sym, ap, arith, fold, get_or, length, max, rules, sum}
 use Rattle.std.proofs.lemmas.List.{get_or-map}
 use Rattle.cqf_lists.specs.Lists.{each_below}
-use Rattle.cqf_press.proofs.PressLemmas.{Puts-as, Puts-then, text-pressed}
+use Rattle.cqf_output.proofs.WriterLemmas.{Puts-as, Puts-then, text-written}
 use Rattle.cqf_laws_coverage.specs.declared.column.Column.{Column}
 use Rattle.cqf_topology.specs.NodeNames.{name_of_link}
 use Rattle.cqf_laws_coverage.specs.Columns.{frames_by, octets_by}
@@ -42,7 +42,7 @@ returns g c =
     let all : c.loop-link.link ≡ length d.links = omega (arith, c.loop-link-test.false, c.loop-link.auto.link-end, c.links-link-end.ensures) in
     let lines = Puts-as (each_below line c.loop-link.link) (each_below line (length d.links)) (ap (each_below line) all) c.loop-link.invariant in
     let puts = Puts-then (line_of_fields link_header) (each_below line (length d.links)) c.put_header.ensures lines in
-    let names = c.close-told.ensures.same ∙ puts.same ∙ c.new-press.ensures.same in
-    text-pressed c.close-told.result.now (columns_text d (frames_by columns) (octets_by columns)) c.told_text.result
+    let names = c.close-told.ensures.same ∙ puts.same ∙ c.new-writer.ensures.same in
+    text-written c.close-told.result.now (columns_text d (frames_by columns) (octets_by columns)) c.told_text.result
     (ap (λ list. list.items) c.new-told.ensures.writer ∙ c.new.ensures.items)
-    c.new-press.ensures.opens puts c.close-told.ensures.closes c.told_text.ensures.ok (search rules) (search rules)
+    c.new-writer.ensures.opens puts c.close-told.ensures.closes c.told_text.ensures.ok (search rules) (search rules)

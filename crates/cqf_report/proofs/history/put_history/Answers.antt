@@ -1,7 +1,7 @@
 use Rattle.std.proofs.Common.{◌+◌, map, take, arith}
 use Rattle.std.proofs.lemmas.Grind.{common_steps}
 use Rattle.cqf_admission.specs.Admission.{recorded_of}
-use Rattle.cqf_press.proofs.PressLemmas.{Puts-as, Puts-then}
+use Rattle.cqf_output.proofs.WriterLemmas.{Puts-as, Puts-then}
 use Rattle.cqf_report.specs.HistoryText.{history_text}
 use Rattle.cqf_report.proofs.history.put_history.Goals as goal
 

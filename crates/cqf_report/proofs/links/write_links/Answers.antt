@@ -6,7 +6,7 @@ use Rattle.cqf_lists.specs.Lists.{each_below}
 use Rattle.cqf_model.specs.Book.{contents_of}
 use Rattle.cqf_model.specs.OnLinks.{frames_on, octets_on}
 use Rattle.cqf_model.specs.declared.frames.Started.{Started}
-use Rattle.cqf_press.proofs.PressLemmas.{Puts-as, Puts-then, text-pressed}
+use Rattle.cqf_output.proofs.WriterLemmas.{Puts-as, Puts-then, text-written}
 use Rattle.cqf_report.specs.ByLink.{AreListsByLink}
 use Rattle.cqf_laws_coverage.specs.InOneCycle.{most_on}
 use Rattle.cqf_report.specs.LinkSums.{link_fields, link_header, links_text}
@@ -44,7 +44,7 @@ returns g c =
     let all : c.loop-link.link ≡ length d.links = omega (arith, c.loop-link-test.false, c.loop-link.auto.link-end, c.links-link-end.ensures) in
     let lines = Puts-as (each_below line c.loop-link.link) (each_below line (length d.links)) (ap (each_below line) all) c.loop-link.invariant in
     let puts = Puts-then (line_of_fields link_header) (each_below line (length d.links)) c.put_header.ensures lines in
-    let names = c.close-told.ensures.same ∙ puts.same ∙ c.new-press.ensures.same in
-    text-pressed c.close-told.result.now (links_text d (contents_of c.args.book.now)) c.told_text.result
+    let names = c.close-told.ensures.same ∙ puts.same ∙ c.new-writer.ensures.same in
+    text-written c.close-told.result.now (links_text d (contents_of c.args.book.now)) c.told_text.result
     (ap (λ list. list.items) c.new-told.ensures.writer ∙ c.new.ensures.items)
-    c.new-press.ensures.opens puts c.close-told.ensures.closes c.told_text.ensures.ok (search rules) (search rules)
+    c.new-writer.ensures.opens puts c.close-told.ensures.closes c.told_text.ensures.ok (search rules) (search rules)

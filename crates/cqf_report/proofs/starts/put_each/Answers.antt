@@ -1,7 +1,7 @@
 -- One more start is written.
 use Rattle.std.proofs.Common.{◌+◌, take, arith}
 use Rattle.std.proofs.lemmas.Grind.{common_steps}
-use Rattle.cqf_press.proofs.PressLemmas.{Puts-as, Puts-then}
+use Rattle.cqf_output.proofs.WriterLemmas.{Puts-as, Puts-then}
 use Rattle.cqf_units.specs.Timing.{ticks_of_octet}
 use Rattle.cqf_report.specs.Starts.{lines_of_port}
 use Rattle.cqf_report.proofs.starts.put_each.Goals as goal

@@ -1,5 +1,5 @@
 use Rattle.std.proofs.Common.{decimal, [], ◌∷◌, ℕ, ap}
-use Rattle.cqf_press.proofs.PressLemmas.{Puts-as}
+use Rattle.cqf_output.proofs.WriterLemmas.{Puts-as}
 use Rattle.cqf_units.specs.Timing.{ticks_of_octet}
 use Rattle.cqf_report.specs.Starts.{start_fields}
 use Rattle.cqf_report.specs.Written.{line_of_fields}

@@ -1,5 +1,5 @@
 use Rattle.std.proofs.Common.{◌∙◌, ap, rules}
-use Rattle.cqf_press.proofs.PressLemmas.{Puts-then, text-pressed}
+use Rattle.cqf_output.proofs.WriterLemmas.{Puts-then, text-written}
 use Rattle.cqf_units.specs.Timing.{ticks_of_octet}
 use Rattle.cqf_report.specs.Starts.{lines_of_port, start_header, text_of_starts}
 use Rattle.cqf_report.specs.Written.{line_of_fields}
@@ -8,8 +8,8 @@ use Rattle.cqf_report.proofs.starts.write_starts.Goals as goal
 pub returns : goal.returns
 returns c =
     let octet_time = ticks_of_octet c.args.rate in
-    let names = c.close-told.ensures.same ∙ c.put_each.ensures.same ∙ c.put_port_header.ensures.same ∙ c.new-press.ensures.same in
+    let names = c.close-told.ensures.same ∙ c.put_each.ensures.same ∙ c.put_port_header.ensures.same ∙ c.new-writer.ensures.same in
     let puts = Puts-then (line_of_fields start_header) (lines_of_port octet_time c.args.starts.now) c.put_port_header.ensures c.put_each.ensures in
-    text-pressed c.close-told.result.now (text_of_starts octet_time c.args.starts.now) c.told_text.result
+    text-written c.close-told.result.now (text_of_starts octet_time c.args.starts.now) c.told_text.result
     (ap (λ list. list.items) c.new-told.ensures.writer ∙ c.new.ensures.items)
-    c.new-press.ensures.opens puts c.close-told.ensures.closes c.told_text.ensures.ok (search rules) (search rules)
+    c.new-writer.ensures.opens puts c.close-told.ensures.closes c.told_text.ensures.ok (search rules) (search rules)

@@ -2,7 +2,7 @@ use Rattle.std.proofs.Common.{◌+◌, map, take, arith}
 use Rattle.std.proofs.lemmas.Grind.{common_steps}
 use Rattle.cqf_admission.specs.Asking.{asked_paced}
 use Rattle.cqf_admission.specs.Ledger.{recorded_in}
-use Rattle.cqf_press.proofs.PressLemmas.{Puts-as, Puts-then}
+use Rattle.cqf_output.proofs.WriterLemmas.{Puts-as, Puts-then}
 use Rattle.cqf_report.specs.HistoryText.{history_text}
 use Rattle.cqf_report.proofs.told_logs.put_log.Goals as goal
 

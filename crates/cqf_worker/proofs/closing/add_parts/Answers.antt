@@ -6,5 +6,5 @@ returns c = record {
   more_ins = c.in_ok-append.ensures;
   more_outs = c.in_ok-append-2.ensures;
   more_tables = c.in_ok-push.ensures.items;
-  more_reels = c.in_ok-push-2.ensures.items;
+  more_bridge_traces = c.in_ok-push-2.ensures.items;
 }

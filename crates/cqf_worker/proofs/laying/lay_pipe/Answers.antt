@@ -1,5 +1,5 @@
 use Rattle.std.proofs.Common.{ap, refl}
-use Rattle.cqf_worker_loops.specs.Workers.{StretchPort}
+use Rattle.cqf_worker_loops.specs.Workers.{SegmentPort}
 use Rattle.cqf_worker.specs.Laying.{cycles_at}
 use Rattle.cqf_worker.specs.Wires.{tables_pipe}
 use Rattle.cqf_worker.proofs.Wiring.{pipe_keeps, pipe_laid_at}
@@ -8,8 +8,8 @@ use Rattle.cqf_worker.proofs.laying.lay_pipe.Goals as goal
 -- one worker has the putting end, the other one the taking end
 pub returns-clause-laid : goal.returns-clause-laid
 returns-clause-laid c =
-    let out : StretchPort = record { link = c.args.link; pipe = c.in_ok-putting.putting } in
-    let into : StretchPort = record { link = c.args.link; pipe = c.in_ok-putting.taking } in
+    let out : SegmentPort = record { link = c.args.link; pipe = c.in_ok-putting.putting } in
+    let into : SegmentPort = record { link = c.args.link; pipe = c.in_ok-putting.taking } in
     pipe_laid_at c.args.workers.now.items c.args.link c.args.from c.args.to c.from-3.result c.from-4.result c.index_mut.result.now c.add_out.new.worker
     c.index_mut-2.result.now c.add_in.new.worker out into c.from-3.ensures c.from-4.ensures c.requires.from c.requires.to c.index_mut.ensures.value
     c.in_ok-add_out.ensures c.index_mut-2.ensures.value c.in_ok-add_in.ensures refl refl c.in_ok-putting.ensures.nothing_put

@@ -1,6 +1,6 @@
 use Rattle.std.proofs.Common.{refl, sym, subst}
 use Rattle.cqf_worker_loops.specs.Stepping.{GoesFurther}
-use Rattle.cqf_worker_loops.proofs.HandedStretches.{gives_up, goes_further, goes_with_sends, on_fault, some_further}
+use Rattle.cqf_worker_loops.proofs.HandedSegments.{gives_up, goes_further, goes_with_sends, on_fault, some_further}
 use Rattle.cqf_worker_loops.proofs.rounds.go_on.Goals.{then-may_send+in_ok-send, else-may_send}
 use Rattle.cqf_worker_loops.proofs.rounds.go_on.Goals as goal
 
@@ -27,7 +27,7 @@ returns-clause-ok g c =
     ] in
     goes_further first c.if-may_send.worker _ goes c.in_ok-tell.ensures.ok
 
--- if it gives up, it has put only stretches
+-- if it gives up, it has put only segments
 pub returns-in_err-send-clause-err : goal.returns-in_err-send-clause-err
 returns-in_err-send-clause-err g c =
     on_fault c.from_residual-in_err-send.result _ (gives_up c.args.worker.now c.look.new.worker _ c.requires c.in_ok-look.ensures.ok refl)

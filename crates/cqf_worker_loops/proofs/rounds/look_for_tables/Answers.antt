@@ -1,5 +1,5 @@
 use Rattle.std.proofs.Common.{◌<◌, ap, refl, rules}
-use Rattle.cqf_worker_loops.proofs.HandedStretches.{gives_up, goes_further, on_fault, some_further}
+use Rattle.cqf_worker_loops.proofs.HandedSegments.{gives_up, goes_further, on_fault, some_further}
 use Rattle.cqf_worker_loops.proofs.TakenTables.{found_item, goes_with_table, has_table}
 use Rattle.cqf_worker_loops.specs.declared.carried.Carried.TheVariants.{Item}
 use Rattle.cqf_worker_loops.proofs.rounds.look_for_tables.Goals as goal
@@ -21,7 +21,7 @@ loop-table-preserved g c =
     (found_item w.tables c.look.new.self c.look.result c.look.ensures.pipe c.look.ensures.items (Item c.in-Item-Item.table) (cc))
     c.in_ok-enter_table-in-Item-Item.ensures.ok)
 
--- if it gives up, it has put only stretches
+-- if it gives up, it has put only segments
 pub returns-in_default-clause-err : goal.returns-in_default-clause-err
 returns-in_default-clause-err g c =
     gives_up c.args.worker.now c.loop-table.worker _ c.requires c.loop-table.invariant refl

@@ -1,6 +1,6 @@
 use Rattle.std.proofs.Common.{◌≡◌, ◌∙◌, ◌+◌, Bool, true, ap, refl, sym, subst, arith, add-zero, if◌then◌else◌}
 use Rattle.cqf_worker_loops.specs.Stepping.{GoesFurther}
-use Rattle.cqf_worker_loops.proofs.HandedStretches.{goes_further, hands_on_at, next_port, one_at_most, outlets_still}
+use Rattle.cqf_worker_loops.proofs.HandedSegments.{goes_further, hands_on_at, next_port, one_at_most, outlets_still}
 use Rattle.cqf_worker_loops.proofs.rounds.tell.Goals.{then-has_news+in_ok-tell_on, else-has_news, then-is_onward, else-is_onward}
 use Rattle.cqf_worker_loops.proofs.rounds.tell.Goals as goal
 

@@ -2,7 +2,7 @@ use Rattle.std.proofs.Common.{ap, subst}
 use Rattle.std.specs.Prelude.{IsSome}
 use Rattle.std.proofs.lemmas.Bool.{false≢true}
 use Rattle.cqf_relay.specs.Standing.{IsOver}
-use Rattle.cqf_worker_loops.proofs.HandedStretches.{gives_up, on_done, on_fault}
+use Rattle.cqf_worker_loops.proofs.HandedSegments.{gives_up, on_done, on_fault}
 use Rattle.cqf_worker_loops.proofs.Through.{ends_so}
 use Rattle.cqf_worker_loops.proofs.rounds.work_rounds.Goals.{in-None, in-Some+then-is_over}
 use Rattle.cqf_worker_loops.proofs.rounds.work_rounds.Goals as goal
@@ -18,7 +18,7 @@ returns-clause-ok g c =
     on_done c.keep.result _ _ (λ keeps. ends_so c.args.worker.now w c.keep.new.worker c.requires c.loop-round.invariant over keeps c.keep.ensures.outs)
     c.keep.ensures.ok
 
--- if it gives up, it has put only stretches
+-- if it gives up, it has put only segments
 pub returns-clause-put : goal.returns-clause-put
 returns-clause-put g c =
     on_fault c.keep.result _

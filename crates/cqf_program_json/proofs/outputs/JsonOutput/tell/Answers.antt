@@ -1,8 +1,8 @@
 use Rattle.std.proofs.Common.{◌≡◌, ◌∙◌, List, ap, arith, subst, sym}
 use Rattle.cqf_admission.specs.Turns.{AreOfGoodPaces}
 use Rattle.cqf_model.specs.declared.topology.Row.{Row}
-use Rattle.cqf_press.specs.Edge.{HasTold, writing}
-use Rattle.cqf_press.proofs.PressLemmas.{HasTold-pressed, Puts-as}
+use Rattle.cqf_output.specs.Edge.{HasTold, writing}
+use Rattle.cqf_output.proofs.WriterLemmas.{HasTold-written, Puts-as}
 use Rattle.cqf_program_json.specs.Output.{text_of_json}
 use Rattle.cqf_program_json.specs.Text.{json_text}
 use Rattle.cqf_program_json.proofs.outputs.JsonOutput.tell.Goals as goal
@@ -20,7 +20,7 @@ returns g c =
     λ i. json_text d (c.as_slice.ensures.value i) (c.as_slice-2.ensures.value i) (c.as_slice-3.ensures.value i) in
     let put = Puts-as _ (text_of_json c.args.self) (same ∙ ap text_of_json c.self.view_is) c.put_object.ensures in
     let done : HasTold (writing g.W.Write.contents c.args.told.now c.close-told.result.now) (text_of_json c.args.self) =
-    HasTold-pressed g.W.Write.contents c.args.told.now c.new-press.result c.put_object.new.press c.close-told.result.now _
-    c.new-press.ensures.opens put c.close-told.ensures.closes in
-    let names = c.close-told.ensures.same ∙ c.put_object.ensures.same ∙ c.new-press.ensures.same in
+    HasTold-written g.W.Write.contents c.args.told.now c.new-writer.result c.put_object.new.writer c.close-told.result.now _
+    c.new-writer.ensures.opens put c.close-told.ensures.closes in
+    let names = c.close-told.ensures.same ∙ c.put_object.ensures.same ∙ c.new-writer.ensures.same in
     grind (arith, done, names)

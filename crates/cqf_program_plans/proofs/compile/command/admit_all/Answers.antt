@@ -6,7 +6,7 @@ use Rattle.cqf_admission.specs.Ledger.{Kept}
 use Rattle.cqf_model.specs.Domain.{Domain}
 use Rattle.cqf_model.specs.History.{Asked}
 use Rattle.cqf_admission.specs.Orders.{request_at}
-use Rattle.cqf_press.specs.Stops.{IsRefused}
+use Rattle.cqf_output.specs.Stops.{IsRefused}
 use Rattle.cqf_program_plans.specs.Compile.Output.{admitted_from}
 use Rattle.cqf_program_plans.proofs.Planned.{admitted_more, asked_at, planned_more, refused_whole}
 use Rattle.cqf_program_plans.proofs.compile.command.admit_all.Goals as goal

@@ -1,4 +1,4 @@
-use Rattle.cqf_press.proofs.PressLemmas.{Puts-then}
+use Rattle.cqf_output.proofs.WriterLemmas.{Puts-then}
 use Rattle.cqf_report.specs.Written.{line_of_fields}
 use Rattle.cqf_program_plans.specs.Latency.Text.{latency_header, lines_of_latencies}
 use Rattle.cqf_program_plans.proofs.latency.telling.put_latencies.Goals as goal

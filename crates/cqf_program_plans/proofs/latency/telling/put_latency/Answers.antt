@@ -1,5 +1,5 @@
 use Rattle.std.proofs.Common.{decimal, [], ◌∷◌, ap}
-use Rattle.cqf_press.proofs.PressLemmas.{Puts-as, Puts-then}
+use Rattle.cqf_output.proofs.WriterLemmas.{Puts-as, Puts-then}
 use Rattle.cqf_report.proofs.LineLemmas.{Puts-field}
 use Rattle.cqf_program_plans.specs.Latency.Text.{text_of_deadline, text_of_verdict, verdict_on_deadline}
 use Rattle.cqf_program_plans.proofs.latency.telling.put_latency.Goals as goal

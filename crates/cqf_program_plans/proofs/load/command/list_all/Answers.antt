@@ -2,7 +2,7 @@ use Rattle.std.proofs.Common.{◌+◌, ◌∷◌, ◌∙◌, ℕ, List, Result, 
 use Rattle.std.proofs.lemmas.List.{drop_more}
 use Rattle.std.proofs.lemmas.Result.{err_from_is_err_and}
 use Rattle.cqf_model.specs.declared.topology.Row.{Row}
-use Rattle.cqf_press.specs.Stops.{IsRefused}
+use Rattle.cqf_output.specs.Stops.{IsRefused}
 use Rattle.cqf_topology.specs.declared.paced.PacedRequest.{PacedRequest}
 use Rattle.cqf_admission.specs.Asking.{asked_paced}
 use Rattle.cqf_program_plans.specs.Load.Output.{listed_from}

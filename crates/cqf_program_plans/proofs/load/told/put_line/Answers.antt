@@ -1,7 +1,7 @@
 use Rattle.std.proofs.Common.{ℕ, ◌-◌, decimal, [], ◌∷◌, ap, ◌∙◌}
 use Rattle.cqf_model.specs.Domain.{budget}
 use Rattle.cqf_admission.specs.Costs.{most_cost}
-use Rattle.cqf_press.proofs.PressLemmas.{Puts-as, Puts-then}
+use Rattle.cqf_output.proofs.WriterLemmas.{Puts-as, Puts-then}
 use Rattle.cqf_topology.specs.NodeNames.{name_of_link}
 use Rattle.cqf_report.proofs.LineLemmas.{Puts-field}
 use Rattle.cqf_program_plans.specs.Load.Fitting.{fits_in, fits_on, rate_on, streams_on}

@@ -1,5 +1,5 @@
 use Rattle.std.proofs.Common.{ap, sym, add-one}
-use Rattle.cqf_press.proofs.PressLemmas.{Puts-as, Puts-then}
+use Rattle.cqf_output.proofs.WriterLemmas.{Puts-as, Puts-then}
 use Rattle.cqf_report.specs.Written.{line_of_fields}
 use Rattle.cqf_program_plans.specs.Load.Text.{lines_of_links, load_fields}
 use Rattle.cqf_program_plans.proofs.load.told.put_lines.Goals as goal

@@ -1,6 +1,6 @@
 use Rattle.std.proofs.Common.{◌∙◌, ◌++◌, List, ℕ, ap, codes}
 use Rattle.std.specs.Fmt.{decimal}
-use Rattle.cqf_press.specs.Stops.{fault_line}
+use Rattle.cqf_output.specs.Stops.{fault_line}
 use Rattle.cqf_program_runs.proofs.Lines.{complaint_told}
 use Rattle.cqf_program_runs.proofs.check.checked.complaint_about.Goals as goal
 

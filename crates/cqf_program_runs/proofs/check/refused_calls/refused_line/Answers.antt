@@ -3,7 +3,7 @@ use Rattle.std.specs.Fmt.{decimal}
 use Rattle.cqf_model.specs.declared.history.Reply.{Reply}
 use Rattle.cqf_model.specs.Refusals.{text_of_refusal}
 use Rattle.cqf_report.specs.HistoryText.{reply_text}
-use Rattle.cqf_press.specs.Stops.{fault_line}
+use Rattle.cqf_output.specs.Stops.{fault_line}
 use Rattle.cqf_admission.specs.Asking.{asked_paced}
 use Rattle.cqf_admission.specs.Orders.{act_in}
 use Rattle.cqf_program_runs.specs.Check.RefusedCalls.{act_text}

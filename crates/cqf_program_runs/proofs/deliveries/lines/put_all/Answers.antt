@@ -4,7 +4,7 @@ use Rattle.std.proofs.lemmas.List.{take_all}
 use Rattle.cqf_model.specs.declared.frames.Offered.{Offered}
 use Rattle.cqf_model.specs.Traffic.{numbered}
 use Rattle.cqf_instants_run.proofs.Offers.{numbered_all}
-use Rattle.cqf_press.proofs.PressLemmas.{Puts-as, Puts-then}
+use Rattle.cqf_output.proofs.WriterLemmas.{Puts-as, Puts-then}
 use Rattle.cqf_report.specs.Written.{line_of_fields}
 use Rattle.cqf_program_runs.specs.declared.deliveries.delivery.Delivery.{Delivery}
 use Rattle.cqf_program_runs.specs.Deliveries.Text.{delivery_fields, lines_of_deliveries}

@@ -1,4 +1,4 @@
-use Rattle.cqf_press.proofs.PressLemmas.{Puts-then}
+use Rattle.cqf_output.proofs.WriterLemmas.{Puts-then}
 use Rattle.cqf_report.specs.Written.{line_of_fields}
 use Rattle.cqf_program_runs.specs.Deliveries.Text.{deliveries_header, lines_of_deliveries}
 use Rattle.cqf_program_runs.specs.Deliveries.Ending.{deliveries_over, over_of}

@@ -1,5 +1,5 @@
 use Rattle.std.proofs.Common.{decimal, [], ◌∷◌, ◌∙◌, ap}
-use Rattle.cqf_press.proofs.PressLemmas.{Puts-as}
+use Rattle.cqf_output.proofs.WriterLemmas.{Puts-as}
 use Rattle.cqf_report.proofs.LineLemmas.{Puts-field}
 use Rattle.cqf_report.specs.Written.{line_of_fields}
 use Rattle.cqf_program_runs.specs.Deliveries.{fate_of}

@@ -1,5 +1,5 @@
 use Rattle.std.proofs.Common.{[], ◌∷◌}
-use Rattle.cqf_press.proofs.PressLemmas.{Puts-then}
+use Rattle.cqf_output.proofs.WriterLemmas.{Puts-then}
 use Rattle.cqf_program_runs.proofs.deliveries.lines.put_drop.Goals as goal
 
 pub returns : goal.returns

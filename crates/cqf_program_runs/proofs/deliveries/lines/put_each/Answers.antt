@@ -1,6 +1,6 @@
 use Rattle.std.proofs.Common.{◌+◌, take, arith}
 use Rattle.std.proofs.lemmas.Grind.{common_steps}
-use Rattle.cqf_press.proofs.PressLemmas.{Puts-as, Puts-then}
+use Rattle.cqf_output.proofs.WriterLemmas.{Puts-as, Puts-then}
 use Rattle.cqf_program_runs.specs.Deliveries.Text.{lines_of_deliveries}
 use Rattle.cqf_program_runs.proofs.deliveries.lines.put_each.Goals as goal
 

@@ -1,5 +1,5 @@
 use Rattle.std.proofs.Common.{[], ◌∷◌}
-use Rattle.cqf_press.proofs.PressLemmas.{Puts-as, Puts-then}
+use Rattle.cqf_output.proofs.WriterLemmas.{Puts-as, Puts-then}
 use Rattle.cqf_report.proofs.LineLemmas.{Puts-field}
 use Rattle.cqf_program_plans.specs.Latency.Text.{text_of_deadline}
 use Rattle.cqf_program_runs.specs.Deliveries.Text.{text_of_instant, text_of_listeners_latency}

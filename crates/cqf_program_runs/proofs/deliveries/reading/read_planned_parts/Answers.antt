@@ -3,7 +3,7 @@ use Rattle.cqf_topology.specs.declared.paced.PacedRequest.{PacedRequest}
 use Rattle.cqf_admission.specs.Asking.{asked_paced}
 use Rattle.cqf_program_scenario.specs.RunParts.{texts_of}
 use Rattle.cqf_program_scenario.specs.Closing.{scenario_given}
-use Rattle.cqf_press.specs.Stops.{IsRefused}
+use Rattle.cqf_output.specs.Stops.{IsRefused}
 use Rattle.cqf_program_runs.specs.Deliveries.PlannedScenario.{planned_scenario_of}
 use Rattle.cqf_program_runs.proofs.Passing.{passed-on}
 use Rattle.cqf_program_runs.proofs.Planned.{planned-Ok, planned-refused}

@@ -3,8 +3,8 @@ use Rattle.cqf_model.specs.History.{Asked}
 use Rattle.cqf_admission.specs.Asking.{asked_paced}
 use Rattle.cqf_admission.specs.Ledger.{recorded_in}
 use Rattle.cqf_admission.specs.Running.{AreThere}
-use Rattle.cqf_press.specs.Stops.{line_of}
-use Rattle.cqf_press.proofs.PressLemmas.{Puts-as, Puts-then}
+use Rattle.cqf_output.specs.Stops.{line_of}
+use Rattle.cqf_output.proofs.WriterLemmas.{Puts-as, Puts-then}
 use Rattle.cqf_report.specs.Books.{text_of_book}
 use Rattle.cqf_report.specs.HistoryText.{history_text}
 use Rattle.cqf_program_scenario.specs.Logged.{entries_in}

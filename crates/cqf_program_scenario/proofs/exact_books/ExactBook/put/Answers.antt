@@ -2,8 +2,8 @@ use Rattle.std.proofs.Common.{◌∙◌, ◌++◌, codes, ℕ, List, ap, subst, 
 use Rattle.cqf_model.specs.declared.frames.Dropped.{Dropped}
 use Rattle.cqf_model.specs.declared.frames.Started.{Started}
 use Rattle.cqf_model.specs.Book.{Contents}
-use Rattle.cqf_press.specs.Press.{Puts}
-use Rattle.cqf_press.proofs.PressLemmas.{Puts-as, Puts-then}
+use Rattle.cqf_output.specs.Writer.{Puts}
+use Rattle.cqf_output.proofs.WriterLemmas.{Puts-as, Puts-then}
 use Rattle.cqf_report.specs.Books.{book_header, lines_of_drops, lines_of_starts, text_of_book}
 use Rattle.cqf_report.specs.Written.{line_of_fields}
 use Rattle.cqf_program_scenario.specs.ExactBooks.{AreExactParts, ExactParts}
@@ -12,7 +12,7 @@ use Rattle.cqf_program_scenario.proofs.exact_books.ExactBook.put.Goals as goal
 pub returns : goal.returns
 returns g c =
     subst (λ (b : ExactParts). (book : Contents) → AreExactParts b book →
-    Puts g.W.Write.contents c.args.press.now c.put_drops.new.press (text_of_book c.args.domain.now book)) c.self.view_is (λ book parts.
+    Puts g.W.Write.contents c.args.writer.now c.put_drops.new.writer (text_of_book c.args.domain.now book)) c.self.view_is (λ book parts.
     let d = c.args.domain.now in
     let header : List ℕ = line_of_fields book_header in
     let starts : List ℕ = lines_of_starts (codes "start") d book.starts in

@@ -1,5 +1,5 @@
 use Rattle.std.proofs.Common.{[], ◌∷◌}
-use Rattle.cqf_press.proofs.PressLemmas.{Puts-then}
+use Rattle.cqf_output.proofs.WriterLemmas.{Puts-then}
 use Rattle.cqf_program_summary.proofs.hops.lines.put_reason.Goals as goal
 
 pub returns : goal.returns

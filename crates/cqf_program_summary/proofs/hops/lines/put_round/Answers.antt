@@ -1,7 +1,7 @@
 use Rattle.std.proofs.Common.{◌≡◌, ◌∙◌, All, AllPairs, List, ap, arith, subst, sym}
 use Rattle.std.proofs.lemmas.Bool.{true≢false}
 use Rattle.std.proofs.lemmas.List.Sorted.{All-permutation}
-use Rattle.cqf_press.specs.Press.{Puts}
+use Rattle.cqf_output.specs.Writer.{Puts}
 use Rattle.cqf_program_summary.specs.declared.hops.legs.Leg.{Leg}
 use Rattle.cqf_program_summary.specs.Hops.Gathered.{IsLegInTime}
 use Rattle.cqf_program_summary.specs.Hops.Legs.{AreApart, AreByFrame}
@@ -42,6 +42,6 @@ returns g c = λ starts can.
       room = room_sorted c.args.under_way.now mid new c.in-Ok.ensures.capacity rest.2 c.sort_here.ensures.capacity;
       legs = new.here.items;
       are = subst (λ (xs : List Leg). AreByFrame xs new.here.items) went.here c.sort_here.ensures.here;
-      put = subst (λ (xs : List Leg). Puts W c.args.press.now c.put_each.new.press (lines_of_legs c.args.domain.now c.args.run.now.offers.now xs))
+      put = subst (λ (xs : List Leg). Puts W c.args.writer.now c.put_each.new.writer (lines_of_legs c.args.domain.now c.args.run.now.offers.now xs))
           c.as_slice.ensures.value c.put_each.ensures;
     }

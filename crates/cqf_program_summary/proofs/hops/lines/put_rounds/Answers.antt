@@ -1,8 +1,8 @@
 use Rattle.std.proofs.Common.{◌≡◌, ◌∙◌, ◌++◌, [], List, ap, append-nil, arith, get_or, length, sym}
 use Rattle.cqf_lists.proofs.Members.{contains_none}
 use Rattle.cqf_lists.proofs.Pairs.{pairs_none}
-use Rattle.cqf_press.specs.Press.{Puts}
-use Rattle.cqf_press.proofs.PressLemmas.{Puts-as, Puts-then}
+use Rattle.cqf_output.specs.Writer.{Puts}
+use Rattle.cqf_output.proofs.WriterLemmas.{Puts-as, Puts-then}
 use Rattle.cqf_report.specs.Written.{line_of_fields}
 use Rattle.cqf_program_summary.specs.declared.hops.legs.Leg.{Leg}
 use Rattle.cqf_program_summary.specs.declared.hops.rounds.Round.{Round}
@@ -34,7 +34,7 @@ put_round-requires-clause-told g c = (c.loop-round.invariant c.requires.can.0 c.
 pub put_round-requires-clause-next : goal.put_round-requires-clause-next
 put_round-requires-clause-next g c =
     let can = c.requires.can in
-    let P = Puts g.W.Write.contents c.args.press.now c.loop-round.press in
+    let P = Puts g.W.Write.contents c.args.writer.now c.loop-round.writer in
     round_later can.0 (told_from c.args.domain.now c.args.run.now c.args.rounds.now c.args.under_way) can.1 c.loop-round.round-index c.loop-round-test.true
     c.loop-round.under_way c.loop-round.under_way P P P (c.loop-round.invariant can.0 can.1)
 
@@ -44,7 +44,7 @@ put_round-requires-clause-drops g c = (c.requires.can.1.rounds.each c.loop-round
 pub put_round-requires-clause-can : goal.put_round-requires-clause-can
 put_round-requires-clause-can g c =
     let can = c.requires.can in
-    let P = Puts g.W.Write.contents c.args.press.now c.loop-round.press in (
+    let P = Puts g.W.Write.contents c.args.writer.now c.loop-round.writer in (
       can.0,
       round_can can.0 (told_from c.args.domain.now c.args.run.now c.args.rounds.now c.args.under_way) can.1 c.loop-round.round-index c.loop-round-test.true
           c.loop-round.under_way c.loop-round.under_way P P P (c.loop-round.invariant can.0 can.1),
@@ -55,9 +55,9 @@ loop-round-preserved g c = λ starts can.
     let told = told_from c.args.domain.now c.args.run.now c.args.rounds.now c.args.under_way in
     let so_far = c.loop-round.invariant starts can in
     let W = g.W.Write.contents in
-    let First = Puts W c.args.press.now c.loop-round.press in
-    let More = Puts W c.loop-round.press c.put_round.new.press in
-    let Whole = Puts W c.args.press.now c.put_round.new.press in
+    let First = Puts W c.args.writer.now c.loop-round.writer in
+    let More = Puts W c.loop-round.writer c.put_round.new.writer in
+    let Whole = Puts W c.args.writer.now c.put_round.new.writer in
     one_more_told starts told can c.loop-round.round-index c.loop-round-test.true c.loop-round.under_way c.put_round.new.under_way First More Whole so_far
     (λ a b p q. Puts-then a b p q)
     (c.put_round.ensures starts (round_can starts told can c.loop-round.round-index c.loop-round-test.true c.loop-round.under_way c.put_round.new.under_way

@@ -1,6 +1,6 @@
 use Rattle.std.proofs.Common.{decimal, [], ◌∷◌, ap}
 use Rattle.cqf_laws_timing.specs.Latency.{whole_of}
-use Rattle.cqf_press.proofs.PressLemmas.{Puts-as}
+use Rattle.cqf_output.proofs.WriterLemmas.{Puts-as}
 use Rattle.cqf_report.proofs.LineLemmas.{Puts-field}
 use Rattle.cqf_topology.specs.NodeNames.{name_of_link}
 use Rattle.cqf_program_summary.specs.Hops.Text.{end_of_start}

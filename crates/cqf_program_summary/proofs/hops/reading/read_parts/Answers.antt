@@ -1,5 +1,5 @@
 use Rattle.std.proofs.Common.{refl}
-use Rattle.cqf_press.specs.Stops.{IsRefused}
+use Rattle.cqf_output.specs.Stops.{IsRefused}
 use Rattle.cqf_program_scenario.specs.RunParts.{texts_of}
 use Rattle.cqf_program_scenario.specs.Closing.{scenario_given}
 use Rattle.cqf_program_summary.specs.Hops.Known.{paced_scenario_of}

@@ -1,7 +1,7 @@
 use Rattle.std.proofs.Common.{◌+◌, arith, take}
 use Rattle.std.specs.List.{flat_map}
 use Rattle.std.proofs.lemmas.Grind.{common_steps}
-use Rattle.cqf_press.proofs.PressLemmas.{Puts-as, Puts-then}
+use Rattle.cqf_output.proofs.WriterLemmas.{Puts-as, Puts-then}
 use Rattle.cqf_report.specs.Written.{line_of_fields}
 use Rattle.cqf_program_summary.specs.declared.summary.fares.ListenerWay.{ListenerWay}
 use Rattle.cqf_program_summary.specs.Summary.Text.{way_fields}

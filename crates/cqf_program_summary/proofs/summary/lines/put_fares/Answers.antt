@@ -1,6 +1,6 @@
 use Rattle.std.proofs.Common.{◌+◌, take, arith}
 use Rattle.std.proofs.lemmas.Grind.{common_steps}
-use Rattle.cqf_press.proofs.PressLemmas.{Puts-as, Puts-then}
+use Rattle.cqf_output.proofs.WriterLemmas.{Puts-as, Puts-then}
 use Rattle.cqf_program_summary.specs.Summary.Text.{lines_of_fares}
 use Rattle.cqf_program_summary.proofs.summary.lines.put_fares.Goals as goal
 

@@ -1,5 +1,5 @@
 use Rattle.std.proofs.Common.{[], ◌∷◌}
-use Rattle.cqf_press.proofs.PressLemmas.{Puts-then}
+use Rattle.cqf_output.proofs.WriterLemmas.{Puts-then}
 use Rattle.cqf_report.proofs.LineLemmas.{Puts-field}
 use Rattle.cqf_program_plans.specs.Latency.Text.{text_of_deadline}
 use Rattle.cqf_program_summary.specs.Summary.Text.{text_of_bound, text_of_least, text_of_mean, text_of_most}

@@ -1,5 +1,5 @@
 use Rattle.std.proofs.Common.{ap}
-use Rattle.cqf_press.proofs.PressLemmas.{Puts-as, Puts-then}
+use Rattle.cqf_output.proofs.WriterLemmas.{Puts-as, Puts-then}
 use Rattle.cqf_report.specs.Written.{line_of_fields}
 use Rattle.cqf_program_summary.specs.Summary.Text.{lines_of_fares, lines_of_others, summary_header}
 use Rattle.cqf_program_summary.proofs.summary.lines.put_summary.Goals as goal

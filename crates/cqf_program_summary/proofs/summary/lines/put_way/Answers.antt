@@ -1,6 +1,6 @@
 use Rattle.std.proofs.Common.{◌∙◌, ◌∷◌, ap, decimal}
 use Rattle.cqf_report.specs.Written.{line_of_fields}
-use Rattle.cqf_press.proofs.PressLemmas.{Puts-as}
+use Rattle.cqf_output.proofs.WriterLemmas.{Puts-as}
 use Rattle.cqf_report.proofs.LineLemmas.{Puts-field}
 use Rattle.cqf_program_summary.specs.Summary.{Fare}
 use Rattle.cqf_program_summary.specs.Summary.Text.{count_fields, last_fields, text_of_listener}

@@ -3,8 +3,8 @@ use Rattle.cqf_addressing.specs.Streams.{gate_index}
 use Rattle.cqf_addressing.specs.declared.streams.StreamAddress.{StreamAddress}
 use Rattle.cqf_model.specs.declared.topology.Row.{Row}
 use Rattle.cqf_model.specs.Domain.{Domain}
-use Rattle.cqf_press.specs.Edge.{HasTold, writing}
-use Rattle.cqf_press.proofs.PressLemmas.{HasTold-pressed, Puts-as}
+use Rattle.cqf_output.specs.Edge.{HasTold, writing}
+use Rattle.cqf_output.proofs.WriterLemmas.{HasTold-written, Puts-as}
 use Rattle.cqf_addressing.specs.declared.links.LinkInterfaces.{LinkInterfaces}
 use Rattle.cqf_program_tc.specs.Env.{env_text}
 use Rattle.cqf_program_tc.specs.Output.{text_of_env}
@@ -39,7 +39,7 @@ returns g c =
     ∙ ap text_of_env c.self.view_is in
     let put = Puts-as (env_text lent.domain.now interfaces lent.addresses.now lent.rows.now bridge) (text_of_env c.args.self) same c.put_file.ensures in
     let done : HasTold (writing g.W.Write.contents c.args.told.now c.close-told.result.now) (text_of_env c.args.self) =
-    HasTold-pressed g.W.Write.contents c.args.told.now c.new-press.result c.put_file.new.press c.close-told.result.now _
-    c.new-press.ensures.opens put c.close-told.ensures.closes in
-    let names = c.close-told.ensures.same ∙ c.put_file.ensures.same ∙ c.new-press.ensures.same in
+    HasTold-written g.W.Write.contents c.args.told.now c.new-writer.result c.put_file.new.writer c.close-told.result.now _
+    c.new-writer.ensures.opens put c.close-told.ensures.closes in
+    let names = c.close-told.ensures.same ∙ c.put_file.ensures.same ∙ c.new-writer.ensures.same in
     grind (arith, done, names)

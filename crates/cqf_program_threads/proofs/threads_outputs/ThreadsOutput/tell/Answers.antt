@@ -2,8 +2,8 @@ use Rattle.std.proofs.Common.{◌∙◌, List, ap, arith, map}
 use Rattle.cqf_admission.specs.Admission.{recorded_of}
 use Rattle.cqf_admission.specs.declared.entries.Entry.{Entry}
 use Rattle.cqf_program_threads.specs.PagedBooks.{contents_told}
-use Rattle.cqf_press.specs.Edge.{HasTold, writing}
-use Rattle.cqf_press.proofs.PressLemmas.{HasTold-pressed, Puts-as}
+use Rattle.cqf_output.specs.Edge.{HasTold, writing}
+use Rattle.cqf_output.proofs.WriterLemmas.{HasTold-written, Puts-as}
 use Rattle.cqf_program_runs.specs.Run.Output.{run_text}
 use Rattle.cqf_program_threads.specs.AccountTold.{text_of_account}
 use Rattle.cqf_program_threads.proofs.threads_outputs.ThreadsOutput.tell.Goals as goal
@@ -14,10 +14,10 @@ returns g c =
     let text = text_of_account c.args.self in
     let book = c.args.self.book in
     let done : HasTold (writing g.W.Write.contents c.args.told.now c.close-told.result.now) text =
-    HasTold-pressed g.W.Write.contents c.args.told.now c.new-press.result c.put_account.new.press c.close-told.result.now text
-    c.new-press.ensures.opens
+    HasTold-written g.W.Write.contents c.args.told.now c.new-writer.result c.put_account.new.writer c.close-told.result.now text
+    c.new-writer.ensures.opens
     (Puts-as _ text (ap (λ (entries : List Entry). run_text book.domain (map recorded_of entries) (contents_told book)) c.as_slice-history.ensures.value)
     c.put_account.ensures)
     c.close-told.ensures.closes in
-    let names = c.close-told.ensures.same ∙ c.put_account.ensures.same ∙ c.new-press.ensures.same in
+    let names = c.close-told.ensures.same ∙ c.put_account.ensures.same ∙ c.new-writer.ensures.same in
     grind (arith, done, names)

@@ -21,9 +21,9 @@ returns c =
           (c.from.result * c.from-2.result) w.time_of.result c.taken_by.result begins w.time_of.ensures
           (c.taken_by.ensures.value ∙ ap (λ (o : Outlet). slot_of c.args.came.octets o.wire.octet_time) w.self-is)
           room (omega arith) (subst (λ (o : Outlet). o.wire.octet_time < 2 ^ 32) w.self-is c.taken_by.ensures.ticks)
-          (ap (λ (o : Outlet). o.tape.link) w.self-is ∙ c.keep.ensures.link)
-          (ap (λ (o : Outlet). o.tape.background.items) w.self-is ∙ c.keep.ensures.background)
-          (ap (λ (o : Outlet). o.tape.starts.items) w.self-is ∙ c.in_ok-keep.ensures.starts)
+          (ap (λ (o : Outlet). o.trace.link) w.self-is ∙ c.keep.ensures.link)
+          (ap (λ (o : Outlet). o.trace.background.items) w.self-is ∙ c.keep.ensures.background)
+          (ap (λ (o : Outlet). o.trace.starts.items) w.self-is ∙ c.in_ok-keep.ensures.starts)
           (λ onward. subst (λ (p : Pending).
           Hands c.args.cycle (moving_at c.args.came (c.args.offset + w.time_of.result) 0) before.pending p)
           (sym (ap (λ (o : Outlet). o.pending) w.self-is)) w.in_ok-hand.ensures)
@@ -34,9 +34,9 @@ returns c =
           (c.from.result * c.from-2.result) (time_on before.wire c.args.came.octets) c.taken_by.result begins refl
           (c.taken_by.ensures.value ∙ ap (λ (o : Outlet). slot_of c.args.came.octets o.wire.octet_time) w.self-is)
           room (omega arith) (subst (λ (o : Outlet). o.wire.octet_time < 2 ^ 32) w.self-is c.taken_by.ensures.ticks)
-          (ap (λ (o : Outlet). o.tape.link) w.self-is ∙ c.keep.ensures.link)
-          (ap (λ (o : Outlet). o.tape.background.items) w.self-is ∙ c.keep.ensures.background)
-          (ap (λ (o : Outlet). o.tape.starts.items) w.self-is ∙ c.in_ok-keep.ensures.starts)
+          (ap (λ (o : Outlet). o.trace.link) w.self-is ∙ c.keep.ensures.link)
+          (ap (λ (o : Outlet). o.trace.background.items) w.self-is ∙ c.keep.ensures.background)
+          (ap (λ (o : Outlet). o.trace.starts.items) w.self-is ∙ c.in_ok-keep.ensures.starts)
           (λ onward. absurd (true≢false (sym onward ∙ w.if-self.false)))
           (λ ends. ap (λ (o : Outlet). o.pending) w.self-is)
     ]

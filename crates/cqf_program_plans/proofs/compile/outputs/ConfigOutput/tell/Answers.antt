@@ -1,6 +1,6 @@
 use Rattle.std.proofs.Common.{◌∙◌, ap, arith}
-use Rattle.cqf_press.specs.Edge.{HasTold, writing}
-use Rattle.cqf_press.proofs.PressLemmas.{HasTold-pressed, Puts-as}
+use Rattle.cqf_output.specs.Edge.{HasTold, writing}
+use Rattle.cqf_output.proofs.WriterLemmas.{HasTold-written, Puts-as}
 use Rattle.cqf_compile.specs.ConfigText.{config_text}
 use Rattle.cqf_program_plans.specs.Compile.Told.{text_of_config}
 use Rattle.cqf_program_plans.proofs.compile.outputs.ConfigOutput.tell.Goals as goal
@@ -11,7 +11,7 @@ returns g c =
     (ap (config_text c.self.inside.plan) c.as_slice.ensures.value ∙ ap text_of_config c.self.view_is)
     c.put_config.ensures in
     let done : HasTold (writing g.W.Write.contents c.args.told.now c.close-told.result.now) (text_of_config c.args.self) =
-    HasTold-pressed g.W.Write.contents c.args.told.now c.new-press.result c.put_config.new.press c.close-told.result.now _
-    c.new-press.ensures.opens put c.close-told.ensures.closes in
-    let names = c.close-told.ensures.same ∙ c.put_config.ensures.same ∙ c.new-press.ensures.same in
+    HasTold-written g.W.Write.contents c.args.told.now c.new-writer.result c.put_config.new.writer c.close-told.result.now _
+    c.new-writer.ensures.opens put c.close-told.ensures.closes in
+    let names = c.close-told.ensures.same ∙ c.put_config.ensures.same ∙ c.new-writer.ensures.same in
     grind (arith, done, names)

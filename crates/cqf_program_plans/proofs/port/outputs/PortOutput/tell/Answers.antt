@@ -2,8 +2,8 @@ use Rattle.std.proofs.Common.{◌∙◌, List, ap, arith, map}
 use Rattle.cqf_model.specs.Port.{Transmission}
 use Rattle.cqf_model.specs.declared.ports.Arrival.{Arrival}
 use Rattle.cqf_port.specs.PortState.{start_of}
-use Rattle.cqf_press.specs.Edge.{HasTold, writing}
-use Rattle.cqf_press.proofs.PressLemmas.{HasTold-pressed, Puts-as}
+use Rattle.cqf_output.specs.Edge.{HasTold, writing}
+use Rattle.cqf_output.proofs.WriterLemmas.{HasTold-written, Puts-as}
 use Rattle.cqf_report.specs.Starts.{text_of_starts}
 use Rattle.cqf_units.specs.Timing.{ticks_of_octet}
 use Rattle.cqf_program_plans.specs.Port.Told.{text_of_port}
@@ -17,7 +17,7 @@ returns g c =
     ∙ ap text_of_port c.self.view_is)
     c.put_starts_of_port.ensures in
     let done : HasTold (writing g.W.Write.contents c.args.told.now c.close-told.result.now) (text_of_port c.args.self) =
-    HasTold-pressed g.W.Write.contents c.args.told.now c.new-press.result c.put_starts_of_port.new.press c.close-told.result.now _
-    c.new-press.ensures.opens put c.close-told.ensures.closes in
-    let names = c.close-told.ensures.same ∙ c.put_starts_of_port.ensures.same ∙ c.new-press.ensures.same in
+    HasTold-written g.W.Write.contents c.args.told.now c.new-writer.result c.put_starts_of_port.new.writer c.close-told.result.now _
+    c.new-writer.ensures.opens put c.close-told.ensures.closes in
+    let names = c.close-told.ensures.same ∙ c.put_starts_of_port.ensures.same ∙ c.new-writer.ensures.same in
     grind (arith, done, names)

@@ -1,6 +1,6 @@
 use Rattle.std.proofs.Common.{◌≡◌, ◌∙◌, ap, arith, subst, sym}
-use Rattle.cqf_press.specs.Edge.{HasTold, writing}
-use Rattle.cqf_press.proofs.PressLemmas.{HasTold-pressed, Puts-as}
+use Rattle.cqf_output.specs.Edge.{HasTold, writing}
+use Rattle.cqf_output.proofs.WriterLemmas.{HasTold-written, Puts-as}
 use Rattle.cqf_program_runs.specs.Deliveries.Text.{text_of_deliveries}
 use Rattle.cqf_program_runs.specs.Deliveries.Ending.{Over, deliveries_over, over_of}
 use Rattle.cqf_program_runs.specs.Deliveries.Following.{AreDeliveriesTold, Ending, IsFollowed}
@@ -21,7 +21,7 @@ returns g c = λ text is_told.
     let put = Puts-as (text_of_deliveries (deliveries_over (over_of c.over.result told.whole))) text
     (ap (λ (x : Over). text_of_deliveries (deliveries_over x)) (c.over.ensures told.whole) ∙ sym told.is) (c.put_deliveries.ensures told.whole followed) in
     let done : HasTold (writing g.W.Write.contents c.args.told.now c.close-told.result.now) text =
-    HasTold-pressed g.W.Write.contents c.args.told.now c.new-press.result c.put_deliveries.new.press c.close-told.result.now _
-    c.new-press.ensures.opens put c.close-told.ensures.closes in
-    let names = c.close-told.ensures.same ∙ (c.put_deliveries.ensures told.whole followed).same ∙ c.new-press.ensures.same in
+    HasTold-written g.W.Write.contents c.args.told.now c.new-writer.result c.put_deliveries.new.writer c.close-told.result.now _
+    c.new-writer.ensures.opens put c.close-told.ensures.closes in
+    let names = c.close-told.ensures.same ∙ (c.put_deliveries.ensures told.whole followed).same ∙ c.new-writer.ensures.same in
     grind (arith, done, names)

@@ -3,8 +3,8 @@ use Rattle.std.specs.Prelude.{List}
 use Rattle.cqf_admission.specs.Asking.{asked_paced}
 use Rattle.cqf_admission.specs.Running.{AreThere}
 use Rattle.cqf_admission.specs.declared.logs.Logged.{Logged}
-use Rattle.cqf_press.specs.Edge.{HasTold, writing}
-use Rattle.cqf_press.proofs.PressLemmas.{HasTold-pressed, Puts-as}
+use Rattle.cqf_output.specs.Edge.{HasTold, writing}
+use Rattle.cqf_output.proofs.WriterLemmas.{HasTold-written, Puts-as}
 use Rattle.cqf_program_scenario.specs.Logged.{entries_in}
 use Rattle.cqf_program_runs.specs.Run.Output.{run_text}
 use Rattle.cqf_program_runs.specs.Run.Told.{IsRunTold, RunToTell}
@@ -25,7 +25,7 @@ returns g c = λ text is_told.
     let put = Puts-as (run_text own.given.domain (entries_in own.given c.as_slice.result.now) told.0) text
     (ap (λ (entries : List Logged). run_text own.given.domain (entries_in own.given entries) told.0) c.as_slice.ensures.value ∙ sym told.2) of_parts in
     let done : HasTold (writing g.W.Write.contents c.args.told.now c.close-told.result.now) text =
-    HasTold-pressed g.W.Write.contents c.args.told.now c.new-press.result c.put_run.new.press c.close-told.result.now _
-    c.new-press.ensures.opens put c.close-told.ensures.closes in
-    let names = c.close-told.ensures.same ∙ of_parts.same ∙ c.new-press.ensures.same in
+    HasTold-written g.W.Write.contents c.args.told.now c.new-writer.result c.put_run.new.writer c.close-told.result.now _
+    c.new-writer.ensures.opens put c.close-told.ensures.closes in
+    let names = c.close-told.ensures.same ∙ of_parts.same ∙ c.new-writer.ensures.same in
     grind (arith, done, names)

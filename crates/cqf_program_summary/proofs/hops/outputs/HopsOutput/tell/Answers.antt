@@ -1,8 +1,8 @@
 use Rattle.std.proofs.Common.{◌≡◌, ◌∙◌, ℕ, List, ap, arith, subst, sym}
 use Rattle.std.specs.Prelude.{vec_capacity}
 use Rattle.cqf_instants.specs.Progress.{AreStartsOf, Progress}
-use Rattle.cqf_press.specs.Edge.{HasTold, writing}
-use Rattle.cqf_press.proofs.PressLemmas.{HasTold-pressed, Puts-as}
+use Rattle.cqf_output.specs.Edge.{HasTold, writing}
+use Rattle.cqf_output.proofs.WriterLemmas.{HasTold-written, Puts-as}
 use Rattle.cqf_program_summary.specs.Hops.Gathered.{wanted_by}
 use Rattle.cqf_program_summary.specs.Hops.Prepared.{told_with}
 use Rattle.cqf_program_summary.specs.Hops.Rounds.{AreToldLegs, CanBeTold, SomeCanBeTold, ToldHops, told_by}
@@ -53,6 +53,6 @@ returns g c = λ text told.
     (c.put_rounds.ensures told.starts told.legs (subst (λ (z : ToldHops). CanBeTold told.starts z) (sym same) told.can)
     (subst (λ (z : ToldHops). AreToldLegs told.starts z told.legs) (sym same) told.are)) in
     let done : HasTold (writing W c.args.told.now c.close-told.result.now) text =
-    HasTold-pressed W c.args.told.now c.new-press.result c.put_rounds.new.press c.close-told.result.now _ c.new-press.ensures.opens put c.close-told.ensures.closes in
-    let names = c.close-told.ensures.same ∙ put.same ∙ c.new-press.ensures.same in
+    HasTold-written W c.args.told.now c.new-writer.result c.put_rounds.new.writer c.close-told.result.now _ c.new-writer.ensures.opens put c.close-told.ensures.closes in
+    let names = c.close-told.ensures.same ∙ put.same ∙ c.new-writer.ensures.same in
     grind (arith, done, names)

@@ -1,6 +1,6 @@
 use Rattle.std.proofs.Common.{◌∙◌, ap, arith}
-use Rattle.cqf_press.specs.Edge.{HasTold, writing}
-use Rattle.cqf_press.proofs.PressLemmas.{HasTold-pressed, Puts-as}
+use Rattle.cqf_output.specs.Edge.{HasTold, writing}
+use Rattle.cqf_output.proofs.WriterLemmas.{HasTold-written, Puts-as}
 use Rattle.cqf_program_summary.specs.Summary.Text.{text_of_summary}
 use Rattle.cqf_program_summary.proofs.summary.outputs.SummaryOutput.tell.Goals as goal
 
@@ -10,7 +10,7 @@ returns g c =
     let put = Puts-as _ (text_of_summary o)
     (ap text_of_summary c.self.view_is) c.put_summary.ensures in
     let done : HasTold (writing g.W.Write.contents c.args.told.now c.close-told.result.now) (text_of_summary o) =
-    HasTold-pressed g.W.Write.contents c.args.told.now c.new-press.result c.put_summary.new.press c.close-told.result.now _
-    c.new-press.ensures.opens put c.close-told.ensures.closes in
-    let names = c.close-told.ensures.same ∙ c.put_summary.ensures.same ∙ c.new-press.ensures.same in
+    HasTold-written g.W.Write.contents c.args.told.now c.new-writer.result c.put_summary.new.writer c.close-told.result.now _
+    c.new-writer.ensures.opens put c.close-told.ensures.closes in
+    let names = c.close-told.ensures.same ∙ c.put_summary.ensures.same ∙ c.new-writer.ensures.same in
     grind (arith, done, names)

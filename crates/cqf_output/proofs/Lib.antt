@@ -1,0 +1,3 @@
+mod LineLemmas
+pub mod EdgeLemmas
+pub mod WriterLemmas

@@ -1,0 +1,4 @@
+pub mod Stops
+pub mod Edge
+pub mod Kinds
+pub mod Writer

@@ -1,0 +1,110 @@
+//! A writer: text is put on a buffer, and each full buffer is written out.
+ghost use Rattle.std.specs.Prelude.{◌≡◌, ◌≤◌, ◌∷◌, [], length};
+ghost use Rattle.cqf_output.specs.Writer.{ClosesBuffer, Opens, Puts};
+
+use crate::outputs::{flush_out, tell_on};
+use crate::buffer::{MOST_PUT, BUFFER_SIZE, Buffer};
+use crate::sinks::Sink;
+use crate::told::Told;
+use itoa::Integer;
+
+/// A buffer of text, and the writer that it is written to.
+#[derive(Drop)]
+pub struct Writer<'o, W: Sink> {
+    told: &'o mut Told<W>,
+    buffer: Buffer,
+}
+
+impl<'o, W: Sink> Writer<'o, W> {
+    /// Returns a writer on this writer with this buffer, which is emptied first.
+    pub fn new(told: &'o mut Told<W>, buffer: Buffer) -> Writer<'o, W>
+        ensures same { result.told.ghost_name ≡ told.entry.ghost_name }
+        ensures opens { Opens told.old result }
+    {
+        let mut buffer = buffer;
+        buffer.clear();
+        Writer { told, buffer }
+    }
+
+    /// Writes the buffer to the writer, and empties it.
+    fn turn(&mut self)
+        ensures puts { Puts W.contents self.old self.new [] }
+        ensures empty { self.new.buffer ≡ [] }
+    {
+        tell_on(self.told, self.buffer.text());
+        self.buffer.clear();
+    }
+
+    /// Writes the buffer to the writer and empties it if it is full.
+    fn make_room(&mut self)
+        ensures puts { Puts W.contents self.old self.new [] }
+        ensures room { length self.new.buffer ≤ 65536 }
+    {
+        if self.buffer.len() > BUFFER_SIZE {
+            self.turn();
+        }
+    }
+
+    /// Appends at most 512 bytes to the text, on a buffer with room for them.
+    fn put_few(&mut self, bytes: &[u8])
+        requires { length bytes.now ≤ 512 }
+        ensures { Puts W.contents self.old self.new bytes.now }
+    {
+        self.make_room();
+        self.buffer.put(bytes);
+    }
+
+    /// Writes the buffer to the writer, and then bytes that are too many for a buffer.
+    fn put_many(&mut self, bytes: &[u8])
+        ensures { Puts W.contents self.old self.new bytes.now }
+    {
+        self.turn();
+        self.tell_past(bytes);
+    }
+
+    /// Writes bytes directly to the writer. The buffer is empty.
+    fn tell_past(&mut self, bytes: &[u8])
+        requires { self.old.buffer ≡ [] }
+        ensures { Puts W.contents self.old self.new bytes.now }
+    {
+        tell_on(self.told, bytes);
+    }
+
+    /// Appends any number of bytes to the text.
+    pub fn put(&mut self, bytes: &[u8])
+        ensures { Puts W.contents self.old self.new bytes.now }
+    {
+        if bytes.len() <= MOST_PUT {
+            self.put_few(bytes);
+        } else {
+            self.put_many(bytes);
+        }
+    }
+
+    /// Appends a byte to the text.
+    pub fn put_byte(&mut self, byte: u8)
+        ensures { Puts W.contents self.old self.new (byte ∷ []) }
+    {
+        self.make_room();
+        self.buffer.put_byte(byte);
+    }
+
+    /// Appends a number to the text, in decimal.
+    pub fn put_number<I: Integer>(&mut self, number: I)
+        ensures { Puts W.contents self.old self.new (I.text number) }
+    {
+        let mut digits = itoa::Buffer::new();
+        self.put(digits.format(number).as_bytes());
+    }
+
+    /// Writes the rest of the text, flushes the writer unless it refused something, and gives it back.
+    pub fn close(self) -> &'o mut Told<W>
+        ensures same { result.ghost_name ≡ self.entry.told.ghost_name }
+        ensures closes { ClosesBuffer W.contents self.entry result.now }
+    {
+        let Writer { told, buffer } = self;
+        tell_on(told, buffer.text());
+        flush_out(told);
+        told
+    }
+}

@@ -1,0 +1,7 @@
+use Rattle.std.proofs.Common.{◌-◌, length, reverse}
+use Rattle.cqf_trace.proofs.Gathered.{IsGathering}
+use Rattle.cqf_trace.proofs.gathering.gather.Given as goal
+
+-- the traces of the greatest links are taken
+abbrev pub invariant-loop-behind : goal.invariant-loop-behind
+invariant-loop-behind l = IsGathering l.domain l.fn.bridge_traces.items l.left.items (length l.domain.links - l.behind) (reverse l.links.items)
