@@ -5,7 +5,7 @@ ghost use Rattle.cqf_output.specs.Writer.{Puts};
 ghost use Rattle.cqf_addressing.specs.Interface.{interface_of, is_alphanumeric, is_interface, is_interface_byte};
 
 use arrayvec::ArrayVec;
-use cqf_output::{Writer, Sink};
+use cqf_output::{Sink, Writer};
 use std::marker::Model;
 
 /// The name of an interface of a bridge: 1 to 15 bytes, each `a` to `z`, `A` to `Z`, `0` to `9`, `.`, `_`, `-` or `@`. The first byte is a

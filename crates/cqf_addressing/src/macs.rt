@@ -5,7 +5,7 @@ ghost use Rattle.std.specs.Option.{SomeIff};
 ghost use Rattle.cqf_output.specs.Writer.{Puts};
 ghost use Rattle.cqf_addressing.specs.Mac.{IsMac, has_colons, hex_digit, hex_pair, is_forwarded, mac_of_text, mac_text, octet_at};
 
-use cqf_output::{Writer, Sink};
+use cqf_output::{Sink, Writer};
 use std::marker::Model;
 
 /// The destination address of frames: six octets (IEEE Std 802). Bridges forward to it: it isn't 00:00:00:00:00:00, which no station has,

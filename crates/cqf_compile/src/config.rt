@@ -18,7 +18,7 @@ use crate::plan::Plan;
 use cqf_admission::Table;
 use cqf_gates::{TxList, hex_digit_of, put_stream};
 use cqf_model::{Link, Row};
-use cqf_output::{Writer, Buffer, Sink, Told, told_text};
+use cqf_output::{Buffer, Sink, Told, Writer, told_text};
 use cqf_topology::{Domain, put_bridge, put_ends};
 use cqf_units::Memory;
 use std::alloc::Global;

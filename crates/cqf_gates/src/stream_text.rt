@@ -4,7 +4,7 @@ ghost use Rattle.cqf_gates.specs.StreamText.{is_shut, line_of_open, line_of_stre
 ghost use Rattle.cqf_output.specs.Writer.{Puts};
 
 use crate::{StreamEntry, StreamList};
-use cqf_output::{Writer, Buffer, Sink, Told, told_text};
+use cqf_output::{Buffer, Sink, Told, Writer, told_text};
 use cqf_units::Memory;
 use std::alloc::Global;
 

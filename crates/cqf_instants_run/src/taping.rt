@@ -12,8 +12,8 @@ use crate::frames::frames_before;
 use crate::law::port_starts_the_background;
 use crate::telling::{is_low, starts_of_port};
 use cqf_model::{Arrival, Background};
-use cqf_trace::{Mark, Trace};
 use cqf_topology::Domain;
+use cqf_trace::{Mark, Trace};
 use cqf_units::{Memory, Nanos};
 use std::alloc::Global;
 

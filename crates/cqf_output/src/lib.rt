@@ -28,19 +28,19 @@
 //! ```
 #![tactic(auto)]
 
-mod outputs;
-mod writer;
-mod retries;
 mod buffer;
+mod outputs;
+mod retries;
 mod sinks;
 mod stops;
 mod texts;
 mod told;
+mod writer;
 
-pub use outputs::write_out;
-pub use writer::Writer;
 pub use buffer::Buffer;
+pub use outputs::write_out;
 pub use sinks::Sink;
 pub use stops::{DONE, FAULT, NO_MEMORY, REFUSED, Stop, USAGE};
 pub use texts::told_text;
 pub use told::Told;
+pub use writer::Writer;

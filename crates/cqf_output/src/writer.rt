@@ -2,8 +2,8 @@
 ghost use Rattle.std.specs.Prelude.{◌≡◌, ◌≤◌, ◌∷◌, [], length};
 ghost use Rattle.cqf_output.specs.Writer.{ClosesBuffer, Opens, Puts};
 
+use crate::buffer::{BUFFER_SIZE, Buffer, MOST_PUT};
 use crate::outputs::{flush_out, tell_on};
-use crate::buffer::{MOST_PUT, BUFFER_SIZE, Buffer};
 use crate::sinks::Sink;
 use crate::told::Told;
 use itoa::Integer;

@@ -38,9 +38,7 @@ fn tell_taken<'p>(
                 continue;
             }
             let (place, shown) = (found.place, shortened(given.alloc, name)?);
-            told.tell(format!(in given.alloc;
-                "{place}: {key}: {shown} is already at {first}"
-            )?)?;
+            told.tell(format!(in given.alloc; "{place}: {key}: {shown} is already at {first}")?)?;
         } else {
             firsts.insert(name, found.place)?;
         }
@@ -344,7 +342,9 @@ pub(crate) fn tell_link_guards_at(
 fn delay_words(alloc: Global, delay: u64, sync: u64, guard: u64) -> Result<String, AllocError> {
     let (delay, guard) = (Grouped(delay), Grouped(guard));
     if sync == 0 {
-        return format!(in alloc; "a delay of {delay} ns isn't shorter than the guard band, {guard} ns");
+        return format!(in alloc;
+            "a delay of {delay} ns isn't shorter than the guard band, {guard} ns"
+        );
     }
     let sync = Grouped(sync);
     format!(in alloc;

@@ -64,9 +64,7 @@ fn number_in(text: Option<&str>) -> u64 {
 fn no_talker(alloc: Global, network: &Network<'_>, name: &str) -> Result<String, AllocError> {
     let shown = shortened(alloc, name)?;
     if network.is_node(name) {
-        return format!(in alloc;
-            "the station {shown} has no link to a bridge"
-        );
+        return format!(in alloc; "the station {shown} has no link to a bridge");
     }
     let question = network.node_question(alloc, name)?;
     format!(in alloc; "no bridge or station {shown}{question}")

@@ -188,7 +188,10 @@ fn wrong_call(alloc: Global, seat: &[u8], verb: &[u8]) -> Result<String, AllocEr
         let question = question(alloc, verb.as_str(), &["admit", "withdraw"])?;
         format!(in alloc; "{verb}: a call is admit or withdraw{question}")
     } else {
-        String::from_str(alloc, "a stream's name in a call is 1 to 64 printable characters")
+        String::from_str(
+            alloc,
+            "a stream's name in a call is 1 to 64 printable characters",
+        )
     }
 }
 

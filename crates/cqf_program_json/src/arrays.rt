@@ -4,7 +4,7 @@ ghost use Rattle.cqf_output.specs.Writer.{Puts};
 ghost use Rattle.cqf_program_json.specs.Arrays.{end_text, front_text, name_or_null, number_or_null, quoted};
 
 use cqf_addressing::{InterfaceName, put_interface};
-use cqf_output::{Writer, Sink};
+use cqf_output::{Sink, Writer};
 
 /// Puts what precedes an element: the end of the line before, and a comma if that line ends another element.
 pub(crate) fn put_front<W: Sink>(writer: &mut Writer<'_, W>, is_first: bool)

@@ -10,7 +10,7 @@ use crate::ports::put_ports;
 use crate::streams::put_streams;
 use crate::wired::Wired;
 use cqf_model::Row;
-use cqf_output::{Writer, Sink};
+use cqf_output::{Sink, Writer};
 use cqf_topology::put_bridge;
 
 /// Puts the object of a bridge: its ports, and the streams that leave it, by the indices of their rows.

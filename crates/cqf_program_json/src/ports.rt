@@ -10,7 +10,7 @@ use crate::wired::Wired;
 use cqf_addressing::near_interface;
 use cqf_compile::{leaves, port_list_of};
 use cqf_gates::TxList;
-use cqf_output::{Writer, Sink};
+use cqf_output::{Sink, Writer};
 use cqf_topology::put_link;
 
 /// Puts an entry of a port's list, by its states and its interval in nanoseconds.

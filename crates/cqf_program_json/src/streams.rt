@@ -21,7 +21,7 @@ use cqf_addressing::{
 use cqf_compile::{first_hop, gate_of};
 use cqf_gates::{StreamEntry, StreamList, is_shut};
 use cqf_model::Row;
-use cqf_output::{Writer, Sink};
+use cqf_output::{Sink, Writer};
 use cqf_topology::{Domain, put_link};
 
 /// Puts an entry in which frames may pass.
@@ -143,7 +143,12 @@ fn put_way_interface<W: Sink>(writer: &mut Writer<'_, W>, wired: Wired<'_>, way:
 }
 
 /// Puts the stream's name, and the link and the interface over which it arrives.
-fn put_stream_head<W: Sink>(writer: &mut Writer<'_, W>, wired: Wired<'_>, row: &Row, way: Option<u16>)
+fn put_stream_head<W: Sink>(
+    writer: &mut Writer<'_, W>,
+    wired: Wired<'_>,
+    row: &Row,
+    way: Option<u16>,
+)
     ensures { Puts W.contents writer.old writer.new (stream_head wired.entry.domain.now wired.entry.links.now row.now way) }
 {
     writer.put(b"        {\n          \"stream\": \"");

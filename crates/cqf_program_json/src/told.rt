@@ -5,7 +5,7 @@ ghost use Rattle.cqf_program_json.specs.Output.{text_of_json};
 use crate::bridges::put_object;
 use crate::outputs::JsonOutput;
 use crate::wired::Wired;
-use cqf_output::{Writer, Sink, Told};
+use cqf_output::{Sink, Told, Writer};
 
 impl JsonOutput {
     /// Writes the output: the object. It allocates no memory.

@@ -9,7 +9,7 @@ ghost use Rattle.cqf_report.specs.Books.{lines_of_starts, text_of_book};
 
 use cqf_instants::{Pass, gather_starts};
 use cqf_model::{Book, Dropped, Started};
-use cqf_output::{Writer, Sink};
+use cqf_output::{Sink, Writer};
 use cqf_report::{put_book_header, put_drops, put_starts};
 use cqf_topology::Domain;
 use cqf_units::Memory;

@@ -9,7 +9,7 @@ ghost use Rattle.cqf_program_scenario.specs.PortLines.{AreTellable};
 ghost use Rattle.cqf_units.specs.Timing.{ticks_of_octet};
 
 use cqf_model::{Arrival, Start};
-use cqf_output::{Writer, Sink};
+use cqf_output::{Sink, Writer};
 use cqf_report::{put_port_header, put_port_start};
 use cqf_units::{Nanos, Rate};
 

@@ -24,7 +24,7 @@ use crate::ways::way_of;
 use crate::words::put_tx_words;
 use cqf_compile::{first_hop, gate_of, leaves, port_list_of};
 use cqf_model::{Hop, Row};
-use cqf_output::{Writer, Sink};
+use cqf_output::{Sink, Writer};
 use cqf_topology::{Domain, put_bridge, put_link, put_node};
 
 /// Puts the name of the node in which a link ends; nothing for a link that the domain lacks.

@@ -2,7 +2,7 @@
 ghost use Rattle.cqf_output.specs.Writer.{Puts};
 ghost use Rattle.cqf_program_tc.specs.Checks.{agree_text, checks_text, frames_text, jump_text, port_text, ready_text, take_back_text};
 
-use cqf_output::{Writer, Sink};
+use cqf_output::{Sink, Writer};
 
 /// Puts the function that returns whether one interface may lead to two nodes.
 fn put_agree<W: Sink>(writer: &mut Writer<'_, W>)

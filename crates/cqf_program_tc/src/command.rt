@@ -15,7 +15,7 @@ use crate::variables::{link_variables, stream_variables};
 use crate::words::write_gate_words;
 use cqf_addressing::{LinkInterfaces, StreamAddress, addresses_part, interfaces_part};
 use cqf_model::{Limits, Node, Row};
-use cqf_output::{REFUSED, Buffer, Stop};
+use cqf_output::{Buffer, REFUSED, Stop};
 use cqf_program_plans::{read_plan, rows_of_cycle_0};
 use cqf_program_scenario::two_parts;
 use cqf_topology::{Domain, PacedRequest};

@@ -20,7 +20,7 @@ use cqf_addressing::{
     put_mac, vlan_of_stream,
 };
 use cqf_compile::leaves;
-use cqf_output::{Writer, Sink, Told};
+use cqf_output::{Sink, Told, Writer};
 use cqf_topology::{Domain, put_bridge};
 
 /// Puts the name of an interface, if there is one.

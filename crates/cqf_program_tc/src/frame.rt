@@ -15,7 +15,7 @@ use crate::lists::{class_words, filter_words, rounds_in};
 use crate::words::put_tx_words;
 use cqf_gates::compiled_list;
 use cqf_model::Row;
-use cqf_output::{Writer, Sink};
+use cqf_output::{Sink, Writer};
 use cqf_topology::{Domain, put_bridge};
 
 /// Puts the time after which all lists begin anew, in nanoseconds.
@@ -46,7 +46,9 @@ pub(crate) fn put_usage<W: Sink>(writer: &mut Writer<'_, W>, domain: &Domain, ro
         b"#   BASE      an instant of the PTP clock in ns, the same at each bridge: the lists begin at the first multiple of ",
     );
     put_multiple(writer, domain, rows);
-    writer.put(b" at or\n#             after it, which the script prints. An even cycle begins there\n");
+    writer.put(
+        b" at or\n#             after it, which the script prints. An even cycle begins there\n",
+    );
     writer.put(
         b"#   TC, IP and CHAIN   may be set: commands in place of tc and ip, the filter chain of the gates. TC=echo shows what would be\n",
     );
@@ -170,7 +172,9 @@ pub(crate) fn put_given<W: Sink>(writer: &mut Writer<'_, W>, domain: &Domain, ro
     );
     writer.put(b"[ -n \"$ip\" ] || if [ \"$tc\" = echo ]; then ip=:; else ip=ip; fi\n");
     writer.put(b"command -v \"${tc%% *}\" >/dev/null || refuse \"TC: there is no command $tc\"\n");
-    writer.put(b"command -v \"${ip%% *}\" >/dev/null || refuse \"IP: there is no command $ip\"\n\n");
+    writer.put(
+        b"command -v \"${ip%% *}\" >/dev/null || refuse \"IP: there is no command $ip\"\n\n",
+    );
 }
 
 /// Returns the words after a port's list.
@@ -246,7 +250,11 @@ pub(crate) fn put_link_note<W: Sink>(writer: &mut Writer<'_, W>, domain: &Domain
 }
 
 /// Puts the function that sets the transmission gates of an interface.
-pub(crate) fn put_link_function<W: Sink>(writer: &mut Writer<'_, W>, domain: &Domain, software: bool)
+pub(crate) fn put_link_function<W: Sink>(
+    writer: &mut Writer<'_, W>,
+    domain: &Domain,
+    software: bool,
+)
     ensures { Puts W.contents writer.old writer.new (link_text domain.now software) }
 {
     writer.put(b"# the transmission gates of the interface $1\nlink() {\n");

@@ -8,7 +8,7 @@ ghost use Rattle.cqf_program_tc.specs.Words.{closed_words, entry_words, list_wor
 
 use cqf_gates::{StreamEntry, StreamList, is_shut};
 use cqf_model::{MOST_EVERY, Row};
-use cqf_output::{Writer, Sink};
+use cqf_output::{Sink, Writer};
 
 /// After how many cycles the lists of ports and of streams of each cycle begin anew.
 const ROUND: u64 = 2;

@@ -6,7 +6,7 @@ ghost use Rattle.cqf_program_tc.specs.Variables.{AreNamed, link_variable, stream
 
 use cqf_addressing::{StreamAddress, gate_index};
 use cqf_model::Row;
-use cqf_output::{Writer, Sink};
+use cqf_output::{Sink, Writer};
 use cqf_topology::Domain;
 
 /// A domain, the rows of its streams, their addresses by number, and the variables of its links by number and of its rows by index.

@@ -2,7 +2,7 @@
 ghost use Rattle.cqf_output.specs.Writer.{Puts};
 ghost use Rattle.cqf_program_tc.specs.Program.{object_text, octal, octal_word, program_text};
 
-use cqf_output::{Writer, Sink};
+use cqf_output::{Sink, Writer};
 use cqf_topology::Domain;
 
 /// Puts an octet as three octal digits after a backslash.

@@ -19,7 +19,7 @@ use crate::outputs::TcOutput;
 use crate::plan::Plan;
 use crate::program::put_program;
 use cqf_model::Row;
-use cqf_output::{Writer, Sink, Told};
+use cqf_output::{Sink, Told, Writer};
 use cqf_topology::Domain;
 
 /// Puts one function per bridge.

@@ -8,7 +8,7 @@ ghost use Rattle.cqf_program_tc.specs.Words.{gate_of_words, gate_words, tx_of_wo
 
 use cqf_compile::put_gates;
 use cqf_gates::TxList;
-use cqf_output::{Writer, Sink};
+use cqf_output::{Sink, Writer};
 use cqf_units::Memory;
 use std::alloc::{AllocError, Global};
 

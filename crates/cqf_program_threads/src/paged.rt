@@ -3,8 +3,8 @@ ghost use Rattle.std.specs.Prelude.{◌≡◌, ◌≤◌};
 ghost use Rattle.cqf_model.specs.Limits.{most_cycles};
 ghost use Rattle.cqf_trace.specs.Traces.{MayBeTold};
 
-use cqf_trace::Traces;
 use cqf_topology::Domain;
+use cqf_trace::Traces;
 use std::marker::Model;
 
 /// A book of some cycles of a domain, given by its traces. On each trace the transmissions are in order of instant.

@@ -9,10 +9,10 @@ ghost use Rattle.cqf_trace.specs.Telling.{AreDropPlaces, ArePlaces};
 ghost use Rattle.cqf_program_threads.specs.PagedBooks.{contents_told};
 
 use crate::paged::PagedBook;
-use cqf_output::{Writer, Sink};
+use cqf_output::{Sink, Writer};
 use cqf_report::{put_book_header, put_drops, put_starts};
-use cqf_trace::{Mark, Traces, TransmissionKind, drops_end_of, end_of, started_on};
 use cqf_topology::Domain;
+use cqf_trace::{Mark, Traces, TransmissionKind, drops_end_of, end_of, started_on};
 use cqf_units::Cycle;
 
 /// The transmissions to write: those of a kind, with their first word, on the traces of a domain.

@@ -18,7 +18,7 @@ use crate::{PagedBook, put_paged_book};
 use cqf_admission::Entry;
 use cqf_laws_account::traces_tell_the_book;
 use cqf_model::Limits;
-use cqf_output::{FAULT, Writer, Buffer, Sink, Stop, Told};
+use cqf_output::{Buffer, FAULT, Sink, Stop, Told, Writer};
 use cqf_program_scenario::{Opened, read_opened};
 use cqf_report::put_history;
 use cqf_topology::Domain;

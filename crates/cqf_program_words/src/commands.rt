@@ -140,12 +140,9 @@ impl Subcommand {
             Subcommand::Run =>
                 "the history and the book of a domain, its streams, a script and offers",
             Subcommand::Report => "what each link carries in a run",
-            Subcommand::Deliveries =>
-                "the fate of each offered frame of a run, at each listener",
-            Subcommand::Check =>
-                "whether all offered frames of a run are delivered in time",
-            Subcommand::Summary =>
-                "the deliveries, drops and latencies of each stream in a run",
+            Subcommand::Deliveries => "the fate of each offered frame of a run, at each listener",
+            Subcommand::Check => "whether all offered frames of a run are delivered in time",
+            Subcommand::Summary => "the deliveries, drops and latencies of each stream in a run",
             Subcommand::Hops => "the book of a run by frame: when each is on which link",
             Subcommand::Offers => "the offers that the streams of a plan make",
             Subcommand::Plan => "a plan of a network: its cycle time, paths and reservations",

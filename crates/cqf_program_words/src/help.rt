@@ -162,7 +162,8 @@ offers are checked, and no background frames: latency bounds all that a
 reservation covers.";
 
 /// The help of `offers` about standard input and its output.
-pub(crate) const OFFERS_INPUT: &str = r#"Standard input is a plan in two parts with a line of %% between them:
+pub(crate) const OFFERS_INPUT: &str =
+    r#"Standard input is a plan in two parts with a line of %% between them:
   a domain       links = [{ from = "a", to = "s", rate = 1000, delay = 500 }]
   its streams    streams = [{ name = "x", octets = 64, path = ["a", "s"],
                    interval = 125000, size = 64 }]

@@ -91,7 +91,11 @@ fn mistake_of_format<'v>(format: &'v str, bridge: Option<&'v str>) -> Mistake<'v
     ensures { told_of result ≡ mistake_of_format format.now (option_map (λ text. text.now) bridge.entry) }
 {
     if !is_form(format) {
-        return ("--format ", format, " isn't a format: list, tc, env or json");
+        return (
+            "--format ",
+            format,
+            " isn't a format: list, tc, env or json",
+        );
     }
     if format == "env" {
         mistake_of_env(bridge)

@@ -151,8 +151,7 @@ impl CommandOption {
             CommandOption::Threads =>
                 "a thread for each bridge and each administrator of the script",
             CommandOption::Table => "a line for each cycle time in place of a plan",
-            CommandOption::Software =>
-                "gates in Linux itself, not in hardware, with --format tc",
+            CommandOption::Software => "gates in Linux itself, not in hardware, with --format tc",
             CommandOption::Large => "a network of up to 1024 bridges, 4096 links and 16384 streams",
         }
     }

@@ -5,9 +5,9 @@ ghost use Rattle.cqf_worker.specs.Wires.{AreWired, Wiring, pipe_of_tables, table
 use cqf_bridge::Agenda;
 use cqf_model::Offer;
 use cqf_refused_values::{Told, domain_of, mark, once, trial, twice};
-use cqf_trace::BridgeTrace;
 use cqf_test_fixtures::{are_offers, line, offers_of};
 use cqf_topology::Domain;
+use cqf_trace::BridgeTrace;
 use cqf_units::{Cycle, Memory};
 use cqf_worker::{ClosingFault, Laid, close_pipes, lay};
 use std::alloc::Global;
@@ -89,7 +89,10 @@ fn workers_of(alloc: Global, domain: &Domain) -> Option<Laid>
 /// Whether three bridge traces were returned.
 fn is_shut(closed: &Result<Vec<BridgeTrace>, ClosingFault>) -> bool {
     match closed {
-        Ok(bridge_traces) => bridge_traces.len() == 3 && bridge_traces.iter().all(|bridge_trace| bridge_trace.drops.is_empty()),
+        Ok(bridge_traces) => bridge_traces.len() == 3
+            && bridge_traces
+                .iter()
+                .all(|bridge_trace| bridge_trace.drops.is_empty()),
         Err(_) => false,
     }
 }

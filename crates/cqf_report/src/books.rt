@@ -7,7 +7,7 @@ ghost use Rattle.cqf_report.specs.Books.{book_header, dropped_fields, lines_of_d
 ghost use Rattle.cqf_report.specs.Written.{IsPlain, line_of_fields};
 
 use cqf_model::{Book, Dropped, Reason, Started};
-use cqf_output::{Writer, Buffer, Sink, Told, told_text};
+use cqf_output::{Buffer, Sink, Told, Writer, told_text};
 use cqf_topology::{Domain, put_bridge, put_link};
 use cqf_units::Memory;
 use std::alloc::Global;

@@ -5,7 +5,7 @@ ghost use Rattle.cqf_report.specs.Columns.{columns_text};
 
 use crate::links::{FrameSums, put_header, put_sums, sum_of};
 use cqf_laws_coverage::Column;
-use cqf_output::{Writer, Buffer, Told, told_text};
+use cqf_output::{Buffer, Told, Writer, told_text};
 use cqf_topology::Domain;
 use cqf_units::Memory;
 use std::alloc::Global;

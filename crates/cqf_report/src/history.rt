@@ -9,7 +9,7 @@ ghost use Rattle.cqf_report.specs.CallTexts.{named_text};
 
 use cqf_admission::{Call, Entry};
 use cqf_model::{Receipt, Refused, Reply};
-use cqf_output::{Writer, Buffer, Sink, Told, told_text};
+use cqf_output::{Buffer, Sink, Told, Writer, told_text};
 use cqf_units::Memory;
 use std::alloc::Global;
 
@@ -122,7 +122,13 @@ fn put_text<W: Sink>(writer: &mut Writer<'_, W>, entry: &Entry)
             put_call(writer, entry.seat, b" admit ", name, entry.reply);
         }
         Call::Withdraw(name) => {
-            put_call(writer, entry.seat, b" withdraw ", name.as_str(), entry.reply);
+            put_call(
+                writer,
+                entry.seat,
+                b" withdraw ",
+                name.as_str(),
+                entry.reply,
+            );
         }
         Call::Seal => put_seal(writer, entry.seat),
     }

@@ -14,7 +14,7 @@ ghost use Rattle.cqf_report.specs.LinkSums.{AreSumsInOrder, are_of_one_batch, li
 
 use cqf_lanes::octet_sum;
 use cqf_model::{Book, Started};
-use cqf_output::{Writer, Buffer, Sink, Told, told_text};
+use cqf_output::{Buffer, Sink, Told, Writer, told_text};
 use cqf_topology::{Domain, put_link};
 use cqf_units::Memory;
 use rayon::prelude::*;

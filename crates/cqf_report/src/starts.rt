@@ -7,7 +7,7 @@ ghost use Rattle.cqf_report.specs.Written.{line_of_fields};
 ghost use Rattle.cqf_report.specs.Starts.{lines_of_port, start_fields, start_header, text_of_starts};
 
 use cqf_model::Start;
-use cqf_output::{Writer, Buffer, Sink, Told, told_text};
+use cqf_output::{Buffer, Sink, Told, Writer, told_text};
 use cqf_units::{Memory, Octets, Rate, end_of};
 use std::alloc::Global;
 

@@ -10,7 +10,7 @@ ghost use Rattle.cqf_admission.specs.Orders.{StandsIn, act_in};
 
 use crate::history::{put_call, put_seal};
 use cqf_admission::{Logged, What, word_of};
-use cqf_output::{Writer, Sink};
+use cqf_output::{Sink, Writer};
 use cqf_topology::PacedRequest;
 
 /// Writes the line of an entry, without its end.

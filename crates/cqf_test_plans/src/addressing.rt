@@ -4,7 +4,7 @@ use cqf_addressing::{
     read_stream_addresses,
 };
 use cqf_model::Limits;
-use cqf_output::{Writer, Buffer, Told, told_text};
+use cqf_output::{Buffer, Told, Writer, told_text};
 use std::alloc::Global;
 
 /// Three streams, the second without any key of addressing.

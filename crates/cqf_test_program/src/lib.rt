@@ -12,10 +12,10 @@ mod engines;
 #[cfg(test)]
 mod offers;
 #[cfg(test)]
-mod writers;
-#[cfg(test)]
 mod signals;
 #[cfg(test)]
 mod stops;
 #[cfg(test)]
 mod words;
+#[cfg(test)]
+mod writers;

@@ -9,7 +9,7 @@ use cqf_admission::Admission;
 use cqf_instants::Pass;
 use cqf_instants_run::pass_of_history;
 use cqf_model::{Dropped, Offer, Reason, Started};
-use cqf_output::{Writer, Buffer, Told};
+use cqf_output::{Buffer, Told, Writer};
 use cqf_program_scenario::ExactBook;
 use cqf_report::{offers_are_read_in_order, read_offers};
 use cqf_test_fixtures::fork;

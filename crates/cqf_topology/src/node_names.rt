@@ -5,7 +5,7 @@ ghost use Rattle.cqf_topology.specs.NodeNames.{ends_of_link, name_of_bridge, nam
 
 use crate::Domain;
 use cqf_model::{Link, Node};
-use cqf_output::{Writer, Sink};
+use cqf_output::{Sink, Writer};
 
 /// Writes the name of a bridge. Writes nothing if the domain lacks the bridge.
 pub fn put_bridge<W: Sink>(writer: &mut Writer<'_, W>, domain: &Domain, bridge: u16)

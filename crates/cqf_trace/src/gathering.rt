@@ -44,7 +44,11 @@ fn take_last(traces: &mut [Vec<Trace>], bridge: u16) -> Option<Trace>
 
 /// Returns the traces of all links of a domain by link number, and the drops of each bridge, from the bridge traces of its bridges by bridge number.
 /// Each trace is moved; its marks are not read. Returns `Memory` if an allocation fails; the bridge traces are lost then.
-pub fn gather(alloc: Global, domain: &Domain, bridge_traces: Vec<BridgeTrace>) -> Result<Traces, Memory>
+pub fn gather(
+    alloc: Global,
+    domain: &Domain,
+    bridge_traces: Vec<BridgeTrace>,
+) -> Result<Traces, Memory>
     requires { AreBridgeTracesOf domain.now bridge_traces.items }
     ensures { IfOk result (AreGatheredFrom domain.now bridge_traces.items) }
 {

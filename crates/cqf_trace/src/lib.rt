@@ -15,14 +15,14 @@
 //! ```
 #![tactic(auto)]
 
-mod gathering;
 mod bridge_trace;
+mod gathering;
+mod telling;
 mod trace;
 mod traces;
-mod telling;
 
-pub use gathering::gather;
 pub use bridge_trace::BridgeTrace;
+pub use gathering::gather;
+pub use telling::{book_of, drops_end_of, end_of, started_on};
 pub use trace::{Mark, Trace};
 pub use traces::{Traces, TransmissionKind};
-pub use telling::{book_of, drops_end_of, end_of, started_on};

@@ -10,10 +10,12 @@ use cqf_admission::Table;
 use cqf_bridge::Agenda;
 use cqf_model::{Node, Offer};
 use cqf_relay::{Relay, Segment};
-use cqf_trace::BridgeTrace;
 use cqf_topology::Domain;
+use cqf_trace::BridgeTrace;
 use cqf_units::Memory;
-use cqf_worker_loops::{Notifier, Carried, LinkEnd, PipeIn, PipeOut, Worker, pipe_between, pipe_to};
+use cqf_worker_loops::{
+    Carried, LinkEnd, Notifier, PipeIn, PipeOut, Worker, pipe_between, pipe_to,
+};
 use std::alloc::Global;
 use std::sync::Arc;
 

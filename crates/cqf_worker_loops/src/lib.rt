@@ -21,10 +21,10 @@
 //! ```
 #![tactic(auto)]
 
-mod notifiers;
 mod calling;
 mod carried;
 mod link_ends;
+mod notifiers;
 mod pace;
 mod pipe_ends;
 mod pipe_rule;
@@ -33,10 +33,10 @@ mod rows;
 mod sealing;
 mod worker;
 
-pub use notifiers::Notifier;
 pub use calling::{CallFault, Unmade, make_calls};
 pub use carried::Carried;
 pub use link_ends::LinkEnd;
+pub use notifiers::Notifier;
 pub use pace::{Free, Pace};
 pub use pipe_ends::{PipeIn, PipeOut, pipe, pipe_between, pipe_to};
 pub(crate) use pipe_ends::{FoundItem, NotPut};

@@ -19,7 +19,7 @@ use cqf_admission::{Ledger, Receipt, Refused, count_places, judge_paced};
 use cqf_compile::compile;
 use cqf_laws_history::state_follows_history;
 use cqf_model::{Limits, Row};
-use cqf_output::{REFUSED, Buffer, Stop};
+use cqf_output::{Buffer, REFUSED, Stop};
 use cqf_program_scenario::{domain_part, two_parts};
 use cqf_topology::{Domain, PacedRequest};
 use cqf_units::{Cycle, Memory};

@@ -4,7 +4,7 @@ ghost use Rattle.cqf_output.specs.Edge.{HasTold, writing};
 
 use cqf_compile::{Plan, put_config};
 use cqf_model::Row;
-use cqf_output::{Writer, Buffer, Sink, Told};
+use cqf_output::{Buffer, Sink, Told, Writer};
 use std::marker::Model;
 
 /// The output of `compile` before it is written: the plan of a domain, the rows of its streams by number, and a buffer.

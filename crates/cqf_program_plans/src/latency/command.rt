@@ -15,7 +15,7 @@ use crate::latency::outputs::LatencyOutput;
 use crate::latency::reading::{parted, read_planned};
 use crate::rows_of_cycle_0;
 use cqf_model::{Limits, Row};
-use cqf_output::{REFUSED, Buffer, Stop};
+use cqf_output::{Buffer, REFUSED, Stop};
 use cqf_topology::{Domain, PacedRequest, Planned};
 use cqf_units::Memory;
 use std::alloc::Global;

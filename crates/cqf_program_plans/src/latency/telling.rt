@@ -6,7 +6,7 @@ ghost use Rattle.cqf_program_plans.specs.Latency.Text.{latency_fields, latency_h
 
 use crate::latency::latencies::{Latency, Verdict};
 use crate::latency::outputs::LatencyOutput;
-use cqf_output::{Writer, Sink, Told};
+use cqf_output::{Sink, Told, Writer};
 
 /// Puts the header of latencies.
 fn put_header<W: Sink>(writer: &mut Writer<'_, W>)

@@ -10,7 +10,7 @@ ghost use Rattle.cqf_report.specs.Written.{line_of_fields};
 use crate::load::listing::LoadListing;
 use crate::load::outputs::LoadOutput;
 use cqf_model::MOST_OCTETS;
-use cqf_output::{Writer, Sink, Told};
+use cqf_output::{Sink, Told, Writer};
 use cqf_topology::{Domain, put_link};
 use cqf_units::Rate;
 

@@ -10,8 +10,8 @@ ghost use Rattle.cqf_program_plans.specs.Port.Told.{text_of_port};
 
 use crate::port::outputs::PortOutput;
 use cqf_gates::{TextFault, TxList, read_tx};
+use cqf_output::{Buffer, Sink, Stop, Told, Writer};
 use cqf_port::{Arrival, Port};
-use cqf_output::{Writer, Buffer, Sink, Stop, Told};
 use cqf_program_scenario::{put_starts_of_port, two_parts};
 use cqf_report::{TableFault, read_arrivals};
 use cqf_units::{Memory, Nanos, Rate};

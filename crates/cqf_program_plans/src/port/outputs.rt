@@ -1,7 +1,7 @@
 //! The output of `port`, before it is written.
 
-use cqf_port::Port;
 use cqf_output::Buffer;
+use cqf_port::Port;
 use cqf_units::Rate;
 use std::marker::Model;
 

@@ -36,7 +36,7 @@ use crate::{
 use cqf_admission::Logged;
 use cqf_laws_coverage::book_of_history_is_there;
 use cqf_model::Limits;
-use cqf_output::{REFUSED, Buffer, Stop};
+use cqf_output::{Buffer, REFUSED, Stop};
 use cqf_program_scenario::{RunInput, ScenarioOutcome, outcome_of};
 use cqf_units::Memory;
 use std::alloc::Global;

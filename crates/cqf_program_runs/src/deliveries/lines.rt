@@ -13,7 +13,7 @@ use crate::deliveries::delivery::{Delivery, Fate, Journey, Passage, latency};
 use crate::deliveries::few::Few;
 use crate::deliveries::made::{CompletedRun, put_those_of};
 use crate::deliveries::under_way::UnderWay;
-use cqf_output::{Writer, Sink};
+use cqf_output::{Sink, Writer};
 use cqf_program_plans::put_deadline;
 use cqf_report::reason_name;
 use cqf_units::Nanos;

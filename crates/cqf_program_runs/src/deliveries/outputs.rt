@@ -8,7 +8,7 @@ use crate::deliveries::lines::put_deliveries;
 use crate::deliveries::noted::Noted;
 use crate::deliveries::reading::PlannedGiven;
 use crate::deliveries::under_way::UnderWay;
-use cqf_output::{Writer, Buffer, Sink, Told};
+use cqf_output::{Buffer, Sink, Told, Writer};
 use std::marker::Model;
 
 /// The data of the output of `deliveries`: a scenario with its notes, its frames under way, room for the deliveries of

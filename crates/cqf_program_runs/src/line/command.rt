@@ -14,7 +14,7 @@ use crate::line::given::given_to_line;
 use crate::line::outputs::LineOutput;
 use cqf_laws_history::{closed_tables_stay, state_follows_history};
 use cqf_model::Offer;
-use cqf_output::{Writer, Buffer, Sink, Stop, Told};
+use cqf_output::{Buffer, Sink, Stop, Told, Writer};
 use cqf_program_scenario::{book_of_outcome, offers_part, one_part, outcome_of};
 use cqf_report::offers_are_read_in_order;
 use cqf_topology::Domain;

@@ -12,7 +12,7 @@ ghost use Rattle.cqf_program_scenario.specs.ExactBooks.{AreExactParts};
 ghost use Rattle.cqf_program_scenario.specs.Logged.{entries_in};
 
 use cqf_admission::Logged;
-use cqf_output::{Writer, Buffer, Sink, Told};
+use cqf_output::{Buffer, Sink, Told, Writer};
 use cqf_program_scenario::{ExactBook, RunInput};
 use cqf_report::put_log;
 use std::marker::Model;
@@ -49,7 +49,12 @@ fn put_parting<W: Sink>(writer: &mut Writer<'_, W>)
 
 /// Puts the text of the history of a scenario's log and of a book that is ready to be written, separated by a line
 /// `%%`.
-fn put_run<W: Sink>(writer: &mut Writer<'_, W>, given: &RunInput, entries: &[Logged], book: ExactBook)
+fn put_run<W: Sink>(
+    writer: &mut Writer<'_, W>,
+    given: &RunInput,
+    entries: &[Logged],
+    book: ExactBook,
+)
     requires { AreThere (map asked_paced given.now.requests.items) given.now.script.items entries.now }
     ensures { (of_parts : Contents) → AreExactParts book of_parts →
         Puts W.contents writer.old writer.new (run_text given.now.domain (entries_in given.now entries.now) of_parts) }

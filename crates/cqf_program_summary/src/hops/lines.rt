@@ -18,7 +18,7 @@ use crate::hops::rounds::Round;
 use crate::hops::steps::{HopsRun, LegsUnderWay};
 use crate::hops::wanting::stream_of;
 use cqf_model::{Dropped, Offer, Started};
-use cqf_output::{Writer, Sink};
+use cqf_output::{Sink, Writer};
 use cqf_report::reason_name;
 use cqf_topology::{Domain, put_bridge, put_link};
 use cqf_units::{octet_ticks, time_in_ticks};
@@ -61,7 +61,12 @@ fn whole_of(domain: &Domain, started: &Started) -> u64
 }
 
 /// Puts the line of a start of a stream's frame.
-fn put_started<W: Sink>(writer: &mut Writer<'_, W>, domain: &Domain, stream: &str, started: &Started)
+fn put_started<W: Sink>(
+    writer: &mut Writer<'_, W>,
+    domain: &Domain,
+    stream: &str,
+    started: &Started,
+)
     requires { whole_of domain.now started.now < 2 ^ 64 }
     ensures { Puts W.contents writer.old writer.new (line_of_fields (started_fields domain.now stream.now started.now)) }
 {
@@ -94,7 +99,12 @@ fn put_reason<W: Sink>(writer: &mut Writer<'_, W>, reason: &[u8])
 }
 
 /// Puts the line of a drop of a stream's frame.
-fn put_dropped<W: Sink>(writer: &mut Writer<'_, W>, domain: &Domain, stream: &str, dropped: &Dropped)
+fn put_dropped<W: Sink>(
+    writer: &mut Writer<'_, W>,
+    domain: &Domain,
+    stream: &str,
+    dropped: &Dropped,
+)
     ensures { Puts W.contents writer.old writer.new (line_of_fields (dropped_fields domain.now stream.now dropped.now)) }
 {
     writer.put_number(dropped.frame);

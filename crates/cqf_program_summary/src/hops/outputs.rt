@@ -7,7 +7,7 @@ use crate::hops::lines::put_rounds;
 use crate::hops::preparing::Prepared;
 use crate::hops::steps::{HopsRun, LegsUnderWay};
 use cqf_model::Offer;
-use cqf_output::{Writer, Buffer, Sink, Told};
+use cqf_output::{Buffer, Sink, Told, Writer};
 use cqf_topology::Domain;
 use std::marker::Model;
 

@@ -8,7 +8,7 @@ ghost use Rattle.cqf_program_summary.specs.Summary.Text.{count_fields, last_fiel
 use crate::summary::fares::{Fares, Listener, ListenerWay, Others};
 use crate::summary::sums::StreamSums;
 use crate::summary::tallies::{LatencySummary, Tally};
-use cqf_output::{Writer, Sink};
+use cqf_output::{Sink, Writer};
 use cqf_program_plans::put_deadline;
 
 /// Puts the header.

@@ -4,7 +4,7 @@ ghost use Rattle.cqf_program_summary.specs.Summary.Text.{text_of_summary};
 
 use crate::summary::lines::put_summary;
 use crate::summary::sums::StreamSums;
-use cqf_output::{Writer, Buffer, Sink, Told};
+use cqf_output::{Buffer, Sink, Told, Writer};
 use std::marker::Model;
 
 /// The data of the output of `summary`: the counts of each stream, and a buffer. In contracts it is the summary.
