@@ -1,6 +1,6 @@
 -- From the result of each step of a run to the result of the run.
 use Rattle.std.proofs.Common.{◌≡◌, ◌≢◌, ◌⊎◌, ◌≤◌, ◌<◌, ℕ, List, [], ◌∷◌, Bool, true, false, Option, Some}
-use Rattle.std.proofs.Common.{None, length, arith, codes, inl, inr, sym, subst, subst₂, refl}
+use Rattle.std.proofs.Common.{None, length, arith, codes, inl, inr, sym, subst, subst₂, refl, ap, ◌∙◌, map, Bor}
 use Rattle.std.specs.Str.{IsUtf8}
 use Rattle.std.specs.declared.io.ErrorKind.{ErrorKind}
 use Rattle.std.specs.Io.KnownBytes.{IsAtEnd}
@@ -19,6 +19,11 @@ use Rattle.cqf_program_engine.specs.Run.{HasRun, HasWords, most_line, IsBehindWo
 use Rattle.cqf_program_engine.specs.Run.{IsFailedRun, IsMisuse, IsRefusedRun, TellsPlainly}
 use Rattle.cqf_program_engine.specs.Run.{IsRefusal, IsStopped, StopsWithAnswer, IsToldOutput, IsTooLong, IsWithin, most_bytes}
 use Rattle.cqf_program_engine.specs.Run.{FaultIsOfThreads, FaultIsOfThreadsOrOutput, TellsStop, TellsFaultAlone}
+use Rattle.cqf_program_engine.specs.Run.{IsRunOf, IsThreadedRun, LeavesThreads, OnlyThreadsAreLeft, is_threaded}
+use Rattle.cqf_program_engine.specs.Prepared.{Begins}
+use Rattle.cqf_program_engine.specs.declared.begun.Begun.{Begun}
+use Rattle.cqf_program_engine.specs.declared.begun.Begun.TheVariants.{Ready, Threads}
+use Rattle.cqf_program_engine.specs.declared.begun.ThreadedRun.{ThreadedRun}
 use Rattle.cqf_program_threads.specs.ThreadsOutput.{EndsThreads, IsThreadsOutput}
 use Rattle.cqf_output.proofs.EdgeLemmas.{Appends-whole}
 use Rattle.cqf_output.specs.declared.stops.Stop.{Stop}
@@ -187,28 +192,6 @@ failure_status limits (Summary cycles) input stop h = absurd h
 failure_status limits (Offers cycles seed) input stop h = absurd h
 failure_status limits (Hops cycles stream frame) input stop h = absurd h
 failure_status limits (Plan table given) input stop h = absurd h
-
--- the end of a run on threads is that of its job
-pub IsEnd-threads : (limits : Limits) (cycles : ℕ) (job : Job) (input : List ℕ) (stop : Stop) → job ≡ Run cycles true →
-    EndsThreads limits cycles input stop → IsEnd limits job input stop
-IsEnd-threads limits cycles job input stop same e =
-    let of_run : IsEnd limits (Run cycles true) input stop = elim e.statuses [
-      | inl one ↦ inl (record { statuses = inl one; line = e.refused; memory = e.memory })
-      | inr other ↦ elim other [
-        | inl three ↦ inl (record { statuses = inr three; line = e.refused; memory = e.memory })
-        | inr four ↦ inr (four, e.fault four)
-      ]
-    ] in
-    subst (λ (j : Job). IsEnd limits j input stop) (sym same) of_run
-
--- its output is that of its job
-pub IsOutput-threads : (limits : Limits) (cycles : ℕ) (job : Job) (input output : List ℕ) → job ≡ Run cycles true →
-    IsThreadsOutput limits cycles input output → IsOutput limits job input output
-IsOutput-threads limits cycles job input output same h = subst (λ (j : Job). IsOutput limits j input output) (sym same) h
-
--- its number of cycles is within its limit
-pub threads_within : (cycles : ℕ) (job : Job) → job ≡ Run cycles true → IsWithin job → cycles ≤ 100000
-threads_within cycles job same h = subst (λ (j : Job). IsWithin j) same h
 
 -- an input that is refused stops it
 HasCause-by_refusal : (words : List (List ℕ)) (bytes : List ℕ) (job : Job) (stop : Stop) → length bytes ≤ most_bytes words
@@ -439,3 +422,110 @@ found_within job (Some command) is = job_within job command.0 command.1 is
 -- so are those of a job that words mean
 pub IsWithin-means : (words : List Text) (job : Job) → Mean words job → IsWithin job
 IsWithin-means words job means = found_within job (subcommand_of (app_for words) words) means.read
+
+-- no words have no texts
+pub no_words : (words : List (Bor (List ℕ))) → length words ≡ 0 → map (λ word. word.now) words ≡ []
+no_words [] none = refl
+no_words (word ∷ words) none = absurd (omega (arith, none))
+
+-- what a run comes to has a property that follows from another
+pub Begins-weaker : {A B : List ℕ → Type 0} {P Q : ThreadedRun → Type 0} (begun : Begun) → ((text : List ℕ) → A text → B text)
+    → ((threaded : ThreadedRun) → P threaded → Q threaded) → Begins A P begun → Begins B Q begun
+Begins-weaker (Ready output) outputs runs told = (told.0, told.1, outputs told.0 told.2)
+Begins-weaker (Threads threaded) outputs runs left = runs threaded left
+
+-- a job that is a run on threads leaves it, if its words are given
+pub LeavesThreads-given : (words : List (List ℕ)) (input : Reading) (limits : Limits) (job : Job) (threaded : ThreadedRun) → words ≢ [] → input.failed ≡ false
+    → IsAtEnd input.after → length input.bytes ≤ most_bytes words → Mean words job → limits ≡ limits_of words → IsRunOf limits job threaded
+    → LeavesThreads words input threaded
+LeavesThreads-given words input limits job threaded some sound at_end short means within is = record {
+  is_run = record {
+    short = short;
+    text = λ none. absurd (some none);
+    means = means_given words input.bytes (Run threaded.cycles true) some (subst (λ (j : Job). Mean words j) is.is_job means);
+    within = is.within ∙ within ∙ ap limits_of (words_given words input.bytes some);
+  };
+  at_end = at_end;
+  sound = sound;
+}
+
+-- and if its words are the first line's, given these under another name
+pub IsThreadedRun-by_line : (bytes : List ℕ) (words : List (List ℕ)) (limits : Limits) (job : Job) (threaded : ThreadedRun) → length bytes ≤ most_bytes []
+    → HasWords bytes → words ≡ words_of [] bytes → limits ≡ limits_of (words_of [] bytes) → Mean words job → IsRunOf limits job threaded
+    → IsThreadedRun [] bytes threaded
+IsThreadedRun-by_line bytes words limits job threaded short text same within means is = record {
+  short = short;
+  text = λ _. text;
+  means = subst₂ (λ (those : List (List ℕ)) (j : Job). Mean those j) same is.is_job means;
+  within = is.within ∙ within;
+}
+
+-- its number of cycles is within its limit
+pub threads_within : (words : List (List ℕ)) (bytes : List ℕ) (threaded : ThreadedRun) → IsThreadedRun words bytes threaded → threaded.cycles ≤ 100000
+threads_within words bytes threaded is = IsWithin-means (words_of words bytes) (Run threaded.cycles true) is.means
+
+-- if a run on threads is left, its output is that of the run
+pub HasRun-threads : (words : List (List ℕ)) (input : Reading) (threaded : ThreadedRun) (output : List ℕ) → LeavesThreads words input threaded
+    → IsThreadsOutput threaded.limits threaded.cycles (input_of words input.bytes) output → HasRun words input output
+HasRun-threads words input threaded output left h = record {
+  is_done = record {
+    short = left.is_run.short;
+    text = left.is_run.text;
+    job = Run threaded.cycles true;
+    means = left.is_run.means;
+    is_output = subst (λ (limits : Limits). IsThreadsOutput limits threaded.cycles (input_of words input.bytes) output) left.is_run.within h;
+  };
+  at_end = left.at_end;
+  sound = left.sound;
+}
+
+-- the end of a run on threads is that of its job
+IsEnd-threads : (limits : Limits) (cycles : ℕ) (input : List ℕ) (stop : Stop) → EndsThreads limits cycles input stop → IsEnd limits (Run cycles true) input stop
+IsEnd-threads limits cycles input stop e = elim e.statuses [
+  | inl one ↦ inl (record { statuses = inl one; line = e.refused; memory = e.memory })
+  | inr other ↦ elim other [
+    | inl three ↦ inl (record { statuses = inr three; line = e.refused; memory = e.memory })
+    | inr four ↦ inr (four, e.fault four)
+  ]
+]
+
+-- and its end without an output stops the run
+pub IsStopped-threads : (words : List (List ℕ)) (input : Reading) (threaded : ThreadedRun) (stop : Stop) → LeavesThreads words input threaded
+    → EndsThreads threaded.limits threaded.cycles (input_of words input.bytes) stop → IsStopped words input stop
+IsStopped-threads words input threaded stop left e =
+    IsStopped-by_cause words input stop left.sound left.at_end
+    (HasCause-by_end words input.bytes (Run threaded.cycles true) stop left.is_run.short left.is_run.text left.is_run.means
+    (subst (λ (limits : Limits). IsEnd limits (Run threaded.cycles true) (input_of words input.bytes) stop) left.is_run.within
+    (IsEnd-threads threaded.limits threaded.cycles (input_of words input.bytes) stop e)))
+
+-- two texts of different lengths aren't one name
+not_both : (name first second : Text) → name ≡ first → name ≡ second → length first ≢ length second → ⊥
+not_both name first second is_first is_second differ = absurd (differ (ap length (sym is_first ∙ is_second)))
+
+-- the command of another job isn't a run on threads
+no_threads : (job : Job) (name : Text) (rows : List Row) (cycles : ℕ) → IsJobOf job name rows → is_threaded job ≡ false → IsJobOf (Run cycles true) name rows → ⊥
+no_threads (Port until rate) name rows cycles is other h = not_both name (codes "port") (codes "run") is.0 h.0 (λ e. omega (arith, e))
+no_threads (Line own) name rows cycles is other h = not_both name (codes "line") (codes "run") is.0 h.0 (λ e. omega (arith, e))
+no_threads (Compile format) name rows cycles is other h = not_both name (codes "compile") (codes "run") is.0 h.0 (λ e. omega (arith, e))
+no_threads Load name rows cycles is other h = not_both name (codes "load") (codes "run") is h.0 (λ e. omega (arith, e))
+no_threads (Latency strict) name rows cycles is other h = not_both name (codes "latency") (codes "run") is.0 h.0 (λ e. omega (arith, e))
+no_threads (Run own true) name rows cycles is other h = (cc)
+no_threads (Run own false) name rows cycles is other h = is.2 h.2
+no_threads (Report own) name rows cycles is other h = not_both name (codes "report") (codes "run") is.0 h.0 (λ e. omega (arith, e))
+no_threads (Deliveries own) name rows cycles is other h = not_both name (codes "deliveries") (codes "run") is.0 h.0 (λ e. omega (arith, e))
+no_threads (Check own) name rows cycles is other h = not_both name (codes "check") (codes "run") is.0 h.0 (λ e. omega (arith, e))
+no_threads (Summary own) name rows cycles is other h = not_both name (codes "summary") (codes "run") is.0 h.0 (λ e. omega (arith, e))
+no_threads (Offers own seed) name rows cycles is other h = not_both name (codes "offers") (codes "run") is.0 h.0 (λ e. omega (arith, e))
+no_threads (Hops own stream frame) name rows cycles is other h = not_both name (codes "hops") (codes "run") is.0 h.0 (λ e. omega (arith, e))
+no_threads (Plan table given) name rows cycles is other h = not_both name (codes "plan") (codes "run") is.0 h.0 (λ e. omega (arith, e))
+
+-- what is read from words isn't both
+no_threads_found : (job : Job) (found : Option (Text × List Row)) (cycles : ℕ) → IsJob job found → is_threaded job ≡ false → IsJob (Run cycles true) found → ⊥
+no_threads_found job None cycles is other h = absurd is
+no_threads_found job (Some command) cycles is other h = no_threads job command.0 command.1 cycles is other h
+
+-- words that mean another job leave no run on threads
+pub only_threads_are_left : OnlyThreadsAreLeft
+only_threads_are_left words input job threaded means other left =
+    no_threads_found job (subcommand_of (app_for (words_of words input.bytes)) (words_of words input.bytes)) threaded.cycles
+    means.read other left.is_run.means.read

@@ -1,5 +1,8 @@
--- The text of an output.
+-- The text of an output, and what a run comes to before it waits for a thread.
 use Rattle.std.specs.Prelude.{ℕ, ◌≡◌, List}
+use Rattle.cqf_program_engine.specs.declared.begun.Begun.{Begun}
+use Rattle.cqf_program_engine.specs.declared.begun.Begun.TheVariants.{Ready, Threads}
+use Rattle.cqf_program_engine.specs.declared.begun.ThreadedRun.{ThreadedRun}
 use Rattle.cqf_program_engine.specs.declared.prepared.PreparedOutput.{PreparedOutput}
 use Rattle.cqf_program_engine.specs.declared.prepared.PreparedOutput.TheVariants.{Account, Config, Deliveries, Hops, Latency, Line, Load, Object}
 use Rattle.cqf_program_engine.specs.declared.prepared.PreparedOutput.TheVariants.{Port, Run, Script, Summary, Text, Variables}
@@ -36,3 +39,8 @@ IsTextOf (Hops output) text = IsToldText output text
 -- the output has a text with a given property
 abbrev pub HasText : (List ℕ → Type 0) → PreparedOutput → Type 0
 HasText wanted output = (text : List ℕ) × IsTextOf output text × wanted text
+
+-- what a run comes to before it waits for a thread: an output with a given property, or a run on threads with another
+abbrev pub Begins : (List ℕ → Type 0) → (ThreadedRun → Type 0) → Begun → Type 0
+Begins wanted left (Ready output) = HasText wanted output
+Begins wanted left (Threads threaded) = left threaded

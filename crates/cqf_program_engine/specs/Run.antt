@@ -5,6 +5,7 @@ use Rattle.std.specs.List.{slice_split, before_first, after_first}
 use Rattle.std.specs.Str.{IsUtf8}
 use Rattle.std.specs.declared.io.ErrorKind.{ErrorKind}
 use Rattle.cqf_text.specs.Lines.{is_line_feed}
+use Rattle.cqf_program_engine.specs.declared.begun.ThreadedRun.{ThreadedRun}
 use Rattle.cqf_program_engine.specs.declared.heard.ReadFailure.{ReadFailure}
 use Rattle.cqf_program_engine.specs.declared.heard.ReadFailure.TheVariants.{Memory, Fault}
 use Rattle.cqf_program_engine.specs.Edge.{IsHeard, Reading}
@@ -67,6 +68,15 @@ is_threaded job = false
 -- the frames that `hops` lists: those of a stream, or a single one
 abbrev pub wanted_of : Option (String Global) → Option ℕ → Wanted
 wanted_of stream frame = record { stream = option_map string_bytes stream; frame = frame }
+
+-- the words mean no run on threads
+abbrev pub MeanNoThreads : List (List ℕ) → Type 0
+MeanNoThreads words = (cycles : ℕ) → ¬ Mean words (Run cycles true)
+
+-- the job is this run on threads, within given limits
+pub record IsRunOf (limits : Limits) (job : Job) (threaded : ThreadedRun) : Type 0 where
+  pub is_job : job ≡ Run threaded.cycles true
+  pub within : threaded.limits ≡ limits
 
 -- the output of a job for its input, which is read within given limits
 abbrev pub IsOutput : Limits → Job → List ℕ → List ℕ → Type 0
@@ -208,6 +218,13 @@ pub record IsFailedRun (words : List (List ℕ)) (bytes : List ℕ) (stop : Stop
   pub means : Mean (words_of words bytes) job
   pub fails : IsFailure (limits_of (words_of words bytes)) job (input_of words bytes) stop
 
+-- the words mean this run on threads, and the bytes aren't too many for it
+pub record IsThreadedRun (words : List (List ℕ)) (bytes : List ℕ) (threaded : ThreadedRun) : Type 0 where
+  pub short : length bytes ≤ most_bytes words
+  pub text : words ≡ [] → HasWords bytes
+  pub means : Mean (words_of words bytes) (Run threaded.cycles true)
+  pub within : threaded.limits ≡ limits_of (words_of words bytes)
+
 -- all that the program reads was read: more bytes than it accepts, or all there were
 abbrev pub IsAll : List (List ℕ) → Reading → Type 0
 IsAll words input = IsTooLong (most_bytes words) input.bytes ⊎ IsAtEnd input.after
@@ -308,6 +325,12 @@ IsStopped words input stop = ((stop.status ≡ 0) × StopsWithAnswer words input
 -- a run is done: all was read, and this is its output
 pub record HasRun (words : List (List ℕ)) (input : Reading) (output : List ℕ) : Type 0 where
   pub is_done : IsDone words input.bytes output
+  pub at_end : IsAtEnd input.after
+  pub sound : input.failed ≡ false
+
+-- a run on threads is left to be made: the words mean it, and all was read
+pub record LeavesThreads (words : List (List ℕ)) (input : Reading) (threaded : ThreadedRun) : Type 0 where
+  pub is_run : IsThreadedRun words input.bytes threaded
   pub at_end : IsAtEnd input.after
   pub sound : input.failed ≡ false
 
@@ -430,3 +453,9 @@ FaultIsOfThreadsOrOutput fails refuses = (words : List (List ℕ)) (input : Read
 abbrev pub FaultIsOfThreads : (ErrorKind → Type 0) → (ErrorKind → Type 0) → Type 0
 FaultIsOfThreads fails refuses = (words : List (List ℕ)) (input : Reading) (output faults : Writing)
     → Ends fails refuses words input output faults 4 → EndsByRunFault words input output faults
+
+-- if the words mean a job other than a run on threads, no run on threads is left to be made. Then the engine's work is
+-- all done by `run_unless_threaded`, which has no handle that may wait: it returns if each read and each write does
+abbrev pub OnlyThreadsAreLeft : Type 0
+OnlyThreadsAreLeft = (words : List (List ℕ)) (input : Reading) (job : Job) (threaded : ThreadedRun)
+    → Mean (words_of words input.bytes) job → is_threaded job ≡ false → ¬ LeavesThreads words input threaded

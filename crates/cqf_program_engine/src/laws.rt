@@ -1,9 +1,15 @@
-//! Laws about the causes of status 4 if reads never fail.
+//! Laws about the end of a run: for which words nothing waits, and the causes of status 4 if reads never fail.
 ghost use Rattle.cqf_output.specs.Kinds.{MemoryAlone, NoKind};
-ghost use Rattle.cqf_program_engine.specs.Run.{FaultIsOfThreads, FaultIsOfThreadsOrOutput};
+ghost use Rattle.cqf_program_engine.specs.Run.{FaultIsOfThreads, FaultIsOfThreadsOrOutput, OnlyThreadsAreLeft};
 
 use crate::sources::Source;
 use cqf_output::Sink;
+
+/// Law: if the words mean a job other than a run on threads, no run on threads is left to be made. So for each command
+/// but `run --threads` the engine has ended when `run_unless_threaded` returns, and that never waits.
+pub fn engine_ends()
+    ensures { OnlyThreadsAreLeft }
+{}
 
 /// Law: if reads never fail and the output refuses nothing, a run that ends with status 4 was one on threads that
 /// failed.

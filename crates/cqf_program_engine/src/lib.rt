@@ -2,6 +2,9 @@
 //!
 //! - [`engine`] runs it, and returns the exit status. [`tell`] ends a run before it has begun. `VERSION` is the
 //!   program's version.
+//! - [`run_unless_threaded`] is all of the engine except for a run on threads, which it returns as a [`ThreadedRun`].
+//!   It never waits, so it returns if each read and each write does; `engine_ends` says for which words this is the
+//!   whole engine.
 //! - [`Heard`] is a reader that remembers what was read and whether a read failed. [`Told`] is a writer that remembers
 //!   whether it refused anything. The engine runs over these, so its caller knows why a run ended.
 //! - A [`Source`] is a reader with the kinds of error with which it may fail; a [`Sink`] is a writer with the kinds
@@ -15,8 +18,8 @@
 //!
 //! `specs/Edge.antt` defines what was read (`Reading`), and that of `cqf_output` what was written (`Writing`,
 //! `HasTold`). `specs/Prepared.antt` defines the text of an output (`IsTextOf`). `specs/Run.antt` defines the results
-//! of a run (`IsDone`, `IsRefusedRun`, `IsMisuse`, `IsFailedRun`), and what holds after the engine has run, by its
-//! status (`Ends`).
+//! of a run (`IsDone`, `IsRefusedRun`, `IsMisuse`, `IsFailedRun`), when a run on threads is left to be made
+//! (`LeavesThreads`), and what holds after the engine has run, by its status (`Ends`).
 //!
 //! ```text
 //! let mut input = Heard::new(alloc, b"links = []\n".as_slice());
@@ -25,6 +28,7 @@
 //! ```
 #![tactic(auto)]
 
+mod begun;
 mod filled;
 mod heard;
 mod inputs;
@@ -35,10 +39,11 @@ mod runs;
 mod sources;
 mod texts;
 
+pub use begun::ThreadedRun;
 pub use cqf_output::{Sink, Told};
 pub use heard::Heard;
 pub use inputs::{MOST_BYTES, MOST_BYTES_OF_LARGE, most_bytes, read_input};
-pub use laws::fault_in_memory_is_of_threads_or_memory;
-pub use runs::{answer, engine, tell};
+pub use laws::{engine_ends, fault_in_memory_is_of_threads_or_memory};
+pub use runs::{answer, engine, run_unless_threaded, tell};
 pub use sources::Source;
 pub use texts::Texts;

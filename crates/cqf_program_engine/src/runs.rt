@@ -1,8 +1,8 @@
 //! A run of the program, from its words and its input to its output or its end.
-ghost use Rattle.std.specs.Prelude.{ℕ, ◌≡◌, ◌≢◌, ◌≤◌, List, [], false, IfOk, IfErr, IfSome, Ok, MatchOption, map, length, option_map, string_bytes, true};
+ghost use Rattle.std.specs.Prelude.{ℕ, ◌≡◌, ◌≢◌, ◌≤◌, List, [], false, IfOk, IfErr, IfSome, IsOk, Ok, OnErr, MatchOption, map, length, option_map, string_bytes, true};
 ghost use Rattle.std.specs.List.{slice_split};
 ghost use Rattle.cqf_program_engine.specs.Edge.{IsHeard, IsUnheard, reading};
-ghost use Rattle.cqf_program_engine.specs.Prepared.{HasText, IsTextOf};
+ghost use Rattle.cqf_program_engine.specs.Prepared.{Begins, HasText, IsTextOf};
 ghost use Rattle.cqf_output.specs.Edge.{writing};
 ghost use Rattle.cqf_program_threads.specs.ThreadsOutput.{EndsThreads, IsThreadsOutput};
 ghost use Rattle.cqf_program_words.specs.Shown.{ShowsLine, is_shown_whole};
@@ -14,12 +14,14 @@ ghost use Rattle.cqf_program_words.specs.Candidates.{times_of};
 ghost use Rattle.cqf_sketch.specs.SketchDomain.{AreCandidates};
 ghost use Rattle.cqf_output.specs.Stops.{EndsWith, IsRefused};
 ghost use Rattle.cqf_program_tc.specs.Output.{env_of_input};
-ghost use Rattle.cqf_program_engine.specs.Run.{version_line, IsAsking, IsVersionWord, IsWithin, IsOutput, IsEnd};
+ghost use Rattle.cqf_program_engine.specs.Run.{IsRunOf, IsThreadedRun, LeavesThreads, MeanNoThreads};
+ghost use Rattle.cqf_program_engine.specs.Run.{version_line, IsAsking, IsVersionWord, IsWithin, IsOutput, input_of, words_of};
 ghost use Rattle.cqf_program_engine.specs.Run.{IsRefusal, IsBehindWords, Ends, EndsTold, HandsOver, HasCause, HasRun};
 ghost use Rattle.cqf_program_engine.specs.Run.{IsDone, IsStopped, TellsPlainly, TellsStop, is_space, is_threaded, first_line, wanted_of};
 ghost use Rattle.cqf_program_engine.specs.Run.{behind_first_line, most_bytes};
 ghost use Rattle.cqf_model.specs.Limits.{most_cycles};
 
+use crate::begun::{Begun, ThreadedRun};
 use crate::heard::Heard;
 use crate::inputs::{MOST_BYTES, most_bytes, read_input};
 use crate::prepared::PreparedOutput;
@@ -245,44 +247,25 @@ fn threaded_cycles(job: &Job) -> Option<u32>
     }
 }
 
-/// Returns the output of a run on threads, for an input that is read within given limits, ready to be written.
-fn prepare_threads(
-    rt: &(impl Threads + Wait + Sync),
-    alloc: Global,
-    limits: Limits,
-    cycles: u32,
-    input: &[u8],
-) -> Result<PreparedOutput, Stop>
-    requires { cycles ≤ most_cycles }
-    ensures ok { IfOk result (HasText (IsThreadsOutput limits cycles input.now)) }
-    ensures err { IfErr result (EndsThreads limits cycles input.now) }
-{
-    match threads_output(rt, alloc, limits, cycles, input) {
-        Ok(output) => Ok(PreparedOutput::Account(output)),
-        Err(stop) => Err(stop),
-    }
-}
-
-/// Returns the output of any job, for an input that is read within given limits, ready to be written. `rt` is for the
-/// threads of a run and of `report`.
+/// Returns the output of a job, for an input that is read within given limits, ready to be written; or a run on threads
+/// that the job is, which isn't made. `rt` is for the threads of `report`.
 ///
 /// # Errors
-/// With status 1 and the line of the first fault of the input. With status 3 if an allocation fails. With status 4 if a
-/// run on threads fails.
+/// Those of [`prepare`].
 fn output_of(
-    rt: &(impl Threads + Wait + Sync),
+    rt: &(impl Threads + Sync),
     alloc: Global,
     limits: Limits,
     job: &Job,
     input: &[u8],
-) -> Result<PreparedOutput, Stop>
+) -> Result<Begun, Stop>
     requires { IsWithin job.now }
-    ensures ok { IfOk result (HasText (IsOutput limits job.now input.now)) }
-    ensures err { IfErr result (IsEnd limits job.now input.now) }
+    ensures ok { IfOk result (Begins (IsOutput limits job.now input.now) (IsRunOf limits job.now)) }
+    ensures err { IfErr result (IsRefusal limits job.now input.now) }
 {
     match threaded_cycles(job) {
-        Some(cycles) => prepare_threads(rt, alloc, limits, cycles, input),
-        None => prepare(rt, alloc, limits, job, input),
+        Some(cycles) => Ok(Begun::Threads(ThreadedRun { limits, cycles })),
+        None => Ok(Begun::Ready(prepare(rt, alloc, limits, job, input)?)),
     }
 }
 
@@ -338,18 +321,18 @@ fn split_words(alloc: Global, line: &str) -> Result<Vec<&str>, Memory>
     Ok(words)
 }
 
-/// Runs the given words.
+/// Runs the given words. A run on threads isn't made.
 fn run_given<R: Source>(
-    rt: &(impl Threads + Wait + Sync),
+    rt: &(impl Threads + Sync),
     alloc: Global,
     words: &[&str],
     input: &mut Heard<R>,
-) -> Result<PreparedOutput, Stop>
+) -> Result<Begun, Stop>
     requires given { map (λ word. word.now) words.now ≢ [] }
     requires unheard { IsUnheard input.old }
     ensures heard { IsHeard (most_bytes (map (λ word. word.now) words.now)) (reading R.remaining input.old input.new) }
     ensures behind_words { IsBehindWords (map (λ word. word.now) words.now) (reading R.remaining input.old input.new) }
-    ensures ok { IfOk result (HasText (HasRun (map (λ word. word.now) words.now) (reading R.remaining input.old input.new))) }
+    ensures ok { IfOk result (Begins (HasRun (map (λ word. word.now) words.now) (reading R.remaining input.old input.new)) (LeavesThreads (map (λ word. word.now) words.now) (reading R.remaining input.old input.new))) }
     ensures err { IfErr result (IsStopped (map (λ word. word.now) words.now) (reading R.remaining input.old input.new)) }
 {
     if ask_for_version(words) {
@@ -390,14 +373,10 @@ fn read_line(alloc: Global, line: &str, words: &[&str]) -> Result<Job, Stop>
     }
 }
 
-/// Runs the words of the first line.
-fn run_line(
-    rt: &(impl Threads + Wait + Sync),
-    alloc: Global,
-    bytes: &[u8],
-) -> Result<PreparedOutput, Stop>
+/// Runs the words of the first line. A run on threads isn't made.
+fn run_line(rt: &(impl Threads + Sync), alloc: Global, bytes: &[u8]) -> Result<Begun, Stop>
     requires { length bytes.now ≤ most_bytes [] }
-    ensures ok { IfOk result (HasText (IsDone [] bytes.now)) }
+    ensures ok { IfOk result (Begins (IsDone [] bytes.now) (IsThreadedRun [] bytes.now)) }
     ensures err { IfErr result (HasCause [] bytes.now) }
 {
     let (line, rest) = split_first_line(bytes);
@@ -417,15 +396,15 @@ fn run_line(
     output_of(rt, alloc, limits_of(words.as_slice()), &job, rest)
 }
 
-/// Runs the words with which the input begins.
+/// Runs the words with which the input begins. A run on threads isn't made.
 fn run_taken<R: Source>(
-    rt: &(impl Threads + Wait + Sync),
+    rt: &(impl Threads + Sync),
     alloc: Global,
     input: &mut Heard<R>,
-) -> Result<PreparedOutput, Stop>
+) -> Result<Begun, Stop>
     requires { IsUnheard input.old }
     ensures heard { IsHeard (most_bytes []) (reading R.remaining input.old input.new) }
-    ensures ok { IfOk result (HasText (HasRun [] (reading R.remaining input.old input.new))) }
+    ensures ok { IfOk result (Begins (HasRun [] (reading R.remaining input.old input.new)) (LeavesThreads [] (reading R.remaining input.old input.new))) }
     ensures err { IfErr result (IsStopped [] (reading R.remaining input.old input.new)) }
 {
     if let Err(stop) = read_input(alloc, MOST_BYTES, input) {
@@ -434,17 +413,17 @@ fn run_taken<R: Source>(
     run_line(rt, alloc, input.bytes())
 }
 
-/// Runs the given words or, if there are none, those of the input's first line.
+/// Runs the given words or, if there are none, those of the input's first line. A run on threads isn't made.
 fn run<R: Source>(
-    rt: &(impl Threads + Wait + Sync),
+    rt: &(impl Threads + Sync),
     alloc: Global,
     words: &[&str],
     input: &mut Heard<R>,
-) -> Result<PreparedOutput, Stop>
+) -> Result<Begun, Stop>
     requires { IsUnheard input.old }
     ensures heard { IsHeard (most_bytes (map (λ word. word.now) words.now)) (reading R.remaining input.old input.new) }
     ensures behind_words { IsBehindWords (map (λ word. word.now) words.now) (reading R.remaining input.old input.new) }
-    ensures ok { IfOk result (HasText (HasRun (map (λ word. word.now) words.now) (reading R.remaining input.old input.new))) }
+    ensures ok { IfOk result (Begins (HasRun (map (λ word. word.now) words.now) (reading R.remaining input.old input.new)) (LeavesThreads (map (λ word. word.now) words.now) (reading R.remaining input.old input.new))) }
     ensures err { IfErr result (IsStopped (map (λ word. word.now) words.now) (reading R.remaining input.old input.new)) }
 {
     if words.is_empty() {
@@ -504,9 +483,78 @@ pub fn tell<O: Sink, F: Sink>(stop: &Stop, output: &mut Told<O>, faults: &mut To
     stop.status
 }
 
+/// Runs the program, as [`engine`] does, except for a run on threads. If the words mean one, all of the input was read,
+/// and nothing else is at fault, this run is returned as `Err`. Then it isn't made, and nothing was written.
+///
+/// `rt` is for the threads of `report`. It isn't a handle that may wait, so the checker proves that this function
+/// returns if each read and each write does: no loop is endless, and nothing waits for another thread, except for the
+/// end of a thread of `report`, which waits for nothing. Words that mean no run on threads always end with a status.
+pub fn run_unless_threaded<R: Source, O: Sink, F: Sink>(
+    rt: &(impl Threads + Sync),
+    alloc: Global,
+    words: &[&str],
+    input: &mut Heard<R>,
+    output: &mut Told<O>,
+    faults: &mut Told<F>,
+) -> Result<u8, ThreadedRun>
+    requires unheard { IsUnheard input.old }
+    requires accepted { output.old.refused ≡ false }
+    ensures heard { IsHeard (most_bytes (map (λ word. word.now) words.now)) (reading R.remaining input.old input.new) }
+    ensures behind_words { IsBehindWords (map (λ word. word.now) words.now) (reading R.remaining input.old input.new) }
+    ensures ended { IfOk result (Ends R.fails O.refuses (map (λ word. word.now) words.now) (reading R.remaining input.old input.new)
+        (writing O.contents output.old output.new) (writing F.contents faults.old faults.new)) }
+    ensures left { IfErr result (LeavesThreads (map (λ word. word.now) words.now) (reading R.remaining input.old input.new)) }
+    ensures output { OnErr result (output.new ≡ output.old) }
+    ensures faults { OnErr result (faults.new ≡ faults.old) }
+    ensures ends { MeanNoThreads (words_of (map (λ word. word.now) words.now) input.new.bytes) → IsOk result }
+{
+    match run(rt, alloc, words, input) {
+        Ok(Begun::Ready(prepared)) => Ok(tell_output(prepared, output, faults)),
+        Ok(Begun::Threads(threaded)) => Err(threaded),
+        Err(stop) => Ok(tell(&stop, output, faults)),
+    }
+}
+
+/// Returns the input of a job: all bytes or, if the first line has the words, those that follow it.
+fn input_of<'b>(words: &[&str], bytes: &'b [u8]) -> &'b [u8]
+    ensures { result.now ≡ input_of (map (λ word. word.now) words.now) bytes.now }
+{
+    if words.is_empty() {
+        let (_line, rest) = split_first_line(bytes);
+        rest
+    } else {
+        bytes
+    }
+}
+
+/// Makes a run on threads. Returns its output, ready to be written, after all threads have ended.
+///
+/// # Errors
+/// With status 1 and the line of the first fault of the input. With status 3 if an allocation fails. With status 4 if
+/// the run fails.
+fn prepare_threads(
+    rt: &(impl Threads + Wait + Sync),
+    alloc: Global,
+    threaded: ThreadedRun,
+    input: &[u8],
+) -> Result<PreparedOutput, Stop>
+    requires { threaded.cycles ≤ most_cycles }
+    ensures ok { IfOk result (HasText (IsThreadsOutput threaded.limits threaded.cycles input.now)) }
+    ensures err { IfErr result (EndsThreads threaded.limits threaded.cycles input.now) }
+{
+    let ThreadedRun { limits, cycles } = threaded;
+    match threads_output(rt, alloc, limits, cycles, input) {
+        Ok(output) => Ok(PreparedOutput::Account(output)),
+        Err(stop) => Err(stop),
+    }
+}
+
 /// Runs the program. `words` are its arguments without the program's name; if there are none, its words are those of
 /// the input's first line. `rt` is for threads. The requested text goes to `output`, and the line of a fault to
-/// `faults`. A run on threads returns after all threads have ended.
+/// `faults`.
+///
+/// A run on threads returns after all threads have ended, and only such a run may wait: for other words all is done by
+/// [`run_unless_threaded`], which returns if each read and each write does.
 ///
 /// Returns the exit status:
 ///
@@ -528,7 +576,11 @@ pub fn engine<R: Source, O: Sink, F: Sink>(
     ensures { Ends R.fails O.refuses (map (λ word. word.now) words.now) (reading R.remaining input.old input.new) (writing O.contents output.old output.new)
         (writing F.contents faults.old faults.new) result }
 {
-    match run(rt, alloc, words, input) {
+    let threaded = match run_unless_threaded(rt, alloc, words, input, output, faults) {
+        Ok(status) => return status,
+        Err(threaded) => threaded,
+    };
+    match prepare_threads(rt, alloc, threaded, input_of(words, input.bytes())) {
         Ok(prepared) => tell_output(prepared, output, faults),
         Err(stop) => tell(&stop, output, faults),
     }

@@ -1,9 +1,9 @@
-use Rattle.std.proofs.Common.{◌≤◌, Bool, List, ℕ, length, map, subst, subst₂}
+use Rattle.std.proofs.Common.{◌≤◌, Bool, List, ℕ, inl, length, map, subst, subst₂}
 use Rattle.std.proofs.lemmas.Result.{IfErr-weaker, IfOk-weaker}
 use Rattle.cqf_program_engine.specs.Edge.{reading}
-use Rattle.cqf_program_engine.specs.Run.{IsAsking, IsEnd, IsOutput}
+use Rattle.cqf_program_engine.specs.Run.{IsAsking, IsOutput, IsRefusal}
 use Rattle.cqf_model.specs.declared.limits.Limits.{Limits}
-use Rattle.cqf_program_engine.proofs.RunLemmas.{HasRun-given, IsStopped-by_given, IsStopped-by_words, IsWithin-means}
+use Rattle.cqf_program_engine.proofs.RunLemmas.{Begins-weaker, HasRun-given, IsStopped-by_given, IsStopped-by_words, IsWithin-means, LeavesThreads-given}
 use Rattle.cqf_program_engine.proofs.runs.run_given.Goals as goal
 
 pub returns-in-Err-clause-err : goal.returns-in-Err-clause-err
@@ -14,16 +14,16 @@ returns-in-Err-clause-err g c = IsStopped-by_words (map (λ word. word.now) c.ar
 
 pub returns-clause-ok : goal.returns-clause-ok
 returns-clause-ok g c =
+    let words = map (λ word. word.now) c.args.words.now in
+    let input = reading g.R.Read.remaining c.args.input.now c.read_input.new.input in
     let short = subst (λ (most : ℕ). length c.read_input.new.input.bytes ≤ most) c.most_bytes.ensures.value c.in_default.ensures.short in
     IfOk-weaker c.output_of.result _ _
-    (λ output told. (
-      told.0,
-      told.1,
-      HasRun-given (map (λ word. word.now) c.args.words.now)
-          (reading g.R.Read.remaining c.args.input.now c.read_input.new.input) told.0 c.in-Ok.job
-          c.requires.given c.in_default.ensures.sound c.in_default.ensures.end short c.in-Ok.ensures.ok
-          (subst₂ (λ (limits : Limits) (input : List ℕ). IsOutput limits c.in-Ok.job input told.0) c.limits_of.ensures c.bytes.ensures told.2),
-    ))
+    (λ begun told. Begins-weaker begun
+    (λ text is. HasRun-given words input text c.in-Ok.job c.requires.given c.in_default.ensures.sound c.in_default.ensures.end short c.in-Ok.ensures.ok
+    (subst₂ (λ (limits : Limits) (bytes : List ℕ). IsOutput limits c.in-Ok.job bytes text) c.limits_of.ensures c.bytes.ensures is))
+    (λ threaded is. LeavesThreads-given words input c.limits_of.result c.in-Ok.job threaded c.requires.given c.in_default.ensures.sound c.in_default.ensures.end
+    short c.in-Ok.ensures.ok c.limits_of.ensures is)
+    told)
     c.output_of.ensures.ok
 
 pub output_of-requires-after_bounds : goal.output_of-requires-after_bounds
@@ -36,5 +36,5 @@ returns-clause-err g c =
     (λ stop h. IsStopped-by_given (map (λ word. word.now) c.args.words.now)
     (reading g.R.Read.remaining c.args.input.now c.read_input.new.input) c.in-Ok.job stop
     c.requires.given c.in_default.ensures.sound c.in_default.ensures.end short c.in-Ok.ensures.ok
-    (subst₂ (λ (limits : Limits) (input : List ℕ). IsEnd limits c.in-Ok.job input stop) c.limits_of.ensures c.bytes.ensures h))
+    (inl (subst₂ (λ (limits : Limits) (input : List ℕ). IsRefusal limits c.in-Ok.job input stop) c.limits_of.ensures c.bytes.ensures h)))
     c.output_of.ensures.err

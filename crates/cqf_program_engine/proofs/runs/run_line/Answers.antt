@@ -1,11 +1,11 @@
-use Rattle.std.proofs.Common.{◌≡◌, ◌≤◌, ◌∙◌, List, [], ℕ, ap, length, map, subst, Bor}
+use Rattle.std.proofs.Common.{◌≡◌, ◌≤◌, ◌∙◌, List, [], ℕ, ap, inl, length, map, subst, Bor}
 use Rattle.std.proofs.lemmas.Result.{IfErr-weaker, IfOk-weaker}
 use Rattle.std.specs.List.{slice_split}
 use Rattle.std.specs.Str.{IsUtf8}
-use Rattle.cqf_program_engine.specs.Run.{is_space, most_line, words_of}
+use Rattle.cqf_program_engine.specs.Run.{HasWords, is_space, most_line, words_of}
 use Rattle.cqf_program_words.specs.Shown.{ShowsLine}
 use Rattle.cqf_program_words.specs.Words.{EndsWords, limits_of}
-use Rattle.cqf_program_engine.proofs.RunLemmas.{HasCause-by_line, HasCause-by_line_end, IsDone-by_line, IsWithin-means, TellsPlainly-of}
+use Rattle.cqf_program_engine.proofs.RunLemmas.{Begins-weaker, HasCause-by_line, HasCause-by_line_end, IsDone-by_line, IsThreadedRun-by_line, IsWithin-means, TellsPlainly-of}
 use Rattle.cqf_program_engine.proofs.runs.run_line.Goals as goal
 
 pub returns-in-Err-clause-err : goal.returns-in-Err-clause-err
@@ -30,14 +30,14 @@ returns-clause-ok g c =
     let split = c.in-Ok-split_words.ensures ∙ ap (slice_split is_space) line in
     let same : map (λ word. word.now) c.as_slice.result.now ≡ words_of [] c.args.bytes.now = ap texts c.as_slice.ensures.value ∙ split in
     let again : map (λ word. word.now) c.as_slice-2.result.now ≡ words_of [] c.args.bytes.now = ap texts c.as_slice-2.ensures.value ∙ split in
+    let words : HasWords c.args.bytes.now = record { text = subst IsUtf8 c.split_first_line.ensures.line c.in-Ok.ensures.cases.1; short = subst (λ (text : List ℕ). length text ≤ most_line) line c.if-line-gt-MOST_LINE.false } in
     IfOk-weaker c.output_of.result _ _
-    (λ output told. (
-      told.0,
-      told.1,
-      IsDone-by_line c.args.bytes.now _ told.0 (map (λ word. word.now) c.as_slice.result.now) _ c.in-Ok-read_line.job c.requires
-          (record { text = subst IsUtf8 c.split_first_line.ensures.line c.in-Ok.ensures.cases.1; short = subst (λ (text : List ℕ). length text ≤ most_line) line c.if-line-gt-MOST_LINE.false })
-          same (c.limits_of.ensures ∙ ap limits_of again) c.split_first_line.ensures.rest c.in-Ok-read_line.ensures.ok told.2,
-    ))
+    (λ begun told. Begins-weaker begun
+    (λ text is. IsDone-by_line c.args.bytes.now _ text (map (λ word. word.now) c.as_slice.result.now) _ c.in-Ok-read_line.job c.requires
+    words same (c.limits_of.ensures ∙ ap limits_of again) c.split_first_line.ensures.rest c.in-Ok-read_line.ensures.ok is)
+    (λ threaded is. IsThreadedRun-by_line c.args.bytes.now (map (λ word. word.now) c.as_slice.result.now) c.limits_of.result c.in-Ok-read_line.job threaded
+    c.requires words same (c.limits_of.ensures ∙ ap limits_of again) c.in-Ok-read_line.ensures.ok is)
+    told)
     c.output_of.ensures.ok
 
 pub returns-clause-err : goal.returns-clause-err
@@ -50,5 +50,5 @@ returns-clause-err g c =
     IfErr-weaker c.output_of.result _ _
     (λ stop h. HasCause-by_line_end c.args.bytes.now _ (map (λ word. word.now) c.as_slice.result.now) _ c.in-Ok-read_line.job stop c.requires
     (record { text = subst IsUtf8 c.split_first_line.ensures.line c.in-Ok.ensures.cases.1; short = subst (λ (text : List ℕ). length text ≤ most_line) line c.if-line-gt-MOST_LINE.false })
-    same (c.limits_of.ensures ∙ ap limits_of again) c.split_first_line.ensures.rest c.in-Ok-read_line.ensures.ok h)
+    same (c.limits_of.ensures ∙ ap limits_of again) c.split_first_line.ensures.rest c.in-Ok-read_line.ensures.ok (inl h))
     c.output_of.ensures.err

@@ -1,9 +1,25 @@
 use Rattle.std.proofs.Common.{List, [], ℕ, subst}
-use Rattle.std.proofs.lemmas.Result.{IfErr-weaker}
+use Rattle.std.proofs.lemmas.Result.{IfErr-weaker, IfOk-weaker}
 use Rattle.cqf_program_engine.specs.Edge.{reading}
-use Rattle.cqf_program_engine.specs.Run.{HasCause}
-use Rattle.cqf_program_engine.proofs.RunLemmas.{IsStopped-by_cause}
+use Rattle.cqf_program_engine.specs.Run.{HasCause, IsDone, IsThreadedRun}
+use Rattle.cqf_program_engine.proofs.RunLemmas.{Begins-weaker, IsStopped-by_cause}
 use Rattle.cqf_program_engine.proofs.runs.run_taken.Goals as goal
+
+pub returns-clause-ok : goal.returns-clause-ok
+returns-clause-ok g c = IfOk-weaker c.run_line.result _ _
+    (λ begun told. Begins-weaker begun
+    (λ text done. record {
+      is_done = subst (λ (bytes : List ℕ). IsDone [] bytes text) c.bytes.ensures done;
+      at_end = c.in_default.ensures.end;
+      sound = c.in_default.ensures.sound;
+    })
+    (λ threaded is. record {
+      is_run = subst (λ (bytes : List ℕ). IsThreadedRun [] bytes threaded) c.bytes.ensures is;
+      at_end = c.in_default.ensures.end;
+      sound = c.in_default.ensures.sound;
+    })
+    told)
+    c.run_line.ensures.ok
 
 pub returns-clause-err : goal.returns-clause-err
 returns-clause-err g c = IfErr-weaker c.run_line.result _ _
