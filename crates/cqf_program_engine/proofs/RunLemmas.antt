@@ -428,7 +428,7 @@ pub no_words : (words : List (Bor (List ℕ))) → length words ≡ 0 → map (�
 no_words [] none = refl
 no_words (word ∷ words) none = absurd (omega (arith, none))
 
--- what a run comes to has a property that follows from another
+-- the result of a run has a property that follows from another
 pub Begins-weaker : {A B : List ℕ → Type 0} {P Q : ThreadedRun → Type 0} (begun : Begun) → ((text : List ℕ) → A text → B text)
     → ((threaded : ThreadedRun) → P threaded → Q threaded) → Begins A P begun → Begins B Q begun
 Begins-weaker (Ready output) outputs runs told = (told.0, told.1, outputs told.0 told.2)

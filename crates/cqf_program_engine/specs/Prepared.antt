@@ -1,4 +1,4 @@
--- The text of an output, and what a run comes to before it waits for a thread.
+-- The text of an output, and the result of a run before it waits for a thread.
 use Rattle.std.specs.Prelude.{ℕ, ◌≡◌, List}
 use Rattle.cqf_program_engine.specs.declared.begun.Begun.{Begun}
 use Rattle.cqf_program_engine.specs.declared.begun.Begun.TheVariants.{Ready, Threads}
@@ -40,7 +40,7 @@ IsTextOf (Hops output) text = IsToldText output text
 abbrev pub HasText : (List ℕ → Type 0) → PreparedOutput → Type 0
 HasText wanted output = (text : List ℕ) × IsTextOf output text × wanted text
 
--- what a run comes to before it waits for a thread: an output with a given property, or a run on threads with another
+-- the result of a run before it waits for a thread: an output with a given property, or a run on threads with another
 abbrev pub Begins : (List ℕ → Type 0) → (ThreadedRun → Type 0) → Begun → Type 0
 Begins wanted left (Ready output) = HasText wanted output
 Begins wanted left (Threads threaded) = left threaded

@@ -1,4 +1,4 @@
-//! What a run comes to before it waits for a thread.
+//! The result of a run before it waits for a thread.
 
 use crate::prepared::PreparedOutput;
 use cqf_model::Limits;
@@ -10,7 +10,7 @@ pub struct ThreadedRun {
     pub cycles: u32,
 }
 
-/// What a run comes to before it waits for a thread.
+/// The result of a run before it waits for a thread.
 #[derive(Drop)]
 pub(crate) enum Begun {
     /// Its output, ready to be written.
