@@ -38,11 +38,11 @@ use Rattle.cqf_program_summary.specs.Summary.{deliveries_named, offers_named, of
 use Rattle.cqf_program_summary.specs.Summary.Tallies.{count_to, is_dropped, is_late, reaches}
 
 -- sums of members that agree
-sum_same : {X : Type 0} (f g : X → ℕ) (xs : List X) → ((x : X) → Contains xs x → f x ≡ g x) → sum_by f xs ≡ sum_by g xs
+pub sum_same : {X : Type 0} (f g : X → ℕ) (xs : List X) → ((x : X) → Contains xs x → f x ≡ g x) → sum_by f xs ≡ sum_by g xs
 sum_same {X} f g xs same = fold_same (λ (n : ℕ) (x : X). n + f x) (λ (n : ℕ) (x : X). n + g x) 0 xs (λ n x c. ap (λ (k : ℕ). n + k) (same x c))
 
 -- 1 if a test passes
-abbrev one_if : Bool → ℕ
+abbrev pub one_if : Bool → ℕ
 one_if b = if b then 1 else 0
 
 -- in how many of the four ways a delivery counts at a listener
@@ -121,7 +121,7 @@ module _ (run : Run) (streams : List PlannedText) (book : Contents) (says : Says
   stream_unless x y (Some dropped) c =
       ap (λ (z : Delivery). z.stream) (sym (contains_one (delivery_of run.domain x (passage.Dropped dropped.reason)) y c))
 
-  stream_of : (x : Offered) (y : Delivery) → Contains (deliveries_of_offer run streams book x) y → y.stream ≡ x.offer.stream
+  pub stream_of : (x : Offered) (y : Delivery) → Contains (deliveries_of_offer run streams book x) y → y.stream ≡ x.offer.stream
   stream_of x y c = by (nat_lt (offer_cycle run.domain x) (length run.tables)) c
     where
       by : (b : Bool) → Contains (if b then deliveries_unless run streams book x (drop_of book.drops x.frame) else []) y → y.stream ≡ x.offer.stream
@@ -158,7 +158,7 @@ module _ (run : Run) (streams : List PlannedText) (book : Contents) (says : Says
         let alone : sum_by (counts_at to) (delivery_of run.domain x (passage.Dropped reason) ∷ []) ≡ 1 = omega (arith, one) in
         ap (sum_by (counts_at to)) (of_uncovered run streams book says x inside within reason uncovered) ∙ alone
 
-    by_verdict : (x : Offered) → Contains (numbered run.offers) x → offer_cycle run.domain x < length run.tables → is_text x.offer.stream n ≡ true →
+    pub by_verdict : (x : Offered) → Contains (numbered run.offers) x → offer_cycle run.domain x < length run.tables → is_text x.offer.stream n ≡ true →
         (v : Verdict) → IsDecided run x v → sum_by (counts_at to) (deliveries_of_offer run streams book x) ≡ 1
     by_verdict x inside within own (Queued row) covered = covered_counts x inside within own row covered
     by_verdict x inside within own (DroppedFor reason) uncovered = uncovered_counts x inside within reason uncovered

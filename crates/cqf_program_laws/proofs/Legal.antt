@@ -12,10 +12,10 @@ use Rattle.cqf_program_scenario.specs.Calls.{HasRoom, called_for, seals_by, with
 use Rattle.cqf_program_laws.specs.ScriptLaws.{HistoriesAreLegal}
 
 -- a call counts once, as a Seal or as another call
-seals-cons : (call : Called) (more : List Called) → seals_among (call ∷ more) ≡ (if is_seal call.1 then 1 else 0) + seals_among more
+pub seals-cons : (call : Called) (more : List Called) → seals_among (call ∷ more) ≡ (if is_seal call.1 then 1 else 0) + seals_among more
 seals-cons call more = sum_by-cons (λ (c : Called). if is_seal c.1 then 1 else 0) call more
 
-others-cons : (call : Called) (more : List Called) → others_among (call ∷ more) ≡ (if not (is_seal call.1) then 1 else 0) + others_among more
+pub others-cons : (call : Called) (more : List Called) → others_among (call ∷ more) ≡ (if not (is_seal call.1) then 1 else 0) + others_among more
 others-cons call more = sum_by-cons (λ (c : Called). if not (is_seal c.1) then 1 else 0) call more
 
 -- room for the first call, and for the rest after it, by numbers

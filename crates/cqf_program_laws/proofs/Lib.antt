@@ -11,4 +11,13 @@ mod Firsts
 mod Admitted
 mod Balance
 mod RowLaws
+mod EachWay
+mod EachOffer
+mod EachRow
 mod Bounded
+mod FewCalls
+mod Readers
+mod MayRun
+mod Tellable
+mod PlanTexts
+mod Outputs

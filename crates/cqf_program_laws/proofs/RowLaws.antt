@@ -46,7 +46,7 @@ no_refusal None e = refl
 no_refusal (Some refused) e = absurd cc
 
 -- a good stream has its row
-good_row : (d : Domain) (asked : Asked) → is_good d asked ≡ true → row_of_stream d asked ≡ Some (granted_row d 0 0 asked)
+pub good_row : (d : Domain) (asked : Asked) → is_good d asked ≡ true → row_of_stream d asked ≡ Some (granted_row d 0 0 asked)
 good_row d asked good = ap (row_unless d asked) (no_refusal (form_refusal d asked) good)
 
 -- the row that covers an offer of a listed stream is that stream's
@@ -91,7 +91,7 @@ module _ (rows : RowsAreOfList) (cycles : ℕ) (s : Scenario) (requests : List A
       }
 
   -- so it leads to each listed listener
-  leads_by : (asked : Asked) (row : Row) (to : Option Listener) → IsOwnRow d asked row →
+  pub leads_by : (asked : Asked) (row : Row) (to : Option Listener) → IsOwnRow d asked row →
       Contains (listeners_by d (told_cost d (told_streams requests) asked) (row_of_stream d asked)) to →
       (hop : Hop) × Contains (listeners_of d row) hop × (name_of_listener to ≡ Some (name_of_end d hop.link))
   leads_by asked row to own among =

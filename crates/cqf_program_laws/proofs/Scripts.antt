@@ -56,7 +56,7 @@ parted (Ok x) (Err e) found h = absurd (cc)
 parted (Ok x) (Ok xs) found h = (x, xs, refl, refl, cc)
 
 -- what is found is what was there
-there : {A E : Type 0} (found : Option A) (fault : E) (x : A) → ok_or found fault ≡ Ok x → found ≡ Some x
+pub there : {A E : Type 0} (found : Option A) (fault : E) (x : A) → ok_or found fault ≡ Ok x → found ≡ Some x
 there None fault x h = absurd (cc)
 there (Some y) fault x h = cc
 

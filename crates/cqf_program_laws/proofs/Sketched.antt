@@ -34,10 +34,10 @@ was_settled name (Ok x) settled h = cc
 
 module _ (sketch : SketchDomain) (d : Domain) where
   -- what a stream has that is settled in a domain
-  record IsSettled (stream : StreamText) (settled : SettledStream) : Type 0 where
-    name : settled.name ≡ stream.name
-    traffic : settled.traffic ≡ stream.traffic
-    deadline : deadline_of_stream sketch d stream ≡ Ok settled.deadline
+  pub record IsSettled (stream : StreamText) (settled : SettledStream) : Type 0 where
+    pub name : settled.name ≡ stream.name
+    pub traffic : settled.traffic ≡ stream.traffic
+    pub deadline : deadline_of_stream sketch d stream ≡ Ok settled.deadline
 
   -- after its path is settled
   abbrev behind_way : List (List ℕ) → StreamText → SettledWay → Result SettledStream PlanFault
@@ -66,7 +66,7 @@ module _ (sketch : SketchDomain) (d : Domain) where
       let made : SettledStream = record { name = stream.name; octets = stream.octets; pacing = stream.pacing; way = b.0; deadline = e.0; traffic = stream.traffic } in
       subst (IsSettled stream) (same_ok made settled e.2) (record { name = refl; traffic = refl; deadline = e.1 })
 
-  next_settled : (before : List (List ℕ)) (stream : StreamText) (settled : SettledStream) → settled_next sketch d before stream ≡ Ok settled →
+  pub next_settled : (before : List (List ℕ)) (stream : StreamText) (settled : SettledStream) → settled_next sketch d before stream ≡ Ok settled →
       IsSettled stream settled
   next_settled before stream settled h =
       is_settled before stream settled

@@ -1,11 +1,17 @@
 -- What a summary says about a script over its streams.
-use Rattle.std.specs.Prelude.{ℕ, ◌≡◌, ◌+◌, ◌≤◌, Contains, List, Ok, Some}
+use Rattle.std.specs.Prelude.{ℕ, ◌≡◌, ◌+◌, ◌≤◌, ◌&&◌, Bool, Contains, List, [], ◌∷◌, Ok, Option, Some, count_by, filter, length}
+use Rattle.std.specs.List.{list_any}
+use Rattle.cqf_model.specs.declared.frames.Offered.{Offered}
 use Rattle.cqf_model.specs.declared.limits.Limits.{Limits}
 use Rattle.cqf_model.specs.declared.topology.Hop.{Hop}
+use Rattle.cqf_model.specs.declared.topology.Row.{Row}
 use Rattle.cqf_model.specs.Book.{Contents}
-use Rattle.cqf_model.specs.Domain.{Domain}
+use Rattle.cqf_model.specs.Domain.{Domain, is_text}
 use Rattle.cqf_model.specs.History.{Asked}
 use Rattle.cqf_model.specs.Limits.{most_cycles}
+use Rattle.cqf_model.specs.Run.{Run}
+use Rattle.cqf_model.specs.Shift.{IsCovered}
+use Rattle.cqf_model.specs.Traffic.{numbered}
 use Rattle.cqf_laws_history.specs.StateLaws.{granted_row}
 use Rattle.cqf_laws_timing.specs.Latency.{least_of}
 use Rattle.cqf_topology.specs.DomainText.{IsDomain}
@@ -16,11 +22,17 @@ use Rattle.cqf_program_scenario.specs.Scenario.{Scenario}
 use Rattle.cqf_program_plans.specs.EndNames.{name_of_end}
 use Rattle.cqf_program_plans.specs.Latency.Input.{asked_in}
 use Rattle.cqf_program_plans.specs.Latency.Text.{listeners_of}
+use Rattle.cqf_program_runs.specs.declared.deliveries.delivery.Delivery.{Delivery}
+use Rattle.cqf_program_runs.specs.declared.deliveries.delivery.Fate.{Fate}
+use Rattle.cqf_program_runs.specs.Check.Checked.{is_delivered, is_under_way}
+use Rattle.cqf_program_runs.specs.Deliveries.{fate_of}
+use Rattle.cqf_program_runs.specs.Deliveries.ArrivalLaws.{told_of_frame}
 use Rattle.cqf_program_runs.specs.Deliveries.PlannedScenario.{planned_scenario, run_of_scenario}
 use Rattle.cqf_program_summary.specs.declared.summary.fares.Listener.{Listener}
 use Rattle.cqf_program_summary.specs.declared.summary.fares.ListenerWay.{ListenerWay}
 use Rattle.cqf_program_summary.specs.declared.summary.tallies.LatencySummary.{LatencySummary}
-use Rattle.cqf_program_summary.specs.Summary.{Fare, summary_of}
+use Rattle.cqf_program_summary.specs.Summary.{Fare, name_of_listener, offers_within, summary_of}
+use Rattle.cqf_program_summary.specs.Summary.Tallies.{is_dropped, is_late, reaches}
 use Rattle.cqf_program_summary.specs.Summary.Told.{told_streams}
 
 -- a script over streams that was read within limits, and its one-thread book
@@ -63,3 +75,51 @@ LatenciesAreBounded =
     (taken : LatencySummary) →
     IsReadRun limits cycles input s streams book → IsRowOf cycles s streams book fare way → way.tally.taken ≡ Some taken →
     AreWithinBounds s.domain (asked_in streams) fare way taken
+
+-- the offers that a row counts: those of its stream in the cycles that are run
+abbrev pub offers_of_row : Run → Fare → List Offered
+offers_of_row run fare =
+    filter (λ (x : Offered). is_text x.offer.stream fare.name) (offers_within run.domain (length run.tables) (numbered run.offers))
+
+-- whether the frame of an offer has a delivery to this listener with such a fate; and whether it is dropped
+abbrev pub ends_there : Run → List PlannedText → Contents → Option Listener → (Fate → Bool) → Offered → Bool
+ends_there run streams book to is x =
+    list_any (λ (y : Delivery). reaches (name_of_listener to) y.passage && is (fate_of y)) (told_of_frame run streams book x.frame)
+
+abbrev pub ends_dropped : Run → List PlannedText → Contents → Offered → Bool
+ends_dropped run streams book x = list_any (λ (y : Delivery). is_dropped (fate_of y)) (told_of_frame run streams book x.frame)
+
+-- each number of a row is the number of its offers that end that way, and each of its offers ends in exactly one of the four ways
+pub record CountsEachOnce (run : Run) (streams : List PlannedText) (book : Contents) (fare : Fare) (way : ListenerWay) : Type 0 where
+  pub offered : fare.offered ≡ length (offers_of_row run fare)
+  pub delivered : way.tally.delivered ≡ count_by (ends_there run streams book way.to is_delivered) (offers_of_row run fare)
+  pub late : way.tally.late ≡ count_by (ends_there run streams book way.to is_late) (offers_of_row run fare)
+  pub dropped : fare.dropped ≡ count_by (ends_dropped run streams book) (offers_of_row run fare)
+  pub under_way : way.tally.under_way ≡ count_by (ends_there run streams book way.to is_under_way) (offers_of_row run fare)
+  pub once : (x : Offered) → Contains (offers_of_row run fare) x →
+      count_by (λ (ends : Bool). ends)
+      (ends_there run streams book way.to is_delivered x ∷ ends_there run streams book way.to is_late x ∷ ends_dropped run streams book x
+      ∷ ends_there run streams book way.to is_under_way x ∷ [])
+      ≡ 1
+
+-- this holds of each row, in every such run
+abbrev pub EachOfferCountsOnce : Type 0
+EachOfferCountsOnce =
+    (limits : Limits) (cycles : ℕ) (input : List ℕ) (s : Scenario) (streams : List PlannedText) (book : Contents) (fare : Fare) (way : ListenerWay) →
+    IsReadRun limits cycles input s streams book → IsRowOf cycles s streams book fare way →
+    CountsEachOnce (run_of_scenario cycles s) streams book fare way
+
+-- a row of a summary for a stream's listener
+pub record HasRowFor (cycles : ℕ) (s : Scenario) (streams : List PlannedText) (book : Contents) (stream listener : List ℕ) : Type 0 where
+  pub fare : Fare
+  pub way : ListenerWay
+  pub is_row : IsRowOf cycles s streams book fare way
+  pub of_stream : fare.name ≡ stream
+  pub to_listener : name_of_listener way.to ≡ Some listener
+
+-- each listener to which a covered offer goes has its row
+abbrev pub EachListenerHasARow : Type 0
+EachListenerHasARow =
+    (limits : Limits) (cycles : ℕ) (input : List ℕ) (s : Scenario) (streams : List PlannedText) (book : Contents) (x : Offered) (row : Row) (hop : Hop) →
+    IsReadRun limits cycles input s streams book → IsCovered (run_of_scenario cycles s) x row → Contains (listeners_of s.domain row) hop →
+    HasRowFor cycles s streams book x.offer.stream (name_of_end s.domain hop.link)

@@ -8,11 +8,15 @@
 //! ```
 #![tactic(auto)]
 
+ghost use Rattle.cqf_program_laws.specs.OutputLaws.{DeliveriesAreAsWritten, RunsKeepToldPlans, ThreadsAreAsWritten, ThreadsKeepToldPlans};
+ghost use Rattle.cqf_program_laws.specs.OutputLaws.{WrittenLatenciesAreBounded, WrittenRowsAddUp};
 ghost use Rattle.cqf_program_laws.specs.PlanLaws.{DeadlinesOfSketchesAreKept, DeadlinesRunFromTalkers, PlansKeepTheirWord};
 ghost use Rattle.cqf_program_laws.specs.PlanLaws.{PlansKeepTheirWordLoosely, PlansKeepTheirWordOnThreads, PlansKeepTheirWordToScripts, SettledStreamsAreOfSketches};
+ghost use Rattle.cqf_program_laws.specs.ReaderLaws.{FlowsArePlanned, PlannedScenariosAreScenarios, PlannedStreamsArePaced, ReadersAgreeOnParts, ScenariosMayBeRun};
 ghost use Rattle.cqf_program_laws.specs.ScriptLaws.{AccountsAdmitOnly, HistoriesAdmitOnly, HistoriesAreLegal};
 ghost use Rattle.cqf_program_laws.specs.ScriptLaws.{PlannedScenariosAskOnly, ScenariosAskOnly, ScriptsAskOnly};
-ghost use Rattle.cqf_program_laws.specs.SummaryLaws.{LatenciesAreBounded, RowsAddUp};
+ghost use Rattle.cqf_program_laws.specs.SummaryLaws.{EachListenerHasARow, EachOfferCountsOnce, LatenciesAreBounded, RowsAddUp};
+ghost use Rattle.cqf_program_laws.specs.ToldPlans.{ToldPlansRun};
 ghost use Rattle.cqf_program_laws.specs.VerdictLaws.{VerdictsHoldOfAccounts, VerdictsHoldOfDeliveries, VerdictsHoldOfScripts};
 
 /// The calls of a script request no stream but those of its streams text. So its history admits no other, on one thread and in each account
@@ -93,6 +97,18 @@ pub fn summaries_add_up()
     cqf_program_runs::each_is_told_once();
 }
 
+/// Each number of a row of `summary` is the number of the stream's offers that end that way at the row's listener, and each of these offers
+/// ends in exactly one of the four ways: delivered, late, dropped or under way. Each listener to which a covered offer goes has a row.
+pub fn each_offer_counts_once()
+    ensures once { EachOfferCountsOnce }
+    ensures rows { EachListenerHasARow }
+{
+    scripts_admit_only();
+    cqf_laws_timing::lists_bound_costs();
+    cqf_laws_history::tables_are_orderly();
+    cqf_program_runs::each_is_told_once();
+}
+
 /// The times that frames took to the listener of a row of `summary` are between the least that `latency` has for the last link of their
 /// path and the row's bound, in every such script.
 pub fn summaries_are_within_bounds()
@@ -103,4 +119,59 @@ pub fn summaries_are_within_bounds()
     cqf_laws_timing::lists_bound_latencies();
     cqf_laws_history::tables_are_orderly();
     cqf_program_runs::arrivals_are_the_shift();
+}
+
+/// What one command reads in an input, the others read there too. A streams text that is read with its deadlines is read without them as
+/// the same requests, so an input that `deliveries`, `check` and `summary` accept is accepted by `run`, `report` and `run --threads` as the
+/// same scenario. Each scenario that is accepted may be run: its domain is well-formed, there is room for its calls, and its frames are
+/// frames of the domain, in order.
+pub fn readers_agree()
+    ensures flows { FlowsArePlanned }
+    ensures streams { PlannedStreamsArePaced }
+    ensures parts { ReadersAgreeOnParts }
+    ensures inputs { PlannedScenariosAreScenarios }
+    ensures may_run { ScenariosMayBeRun }
+{}
+
+/// Each text that `plan` writes is read as its plan by every command, within the same limits. The plan's domain is well-formed, its streams
+/// are all admitted before cycle 0, each reserves as much as its talker needs in a cycle, and none may miss its deadline. So the laws about
+/// plans that keep their word need only that `plan` wrote the text.
+pub fn told_plans_run()
+    ensures { ToldPlansRun }
+{
+    cqf_plants::told_plants_read_back();
+    cqf_program_sketch::told_plan_is_admitted();
+}
+
+/// A plan keeps its word in each output of `run` and of `run --threads` whose input begins with a text that `plan` wrote within the same limits.
+/// Nothing else is required of the plan or of the scenario. Each frame that the plan promises is covered, and whole at each of its stream's
+/// listeners in time. A run has at most 100,000 cycles.
+pub fn outputs_keep_told_plans()
+    ensures runs { RunsKeepToldPlans }
+    ensures threads { ThreadsKeepToldPlans }
+{
+    readers_agree();
+    told_plans_run();
+    told_plans_keep_their_word();
+}
+
+/// What an output of `latency` says about a domain's text and its streams holds for each output of `deliveries` whose input begins with these
+/// texts: no delivery is late for which it says `in-time`, each one that arrives is late for which it says `late`, and each takes no less than
+/// `least` and no more than `most`. The same holds for the deliveries in the book of each output of `run --threads`.
+pub fn deliveries_are_as_written()
+    ensures deliveries { DeliveriesAreAsWritten }
+    ensures threads { ThreadsAreAsWritten }
+{
+    readers_agree();
+    told_verdicts_hold();
+}
+
+/// The rows of each output of `summary` add up, and their times are within the bounds of `latency`.
+pub fn summaries_are_as_written()
+    ensures rows { WrittenRowsAddUp }
+    ensures bounds { WrittenLatenciesAreBounded }
+{
+    readers_agree();
+    summaries_add_up();
+    summaries_are_within_bounds();
 }

@@ -1,0 +1,239 @@
+-- The commands read the same in the same input.
+use Rattle.std.proofs.Common.{◌≡◌, ◌∙◌, ◌∷◌, [], ℕ, Bool, true, false, List, Option, Some, None, Result, Ok, Err, ap, map, refl, subst, sym}
+use Rattle.std.specs.Prelude.{if◌then◌else◌, ok_or, option_and_then, option_map}
+use Rattle.std.specs.Option.{option_or}
+use Rattle.std.proofs.lemmas.Simd.{map-map}
+use Rattle.toml.specs.Data.{Data, Items, Members, as_array, as_table, item, no_items}
+use Rattle.cqf_lists.specs.Results.{and_then, refuse}
+use Rattle.cqf_model.specs.declared.limits.Limits.{Limits}
+use Rattle.cqf_model.specs.declared.frames.Background.{Background}
+use Rattle.cqf_model.specs.declared.frames.Offer.{Offer}
+use Rattle.cqf_model.specs.Domain.{Domain}
+use Rattle.cqf_model.specs.History.{Asked}
+use Rattle.cqf_text.specs.Lines.{lines_of}
+use Rattle.cqf_text.specs.Parts.{parts_of}
+use Rattle.cqf_topology.specs.declared.faults.DomainFault.{DomainFault}
+use Rattle.cqf_topology.specs.declared.keys.Key.TheVariants.{Streams}
+use Rattle.cqf_topology.specs.declared.toml_faults.TomlFault.{TomlFault}
+use Rattle.cqf_topology.specs.declared.toml_faults.TomlFault.TheVariants.{BadValue, Missing}
+use Rattle.cqf_topology.specs.DomainText.{domain_within}
+use Rattle.cqf_topology.specs.Fields.{and_first, are_tables, document_of, each_from, first_absent, first_absent_within, first_missing, read_at, tables_from}
+use Rattle.cqf_topology.specs.Fields.{tables_of_key, value_at, whole_document}
+use Rattle.cqf_topology.specs.PacedText.{PacedText, paced_from, paced_of_text}
+use Rattle.cqf_topology.specs.PlannedText.{PlannedText, deadline_from, planned_from, planned_of_text}
+use Rattle.cqf_topology.specs.StreamsText.{stream_keys, streams_keys}
+use Rattle.cqf_topology.proofs.Refusals.{and_then-Ok, ok_or-Ok, refuse-Ok}
+use Rattle.cqf_traffic.specs.declared.faults.FlowsFault.{FlowsFault}
+use Rattle.cqf_traffic.specs.declared.faults.FlowsFault.TheVariants as flows_fault
+use Rattle.cqf_traffic.specs.FlowsText.{FlowText, first_lack, first_lack_of, first_lack_within, flow_from, flows_from, flows_in, flows_of_array, or_streams}
+use Rattle.cqf_traffic.specs.FlowsText.{traffic_or}
+use Rattle.cqf_traffic.specs.TrafficText.{first_owed}
+use Rattle.cqf_admission.specs.Asking.{asked_by}
+use Rattle.cqf_admission.specs.Script.{Called, administrators, script_of}
+use Rattle.cqf_output.specs.Stops.{or_line}
+use Rattle.cqf_program_scenario.specs.Lines.{domain_line, script_line, streams_line}
+use Rattle.cqf_program_scenario.specs.Parts.{RunTexts, run_parts}
+use Rattle.cqf_program_scenario.specs.Scenario.{Scenario, calls_in, frames_of_part, scenario_behind, scenario_of}
+use Rattle.cqf_program_plans.specs.Latency.Input.{asked_in}
+use Rattle.cqf_program_plans.proofs.CompileLemmas.{same_ok}
+use Rattle.cqf_program_runs.specs.Deliveries.PlannedScenario.{planned_scenario, planned_scenario_of}
+use Rattle.cqf_program_laws.specs.ReaderLaws.{FlowsArePlanned, PlannedScenariosAreScenarios, PlannedStreamsArePaced, ReadersAgreeOnParts}
+use Rattle.cqf_program_laws.proofs.Scripts.{lined, parted, stepped}
+
+-- ---- elements of an array
+
+-- elements that are read in one way are read in another
+each_as : {A B E F : Type 0} (read : Data → Result A E) (other : Data → Result B F) (f : A → B) →
+    ((d : Data) (x : A) → read d ≡ Ok x → other d ≡ Ok (f x)) → (items : Items) (xs : List A) → each_from read items ≡ Ok xs →
+    each_from other items ≡ Ok (map f xs)
+each_as {A} read other f same no_items xs h =
+    let none : [] ≡ xs = same_ok {A = List A} [] xs h in
+    ap (λ (ys : List A). Ok (map f ys)) none
+each_as {A} read other f same (item d ds) xs h =
+    let p = parted (read d) (each_from read ds) xs h in
+    let first = same d p.0 p.2 in
+    let rest = each_as read other f same ds p.1 p.3 in
+    (λ i. and_first (first i) (rest i)) ∙ ap (λ (ys : List A). Ok (map f ys)) (sym p.4)
+
+-- an element of the array of streams, and the array, if its elements are tables
+abbrev element : {A : Type 0} → (Members → Result A TomlFault) → Data → Result A TomlFault
+element reader d = and_then (ok_or (as_table d) (BadValue Streams)) reader
+
+abbrev tables_in : {A : Type 0} → (Members → Result A TomlFault) → Items → Result (List A) TomlFault
+tables_in reader items = if are_tables items then tables_from Streams reader items else Err (BadValue Streams)
+
+-- ---- streams with their deadlines
+
+one_paced : (table : Members) (planned : PlannedText) → planned_from table ≡ Ok planned → paced_from table ≡ Ok planned.0
+one_paced table planned h =
+    let (request, paced, h1) = and_then-Ok (paced_from table) _ planned h in
+    let (deadline, at, h2) = and_then-Ok (deadline_from table) _ planned h1 in
+    let made : PlannedText = (request, deadline) in
+    paced ∙ ap (λ (p : PlannedText). Ok p.0) (same_ok made planned h2)
+
+element_paced : (d : Data) (planned : PlannedText) → element planned_from d ≡ Ok planned → element paced_from d ≡ Ok planned.0
+element_paced d planned h =
+    let (table, at, h1) = and_then-Ok (ok_or (as_table d) (BadValue Streams)) planned_from planned h in
+    ap (λ found. and_then found paced_from) at ∙ one_paced table planned h1
+
+array_paced : (items : Items) (streams : List PlannedText) → tables_in planned_from items ≡ Ok streams →
+    tables_in paced_from items ≡ Ok (map (λ (planned : PlannedText). planned.0) streams)
+array_paced items streams h = by (are_tables items) h
+  where
+    by : (b : Bool) → (if b then tables_from Streams planned_from items else Err (BadValue Streams)) ≡ Ok streams →
+        (if b then tables_from Streams paced_from items else Err (BadValue Streams)) ≡ Ok (map (λ (planned : PlannedText). planned.0) streams)
+    by true read = each_as (element planned_from) (element paced_from) (λ (planned : PlannedText). planned.0) element_paced items streams read
+    by false read = absurd (cc)
+
+pub planned_streams_are_paced : PlannedStreamsArePaced
+planned_streams_are_paced text streams h =
+    let (table, whole, h1) = and_then-Ok (whole_document streams_keys Streams stream_keys text) (tables_of_key Streams planned_from) streams h in
+    let (items, at, h2) = and_then-Ok (read_at Streams as_array table) (tables_in planned_from) streams h1 in
+    ap (λ found. and_then found (tables_of_key Streams paced_from)) whole
+    ∙ ap (λ found. and_then found (tables_in paced_from)) at ∙ array_paced items streams h2
+
+-- ---- streams with their traffic
+
+-- what was read, before its faults were converted
+of_streams : {A : Type 0} (found : Result A TomlFault) (x : A) → or_streams found ≡ Ok x → found ≡ Ok x
+of_streams (Ok y) x h = cc
+of_streams (Err e) x h = absurd (cc)
+
+-- of two answers neither is there
+neither : {A : Type 0} (first later : Option A) → option_or first later ≡ None → (first ≡ None) × (later ≡ None)
+neither None later h = (refl, h)
+neither (Some x) later h = absurd (cc)
+
+unmapped : {A B : Type 0} (f : A → B) (found : Option A) → option_map f found ≡ None → found ≡ None
+unmapped f None h = refl
+unmapped f (Some x) h = absurd (cc)
+
+-- a table that lacks no key of a stream with traffic lacks no key of a stream
+table_lacks : (found : Option Members) → option_and_then first_lack found ≡ None → option_and_then (first_absent stream_keys) found ≡ None
+table_lacks None h = refl
+table_lacks (Some table) h =
+    let absent = option_map (λ key. flows_fault.Streams (Missing key)) (first_absent stream_keys table) in
+    unmapped (λ key. flows_fault.Streams (Missing key)) (first_absent stream_keys table)
+    (neither absent (option_map flows_fault.Missing (first_owed table)) h).0
+
+tables_lack : (items : Items) → first_lack_within items ≡ None → first_absent_within stream_keys items ≡ None
+tables_lack no_items h = refl
+tables_lack (item d ds) h =
+    let two = neither (option_and_then first_lack (as_table d)) (first_lack_within ds) h in
+    let first = table_lacks (as_table d) two.0 in
+    let rest = tables_lack ds two.1 in
+    λ i. option_or (first i) (rest i)
+
+array_lacks : (found : Option Items) → option_and_then first_lack_within found ≡ None → option_and_then (first_absent_within stream_keys) found ≡ None
+array_lacks None h = refl
+array_lacks (Some items) h = tables_lack items h
+
+-- so no key of the document is missing
+whole_with_keys : (text : List ℕ) (table : Members) → whole_document streams_keys Streams [] text ≡ Ok table → first_lack_of table ≡ None →
+    whole_document streams_keys Streams stream_keys text ≡ Ok table
+whole_with_keys text table h lack =
+    let (read, document, checks) =
+    and_then-Ok (document_of text) (λ (found : Members). refuse (first_missing streams_keys Streams [] found) Missing (Ok found)) table h in
+    let (none, same) = refuse-Ok (first_missing streams_keys Streams [] read) Missing (Ok read) table checks in
+    let keys = (neither (first_absent streams_keys read)
+    (option_and_then (first_absent_within []) (option_and_then as_array (value_at Streams read))) none).0 in
+    let is : read ≡ table = same_ok read table same in
+    let own : first_absent streams_keys table ≡ None = subst (λ (found : Members). first_absent streams_keys found ≡ None) is keys in
+    let within = array_lacks (option_and_then as_array (value_at Streams table)) lack in
+    ap (λ found. and_then found (λ (t : Members). refuse (first_missing streams_keys Streams stream_keys t) Missing (Ok t))) (document ∙ same)
+    ∙ (λ i. refuse (option_or (own i) (within i)) Missing (Ok table))
+
+flow_planned : (table : Members) (flow : FlowText) → flow_from table ≡ Ok flow → planned_from table ≡ Ok flow.0
+flow_planned table flow h =
+    let (planned, at, h1) = and_then-Ok (or_streams (planned_from table)) _ flow h in
+    let (traffic, at_traffic, h2) = and_then-Ok (traffic_or table) _ flow h1 in
+    let made : FlowText = (planned, traffic) in
+    of_streams (planned_from table) planned at ∙ ap (λ (f : FlowText). Ok f.0) (same_ok made flow h2)
+
+abbrev no_table : FlowsFault
+no_table = flows_fault.Streams (BadValue Streams)
+
+abbrev flow_element : Data → Result FlowText FlowsFault
+flow_element d = and_then (ok_or (as_table d) no_table) flow_from
+
+element_planned : (d : Data) (flow : FlowText) → flow_element d ≡ Ok flow → element planned_from d ≡ Ok flow.0
+element_planned d flow h =
+    let (table, at, read) = and_then-Ok (ok_or (as_table d) no_table) flow_from flow h in
+    let is = ok_or-Ok (as_table d) no_table table at in
+    ap (λ found. and_then (ok_or found (BadValue Streams)) planned_from) is ∙ flow_planned table flow read
+
+array_planned : (items : Items) (flows : List FlowText) → flows_of_array items ≡ Ok flows →
+    tables_in planned_from items ≡ Ok (map (λ (flow : FlowText). flow.0) flows)
+array_planned items flows h = by (are_tables items) h
+  where
+    by : (b : Bool) → (if b then flows_from items else Err no_table) ≡ Ok flows →
+        (if b then tables_from Streams planned_from items else Err (BadValue Streams)) ≡ Ok (map (λ (flow : FlowText). flow.0) flows)
+    by true read = each_as flow_element (element planned_from) (λ (flow : FlowText). flow.0) element_planned items flows read
+    by false read = absurd (cc)
+
+pub flows_are_planned : FlowsArePlanned
+flows_are_planned text flows h =
+    let (table, whole, read) = and_then-Ok (or_streams (whole_document streams_keys Streams [] text)) _ flows h in
+    let (lack, all) = refuse-Ok (first_lack_of table) (λ (found : FlowsFault). found) (flows_in table) flows read in
+    let (items, at, array) = and_then-Ok (or_streams (read_at Streams as_array table)) flows_of_array flows all in
+    let document = whole_with_keys text table (of_streams (whole_document streams_keys Streams [] text) table whole) lack in
+    ap (λ found. and_then found (tables_of_key Streams planned_from)) document
+    ∙ ap (λ found. and_then found (tables_in planned_from)) (of_streams (read_at Streams as_array table) items at) ∙ array_planned items flows array
+
+-- ---- the parts of an input
+
+abbrev Read : Type 0
+Read = Scenario × List PlannedText
+
+-- the scenario with its frames, and with its streams
+abbrev made_by : RunTexts → Domain → List Called → Result Scenario (List ℕ)
+made_by texts d calls = and_then (frames_of_part d texts) (λ (frames : List Offer × List Background). Ok (record {
+  domain = d;
+  calls = calls;
+  sealer = administrators (lines_of texts.script);
+  offers = frames.0;
+  background = frames.1;
+}))
+
+abbrev with_scenario : List PlannedText → Scenario → Result Read (List ℕ)
+with_scenario streams scenario = Ok (scenario, streams)
+
+abbrev with_streams : ℕ → RunTexts → Domain → List PlannedText → Result Read (List ℕ)
+with_streams cycles texts d streams = and_then (scenario_behind cycles d (asked_in streams) texts) (with_scenario streams)
+
+-- the script's calls, by the streams with their deadlines
+calls_are : (cycles : ℕ) (texts : RunTexts) (streams : List PlannedText) → planned_of_text texts.streams ≡ Ok streams →
+    calls_in cycles texts ≡ or_line script_line (script_of (asked_in streams) cycles texts.script)
+calls_are cycles texts streams h =
+    ap (λ found. and_then (or_line streams_line found) (λ (requests : List PacedText). or_line script_line (script_of (map asked_by requests) cycles texts.script)))
+    (planned_streams_are_paced texts.streams streams h)
+    ∙ ap (λ (asked : List Asked). or_line script_line (script_of asked cycles texts.script))
+    (map-map asked_by (λ (planned : PlannedText). planned.0) streams)
+
+pub readers_agree_on_parts : ReadersAgreeOnParts
+readers_agree_on_parts limits cycles texts streams h = by (domain_within limits texts.domain)
+  where
+    by : (found : Result Domain DomainFault) →
+        and_then (or_line domain_line found) (λ (d : Domain). and_then (or_line streams_line (planned_of_text texts.streams)) (with_streams cycles texts d))
+        ≡ and_then (and_then (or_line domain_line found) (λ (d : Domain). and_then (calls_in cycles texts) (made_by texts d))) (with_scenario streams)
+    by (Err fault) = refl
+    by (Ok d) =
+        ap (λ read. and_then (or_line streams_line read) (with_streams cycles texts d)) h
+        ∙ ap (λ calls. and_then (and_then calls (made_by texts d)) (with_scenario streams)) (sym (calls_are cycles texts streams h))
+
+-- ---- inputs
+
+pub planned_are_scenarios : PlannedScenariosAreScenarios
+planned_are_scenarios limits cycles input s streams h =
+    let t = stepped {B = Read} (run_parts (parts_of input)) (planned_scenario_of limits cycles) (s, streams) h in
+    let texts : RunTexts = t.0 in
+    let a = stepped {B = Read} (or_line domain_line (domain_within limits texts.domain))
+    (λ (d : Domain). and_then (or_line streams_line (planned_of_text texts.streams)) (with_streams cycles texts d)) (s, streams) t.2 in
+    let b = stepped {B = Read} (or_line streams_line (planned_of_text texts.streams)) (with_streams cycles texts a.0) (s, streams) a.2 in
+    let read = lined streams_line (planned_of_text texts.streams) b.0 b.1 in
+    let whole = sym (readers_agree_on_parts limits cycles texts b.0 read) ∙ t.2 in
+    let c = stepped {B = Read} (scenario_of limits cycles texts) (with_scenario b.0) (s, streams) whole in
+    let made : Read = (c.0, b.0) in
+    let found : Read = (s, streams) in
+    let same = same_ok made found c.2 in
+    ap (λ parts. and_then parts (scenario_of limits cycles)) t.1 ∙ c.1 ∙ ap (λ (r : Read). Ok r.0) same
