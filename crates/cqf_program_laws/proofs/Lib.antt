@@ -21,3 +21,4 @@ mod MayRun
 mod Tellable
 mod PlanTexts
 mod Outputs
+mod Repeated

@@ -5,3 +5,4 @@ pub mod SummaryLaws
 pub mod ReaderLaws
 pub mod ToldPlans
 pub mod OutputLaws
+pub mod CostLaws

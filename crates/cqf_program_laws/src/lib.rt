@@ -8,6 +8,7 @@
 //! ```
 #![tactic(auto)]
 
+ghost use Rattle.cqf_program_laws.specs.CostLaws.{HeldCostsRepeat, ListedCostsRepeat};
 ghost use Rattle.cqf_program_laws.specs.OutputLaws.{DeliveriesAreAsWritten, RunsKeepToldPlans, ThreadsAreAsWritten, ThreadsKeepToldPlans};
 ghost use Rattle.cqf_program_laws.specs.OutputLaws.{WrittenLatenciesAreBounded, WrittenRowsAddUp};
 ghost use Rattle.cqf_program_laws.specs.PlanLaws.{DeadlinesOfSketchesAreKept, DeadlinesRunFromTalkers, PlansKeepTheirWord};
@@ -175,3 +176,10 @@ pub fn summaries_are_as_written()
     summaries_add_up();
     summaries_are_within_bounds();
 }
+
+/// What streams that `load` lists cost of a link repeats after 80 cycles. So the greatest cost of 80 cycles, which is written as held, is the
+/// greatest of all cycles, and what is written as left is the least of all cycles. The same holds of the streams that a legal history holds.
+pub fn costs_repeat()
+    ensures listed { ListedCostsRepeat }
+    ensures held { HeldCostsRepeat }
+{}

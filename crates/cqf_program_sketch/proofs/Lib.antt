@@ -5,4 +5,4 @@ mod PlacedLemmas
 mod TriedLemmas
 mod TextLemmas
 mod ChoiceLemmas
-mod ReadSketches
+pub mod ReadSketches

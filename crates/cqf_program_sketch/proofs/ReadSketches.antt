@@ -43,7 +43,7 @@ with_these_edges text edges sketch e =
     cc
 
 -- the domain of a network file's text satisfies `IsSketch`
-read_is_sketch : (limits : Limits) (given : Option (List ℕ)) (text : List ℕ) (sketch : SketchDomain) → IfSome given AreCandidates →
+pub read_is_sketch : (limits : Limits) (given : Option (List ℕ)) (text : List ℕ) (sketch : SketchDomain) → IfSome given AreCandidates →
     sketch_domain_of_text limits given text ≡ Ok sketch → IsSketch sketch
 read_is_sketch limits given text sketch are e =
     let (draft, read, passed) = and_then-Ok (sketch_of_text limits given text) checked sketch e in
@@ -56,7 +56,7 @@ read_is_sketch limits given text sketch are e =
     (all_joined draft.bridges draft.stations 0 draft.links edges readable.times_are_read joined_are) bridges_apart stations_apart)
 
 -- and has the limits within which it was read
-read_limits : (limits : Limits) (given : Option (List ℕ)) (text : List ℕ) (sketch : SketchDomain) → sketch_domain_of_text limits given text ≡ Ok sketch →
+pub read_limits : (limits : Limits) (given : Option (List ℕ)) (text : List ℕ) (sketch : SketchDomain) → sketch_domain_of_text limits given text ≡ Ok sketch →
     sketch.limits ≡ limits
 read_limits limits given text sketch e =
     let (draft, read, passed) = and_then-Ok (sketch_of_text limits given text) checked sketch e in
