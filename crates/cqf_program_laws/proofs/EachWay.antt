@@ -1,4 +1,4 @@
--- Counts of elements of lists, of which each has at most one that counts.
+-- Counts of elements of lists, if each list has at most one element that counts.
 use Rattle.std.proofs.Common.{◌≡◌, ◌∙◌, ◌+◌, ◌∷◌, ◌≤◌, [], ℕ, Bool, true, false, Contains, List, ap, arith, count_by, filter, if◌then◌else◌, inl, inr, refl, sum_by, sym, zero-add}
 use Rattle.std.specs.Prelude.{◌||◌}
 use Rattle.std.specs.List.{flat_map, list_any}
