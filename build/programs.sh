@@ -186,8 +186,8 @@ want_files() {
     done
 }
 
-# builds the program of a name and sets `program`, unless the program is kept when the lock is taken. The other words are a command that gets two
-# more words, a copy of the sources and the file for the program. The build is kept with the hash of that copy, so later changes don't affect it
+# sets `program` to the program of a name, and builds it unless it is kept once the lock is taken. The other words are a command, which gets two
+# more words: a copy of the sources and the file for the program. The build is kept with the hash of that copy, so later changes don't affect it
 build() {
     local name=$1 of
     shift
