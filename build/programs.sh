@@ -1,14 +1,14 @@
-# What ./cqf, ./prove and ./test share: what the program's sources are, where its builds are kept, and how one is made. It is read, and not
-# run; `top` is the repository's top.
+# Functions that ./cqf, ./prove and ./test share: they find the program's sources, find the folder where builds are kept, and make a build. The
+# scripts source this file. `top` must be the top folder of the repository.
 
-# a file that may grow no more (`ulimit -f`) is a write that fails, an output fault of the program, and no signal that ends it
+# a write beyond the limit of `ulimit -f` fails, which the program reports as an output fault; no signal ends the program
 trap '' XFSZ
 
-# the folder of temporary files, from the root on
+# the absolute path of the folder for temporary files
 temporary=${TMPDIR:-/tmp}
 [[ $temporary == /* ]] || temporary=$PWD/$temporary
 
-# the lines of crates.txt for the crates that the program stands on, itself among them, lowest first: those that its own line leads to
+# prints the lines of crates.txt for the program's crate and all crates that it depends on, lowest first
 lines_of_crates() {
     awk -F: '
         !/^#/ && NF > 1 { split($1, words, " "); lines[words[1]] = $0; libraries[words[1]] = $2 }
@@ -23,12 +23,12 @@ lines_of_crates() {
     ' "$1/crates.txt"
 }
 
-# the names of those crates
+# prints the names of those crates
 stands_on() {
     lines_of_crates "$1" | sed 's/[ :].*//'
 }
 
-# finds the files that the program is made of, below the working folder; edits that proofs must refuse are none
+# finds the program's source files below the working folder, without the edits that proofs must refuse; the words are passed to `find`
 find_sources() {
     local names
     mapfile -t names < <(stands_on .)
@@ -36,32 +36,33 @@ find_sources() {
         -type f \( -name '*.rt' -o -name '*.antt' -o -name HANDLES \) "$@"
 }
 
-# the hash of the sources in a folder, by names and contents, with their lines of crates.txt
+# prints the hash of the sources in a folder: of their names and contents, and of the lines of crates.txt for their crates
 hash_of() {
     local told
     told=$(cd "$1" && { lines_of_crates . && find_sources -print0 | LC_ALL=C sort -z | xargs -0 sha256sum; } | sha256sum) || return
     echo "${told%% *}"
 }
 
-# what is the same where no source was written, replaced, added or removed: names, sizes and times. It is found in a third of the time
+# prints a stamp that stays the same unless a source is written, replaced, added or removed. It is a hash of names, sizes, inodes and times, and
+# takes a third of the time of `hash_of`
 stamp_of() {
     local told
     told=$(cd "$1" && { lines_of_crates . && find_sources -printf '%p %s %i %T@ %C@\n' | LC_ALL=C sort; } | sha256sum) || return
     echo "${told%% *}"
 }
 
-# whether a folder can be made and written
+# checks whether a folder exists or can be made, and can be written
 is_writable() {
     { [ -d "$1" ] || mkdir -p "$1" 2>/dev/null; } && [ -w "$1" ]
 }
 
-# whether a folder can be made and written, and is this user's own, so that nobody else puts a program there
+# checks whether a folder can be made and written, and belongs to this user, so that nobody else can put a program there
 is_own() {
     (umask 077 && is_writable "$1") && [ -O "$1" ] && [ -O "${1%/*}" ] && [ ! -L "${1%/*}" ]
 }
 
-# finds where builds are `kept`: in built/, and where that can't be written, in a folder of the user's for this copy of the repository, in
-# the cache or else among the temporary files. It is empty where there is none
+# sets `kept` to the folder where builds are kept: built/, or if that can't be written, a folder of the user for this copy of the repository, in
+# the cache or else among the temporary files; empty if no such folder can be written
 find_kept() {
     kept=$top/built
     ! is_writable "$kept" || return 0
@@ -74,7 +75,7 @@ find_kept() {
     kept=
 }
 
-# finds the `hash` of the sources here: the one that is kept with their stamp, else anew
+# sets `hash` to the hash of the sources here: the one that is kept with their present stamp, or else a new one
 find_hash() {
     local stamp folder told
     stamp=$(stamp_of "$top") || exit 2
@@ -85,7 +86,7 @@ find_hash() {
     [ -z "$kept" ] || { echo "$stamp $hash" >"$kept/stamp"; } 2>/dev/null || true
 }
 
-# finds the `program` of a name, `proved` or `quick`, that was built of the sources as they stand, if it is kept
+# sets `program` to the kept program of a name, `proved` or `quick`, that was built from the present sources; fails if none is kept
 find_program() {
     local folder told
     for folder in "$top/built" ${kept:+"$kept"}; do
@@ -95,7 +96,7 @@ find_program() {
     return 1
 }
 
-# ends where a command of the toolchain isn't there
+# ends with status 2 if a command of the toolchain is missing
 want_toolchain() {
     local command
     for command in rt python3; do
@@ -105,11 +106,11 @@ want_toolchain() {
     done
 }
 
-# the process that is under way, and the folder in which a build works
+# the running process, and the folder in which a build works
 attended=
 room=
 
-# runs words as a process group of its own, which ends where this shell is told to end, and without this shell's input
+# runs a command without input, as a process group of its own that ends if this shell is asked to end
 attend() {
     local status=0
     set -m
@@ -121,26 +122,26 @@ attend() {
     return "$status"
 }
 
-# runs words without the lock, so that nothing that they start holds it where this shell is killed
+# runs a command without the lock, so that none of its processes holds the lock if this shell is killed
 unlocked() {
     exec 9>&-
     "$@"
 }
 
-# ends what is under way, and removes what it would leave
+# ends the running process, and removes the files that it would leave
 clean_up() {
     if [ -n "$attended" ]; then
         kill -KILL -- "-$attended" || true
         wait "$attended" || true
     fi 2>/dev/null
-    # processes of the toolchain end just behind it, and may write until then
+    # processes of the toolchain end shortly after it, and may write until then
     [ -z "$room" ] || rm -rf "$room" 2>/dev/null || { sleep 1 && rm -rf "$room"; }
     [ -z "$room" ] || rm -f "$making.room" "$making.next"
     attended=''
     room=''
 }
 
-# takes the lock of a build, and waits where another has it. Both are told by the file alone, so that a killed build lets go of it
+# takes the lock of a build, and waits if another build has it. The lock is on the open file, so a killed build releases it
 LOCK='
 import fcntl, sys
 try:
@@ -154,7 +155,7 @@ except OSError as fault:
     sys.exit(1)
 '
 
-# removes what a build that was killed has left
+# removes the files that a killed build left
 sweep() {
     local left
     if [ -r "$making.room" ] && read -r left <"$making.room" && [[ $left == */cqf-room.?????? ]] && [ -O "$left" ]; then
@@ -163,7 +164,7 @@ sweep() {
     rm -f "$making.room" "$making.next"
 }
 
-# copies the sources of the crates that the program stands on, as a repository of their own
+# copies the sources of the crates that the program depends on, as a repository of their own
 lay_out() {
     local name
     mkdir -p "$1/.git" "$1/crates"
@@ -175,7 +176,7 @@ lay_out() {
     done
 }
 
-# ends where a folder stands at the place of one of these files
+# ends with status 2 if one of these files is a folder
 want_files() {
     local file
     for file; do
@@ -185,8 +186,8 @@ want_files() {
     done
 }
 
-# builds the `program` of a name, where it isn't kept once the lock is had: by words that are run in a copy of the sources, and leave it in
-# the file that they are told. What is built is kept with the hash of that copy; a source that changes meanwhile is none of it
+# sets `program` to the program of a name, and builds it unless it is kept once the lock is taken. The other words are a command, which gets two
+# more words: a copy of the sources and the file for the program. The build is kept with the hash of that copy, so later changes don't affect it
 build() {
     local name=$1 of
     shift
@@ -222,7 +223,7 @@ build() {
     exec 9>&-
 }
 
-# makes the quick program of a copy of the sources
+# makes the quick program from a copy of the sources
 make_quick() {
     echo "cqf: building the program unproved, optimised and with run-time checks, in three to four minutes; ./prove builds the proved one" >&2
     (cd "$1" && TMPDIR=${1%/*} "$top/build/quick" "$2" >&2) && [ -x "$2" ] && return
@@ -230,7 +231,7 @@ make_quick() {
     return 1
 }
 
-# finds the `program` that stands for these sources: the proved one where it is kept, else the quick one, which is built where it has to be
+# sets `program` to the program of these sources: the proved one if it is kept, else the quick one, which is built if necessary
 want_program() {
     find_kept
     find_hash

@@ -1,7 +1,7 @@
 """A virtual machine that runs a Debian kernel without a disk: what it needs, how it is built, and the files that it returns.
 
-QEMU counts instructions (`-icount`): one takes a nanosecond of the machine's time, and waiting takes no time at all. So the load of the host
-makes the machine slow but doesn't make it late.
+QEMU counts instructions (`-icount`). Each takes one nanosecond of the machine's time, and waiting takes no real time. So a busy host makes
+the machine slow, but not late.
 """
 import dataclasses
 import hashlib
@@ -39,7 +39,7 @@ PACKED = ((b"\x02\x21\x4c\x18", "lz4 -dc"), (b"\xfd7zXZ", "xz -dc --single-strea
 COMMAND_LINE = "console=ttyS0 loglevel=2 panic=-1 mitigations=off nokaslr no_timer_check tsc=reliable reboot=t audit=0 apparmor=0"
 # timers are late on `-cpu qemu64`
 QEMU = "-accel tcg -icount shift=0,sleep=off -M microvm,pit=on,pic=on,rtc=on,isa-serial=on -cpu max -m 512 -smp 1 -nodefaults -no-reboot"
-# a shell of BusyBox would take its own `ip` and not the one that stands there
+# a BusyBox shell would run its own `ip` instead of the one on the PATH
 FIRST = """#!/tools/dash
 /tools/busybox mkdir /bin /out
 /tools/busybox --install -s /bin
@@ -62,7 +62,7 @@ poweroff -f
 
 
 class Lacking(Exception):
-    """What is missing, and the packages that have it."""
+    """Reports what is missing, and the packages that have it."""
 
     def __init__(self, what: list[str], packages: list[str]) -> None:
         super().__init__(", ".join(what))
@@ -85,24 +85,24 @@ class Kernel:
         return self.modules is not None and self.headers.is_dir()
 
     def unpacked(self) -> bytes:
-        """The kernel itself, unpacked here, since the machine is slow."""
+        """Returns the kernel, unpacked by the host because the machine is slow."""
         text = self.image.read_bytes()
         at, size = struct.unpack_from("<II", text, 0x248)
         body = text[at + ((text[0x1F1] or 4) + 1) * 512 :][: size - 4]
         words = next((words for magic, words in PACKED if body.startswith(magic)), None)
         if words is None:
             raise Lacking([f"a way to unpack {self.image}"], [])
-        # lz4 complains of the four octets behind its end
+        # lz4 complains about the four octets after the end of its data
         return subprocess.run(words.split(), input=body, stdout=subprocess.PIPE, stderr=subprocess.DEVNULL, check=False).stdout
 
     def module(self, name: str) -> bytes | None:
-        """A module, or None if it is built into the kernel."""
+        """Returns a module, or None if it is built into the kernel."""
         for path in self.modules.rglob(f"{name}.ko*"):
             return lzma.decompress(path.read_bytes()) if path.suffix == ".xz" else path.read_bytes()
         return None
 
     def modules_for(self, names: list[str]) -> dict[str, bytes]:
-        """Modules with those that they depend on, in an order in which they can be loaded."""
+        """Returns modules and their dependencies, in an order in which they can be loaded."""
         found: dict[str, bytes] = {}
         for name in names:
             text = self.module(name) or self.module(name.replace("_", "-"))
@@ -115,7 +115,7 @@ class Kernel:
 
 
 def find_kernel(top: Path) -> Kernel | None:
-    """The newest kernel below a folder, of those that have modules and headers."""
+    """Returns the newest kernel below a folder that has modules and headers, or None."""
     versions = [it.name.removeprefix("vmlinuz-") for it in (top / "boot").glob("vmlinuz-*")]
     kernels = [Kernel(top, it) for it in sorted(versions, key=lambda it: [int(part) for part in re.findall(r"\d+", it)])]
     return next((it for it in reversed(kernels) if it.is_whole()), None)
@@ -130,19 +130,19 @@ class Around:
 
 
 def packages(names: Iterable[str] = PACKAGES, has_kernel: bool = False) -> list[str]:
-    """The packages of programs, and those of a kernel unless there is one. Each comes once."""
+    """Returns the packages of programs, and those of a kernel unless there is one, each once."""
     found = dict.fromkeys(package for name in names for package in PACKAGES[name].split())
     return [*found, *([] if has_kernel else KERNEL_PACKAGES)]
 
 
 def in_folder(name: str, folder: Path | None) -> str | None:
-    """The path of a program: in the folder if it is there, else as installed."""
+    """Returns the path of a program: in the folder if it is there, else as installed, or None."""
     places = [folder / it / name for it in ("sbin", "bin", "usr/sbin", "usr/bin")] if folder else []
     return next((str(it) for it in places if it.is_file()), None) or program(name)
 
 
 def look_around(top: Path, iproute: Path | None) -> Around:
-    """What the host has. Raises Lacking if something is missing."""
+    """Returns what the host has for the machine. Raises Lacking if something is missing."""
     lacking = [name for name in PACKAGES if not program(name)]
     kernel = find_kernel(top)
     if lacking or not kernel:
@@ -155,7 +155,7 @@ def look_around(top: Path, iproute: Path | None) -> Around:
 
 
 def cache() -> Path:
-    """The folder for what is built: in built/ of the repository, or a temporary one if that can't be written."""
+    """Returns the folder for build results: in built/ of the repository, or a temporary one if that can't be written."""
     folder = HERE.parent.parent / "built/tc-kernel"
     try:
         folder.mkdir(parents=True, exist_ok=True)
@@ -166,7 +166,7 @@ def cache() -> Path:
 
 
 def kept(name: str, sources: list[Path], kernel: Kernel, make: Callable[[], bytes]) -> bytes:
-    """What is made from these sources for this kernel. It is kept, and made only once."""
+    """Returns what `make` builds from these sources for this kernel. Builds it only once and keeps it."""
     size = kernel.image.stat()
     stamp = hashlib.sha256(f"{name} {kernel.image} {size.st_size} {size.st_mtime_ns}".encode() + b"".join(it.read_bytes() for it in sources))
     path = cache() / f"{name}-{stamp.hexdigest()[:16]}"
@@ -185,12 +185,12 @@ def build_frames() -> bytes:
 
 
 def build_module(kernel: Kernel) -> bytes:
-    """The module tsnsim. The Makefile of the headers expects them below /usr, so the one that it includes is used."""
+    """Builds the module tsnsim. The Makefile of the headers expects them below /usr, so the Makefile that it includes is used."""
     common = re.search(r"include \S*/([^/\s]+)/Makefile", (kernel.headers / "Makefile").read_text())
     makefile = kernel.headers.parent / common.group(1) / "Makefile" if common else kernel.headers / "Makefile"
     with tempfile.TemporaryDirectory() as room:
         shutil.copytree(HERE / "tsnsim", room, dirs_exist_ok=True)
-        # types for BPF aren't needed, and neither is the package that makes them
+        # BPF type information isn't needed, nor is the package that generates it
         words = ["make", "-C", kernel.headers, "-f", makefile, f"M={room}", "CONFIG_DEBUG_INFO_BTF_MODULES=", "modules"]
         made = subprocess.run(words, capture_output=True, text=True, check=False)
         if made.returncode != 0:
@@ -212,14 +212,14 @@ def built(kernel: Kernel) -> dict[str, bytes]:
 
 
 def with_libraries(path: str, name: str) -> dict[str, bytes]:
-    """A program under a name, and the libraries that it needs."""
+    """Returns a program under a name, and the libraries that it needs, by their paths."""
     files = {name: Path(path).read_bytes()}
     told = subprocess.run(["ldd", path], capture_output=True, text=True, check=False).stdout
     return files | {it.lstrip("/"): Path(it).read_bytes() for it in re.findall(r"(/lib\S+)", told)}
 
 
 def archive(files: dict[str, bytes]) -> bytes:
-    """An archive like one of `cpio -H newc`, with the folders of the files. Each file is executable."""
+    """Returns an archive in the format of `cpio -H newc`, with the files and their folders. Each file is executable."""
     folders = {str(above) for name in files for above in Path(name).parents if str(above) != "."}
     folders |= {"proc", "sys", "dev", "tmp", "run", "run/netns"}
     entries = [(it, 0o40755, b"") for it in sorted(folders)] + [(it, 0o100755, text) for it, text in sorted(files.items())]
@@ -232,7 +232,7 @@ def archive(files: dict[str, bytes]) -> bytes:
 
 
 def inside(around: Around, parts: dict[str, bytes], names: list[str]) -> tuple[dict[str, bytes], list[str]]:
-    """The machine's programs and modules, and the commands that load the modules."""
+    """Returns the machine's programs and modules, and the commands that load the modules."""
     files: dict[str, bytes] = {}
     for name, path in around.programs.items():
         files |= with_libraries(path, f"tools/{name}")
@@ -243,7 +243,7 @@ def inside(around: Around, parts: dict[str, bytes], names: list[str]) -> tuple[d
 
 
 def files_in(said: str) -> dict[str, str]:
-    """The files that the machine wrote, by name."""
+    """Returns the files that the machine wrote, by name."""
     found: dict[str, list[str]] = {}
     at: list[str] = []
     for line in said.splitlines():
@@ -257,12 +257,14 @@ def files_in(said: str) -> dict[str, str]:
 
 
 class Ended(Exception):
-    """The machine stopped too early or never; with the end of what it said."""
+    """Reports that the machine stopped too early or never, with the end of its output."""
 
 
 def run(around: Around, names: list[str], files: dict[str, str], main: list[str], has_ipv6: bool) -> dict[str, str]:
-    """Boots a kernel, loads modules, runs the commands `main` with `sh`, and returns the files that they wrote below /out. With
-    `has_ipv6`, namespaces can have IPv6, but don't by themselves."""
+    """Boots a kernel, loads modules, runs the commands `main` with `sh`, and returns the files that they wrote below /out.
+
+    With `has_ipv6`, namespaces can have IPv6, but it is off by default. Raises Ended if the machine doesn't reach its end within 30 minutes.
+    """
     parts = built(around.kernel)
     held, loading = inside(around, parts, names)
     held |= {name: text.encode() for name, text in files.items()}

@@ -1,4 +1,4 @@
-"""A plant as the trials use it: its script, its lists, the interfaces of its bridges, and the frames that are offered."""
+"""A plan as the trials use it: its script, its lists, the interfaces of its bridges, and the frames that are offered."""
 import csv
 import dataclasses
 import io
@@ -15,7 +15,7 @@ FIRST, BEHIND = 4, 12
 PORT = re.compile(r'^    port (\w+) "\$\{\1:-\}" (\S+) "interface of \S+ to (.*)"$')
 FRAMES = re.compile(r'^    frames \S+ "\$\{(\w+):-\}" "\$\{(\w+):-\}" (\S+)(?: (\d+))?$')
 
-# for each entry of a link: mask and time in ns. For each entry of a gate: `open` or `close`, time, class and octets, -1 for none
+# an entry of a link's list: mask and time in ns; an entry of a gate's list: `open` or `close`, time in ns, class and octets, -1 for none
 LinkList = list[tuple[int, int]]
 GateList = list[tuple[str, int, int, int]]
 
@@ -45,7 +45,7 @@ def without_cut(text: str) -> str:
 
 
 def frames_of(octets: int) -> Iterator[int]:
-    """The sizes of as few frames as possible that have so many octets together."""
+    """Yields the sizes of the fewest frames that have this number of octets together."""
     while octets > 0:
         size = min(octets, LONGEST)
         # the rest must be a frame too
@@ -56,7 +56,7 @@ def frames_of(octets: int) -> Iterator[int]:
 
 
 class Plan:
-    """The plan of a plant. The streams' addresses begin at `first_address`, so that two plans can have different ones."""
+    """The plan of a TOML file. The streams' addresses begin at `first_address`, so that two plans can have different ones."""
 
     def __init__(self, program: str, path: Path, form: tuple[str, ...] = ("--format", "tc"), first_address: int = 1) -> None:
         self.program, self.path, self.first_address = program, path, first_address
@@ -76,7 +76,7 @@ class Plan:
         self.variables = {bridge: dict(self.variables_of(bridge)) for bridge in self.bridges}
 
     def read_lists(self, text: str) -> tuple[dict[tuple[str, str], LinkList], dict[tuple[str, int], GateList]]:
-        """The lists that `compile` prints: those of links, and those of gates by bridge and stream."""
+        """Returns the lists that `compile` prints: those of links, and those of gates by bridge and stream."""
         links: dict[tuple[str, str], LinkList] = {}
         gates: dict[tuple[str, int], GateList] = {}
         for line in text.splitlines():
@@ -96,11 +96,11 @@ class Plan:
     # Interfaces
 
     def interface(self, node: str, other: str) -> str:
-        """The interface of a node to its neighbour."""
+        """Returns the interface of a node to its neighbour."""
         return f"n{self.nodes.index(node)}n{self.nodes.index(other)}"
 
     def talkers(self) -> list[tuple[str, str]]:
-        """The talkers, each with its bridge. Streams at one bridge have the same talker if their names are the same up to the first `-`."""
+        """Returns the talkers, each with its bridge. Streams at one bridge have the same talker if their names are the same up to the first `-`."""
         return sorted({self.talker_of(number) for number in range(len(self.streams))})
 
     def talker_of(self, number: int) -> tuple[str, str]:
@@ -110,15 +110,15 @@ class Plan:
         return self.talkers().index(self.talker_of(number))
 
     def to_talker(self, bridge: str, talker: int) -> str:
-        """The interface of a bridge to a talker."""
+        """Returns the interface of a bridge to a talker."""
         return f"n{self.bridges.index(bridge)}t{talker}"
 
     def edge(self, number: int) -> str:
-        """A stream's first bridge."""
+        """Returns a stream's first bridge."""
         return self.streams[number]["paths"][0][0]
 
     def way_in(self, bridge: str, number: int) -> str:
-        """The interface by which a stream comes to a bridge."""
+        """Returns the interface at which a stream enters a bridge."""
         path = next(it for it in self.streams[number]["paths"] if bridge in it)
         place = path.index(bridge)
         return self.interface(bridge, path[place - 1]) if place else self.to_talker(bridge, self.talker(number))
@@ -132,12 +132,12 @@ class Plan:
     # The script
 
     def function_of(self, bridge: str) -> list[str]:
-        """The lines of a bridge's function."""
+        """Returns the lines of a bridge's function."""
         name = re.search(rf'^"{re.escape(bridge)}"\) (\w+) ;;$', self.script, re.M).group(1)
         return re.search(rf"^{name}\(\) \{{\n(.*?)^\}}$", self.script, re.M | re.S).group(1).splitlines()
 
     def variables_of(self, bridge: str) -> Iterator[tuple[str, str]]:
-        """The variables of a bridge with their values, found by what its function says of them. Notes the indexes of its gates."""
+        """Yields the variables of a bridge with their values, by what its function says of them. Notes the indexes of its gates."""
         for line in self.function_of(bridge):
             if port := PORT.match(line):
                 name, neighbour, said = port.groups()
@@ -152,31 +152,32 @@ class Plan:
                 yield frames[2], str(self.vlan(number))
 
     def words_of(self, bridge: str) -> str:
-        """The variables of a bridge as words of `env`."""
+        """Returns the variables of a bridge as words for `env`."""
         return " ".join(f"{name}={value}" for name, value in self.variables[bridge].items())
 
     def ways_in(self, bridge: str) -> list[str]:
-        """The interfaces of a bridge that may have gates."""
+        """Returns the interfaces of a bridge that may have gates."""
         return sorted({value for name, value in self.variables[bridge].items() if name.startswith(("IN_", "TALKER_"))})
 
     def ways_out(self, bridge: str) -> dict[str, tuple[str, str]]:
-        """The interfaces of a bridge that have lists, with their links."""
+        """Returns the interfaces of a bridge that have lists, with their links."""
         return {self.interface(*link): link for link in self.links if link[0] == bridge}
 
     def gates_at(self, bridge: str) -> list[int]:
-        """The streams that have a gate at a bridge."""
+        """Returns the numbers of the streams that have a gate at a bridge."""
         return [number for at, number in self.gate_lists if at == bridge]
 
     # What is offered
 
     def own_cycles(self, number: int, count: int) -> list[int]:
-        """The cycles of a stream among the first `count` with offers, or among more, so that there are two."""
+        """Returns the cycles of a stream among the first `count` cycles with offers, or among more if that gives fewer than two."""
         every, phase = self.streams[number].get("every", 1), self.streams[number].get("phase", 0)
         return [it for it in range(FIRST, FIRST + max(count, 2 * every)) if it % every == phase]
 
     def sizes(self, number: int, turn: int, keeps_word: bool) -> list[int]:
-        """The frames of a stream in a cycle of its own. In turn they are: its reservation; 64 octets more; 200 octets less, then 300, which are
-        too many, and then 136, which aren't; and one frame. A talker that keeps its word sends only the first and the last of these."""
+        """Returns the sizes of a stream's frames in a cycle of its own. In turn, these are: its reservation; 64 octets more; 200 octets less, then
+        a frame of 300, which exceeds the reservation, and one of 136, which doesn't; and a single frame. A talker that keeps its word sends only
+        its reservation or the single frame."""
         octets = self.streams[number]["octets"]
         whole = list(frames_of(octets))
         if turn % 4 == 1 and not keeps_word:
@@ -186,7 +187,7 @@ class Plan:
         return [min(octets, LONGEST)] if turn % 4 == 3 else whole
 
     def offers(self, cycles: int, keeps_word: bool = False) -> list[Offer]:
-        """The frames of some cycles in the order of time. A stream that pauses also has a frame in a cycle that isn't its own."""
+        """Returns the frames of some cycles, by time. A stream that pauses also has a frame in a cycle that isn't its own."""
         found = []
         for number, stream in enumerate(self.streams):
             own = self.own_cycles(number, cycles)
@@ -199,11 +200,11 @@ class Plan:
         return sorted(found, key=lambda it: it.at)
 
     def end(self, offers: list[Offer]) -> int:
-        """A cycle at which all frames have arrived."""
+        """Returns a cycle at which all frames have arrived."""
         return offers[-1].at // self.cycle + BEHIND
 
     def hops(self, offers: list[Offer], room: Path) -> tuple[dict[tuple[int, str], int], dict[int, str]]:
-        """What `cqf hops` says of the offers, numbered from 1: the cycle of each frame on each of its links, and the bridge that drops it."""
+        """Returns what `cqf hops` reports of the offers, numbered from 1: each frame's cycle on each of its links, and the bridge that drops it."""
         rows = "".join(f"{it.at},{self.edge(it.stream)},{self.streams[it.stream]['name']},{it.octets}\n" for it in offers)
         (room / "offers.csv").write_text("at,bridge,stream,octets\n" + rows, encoding="utf-8")
         said = call(self.program, "hops", "--cycles", str(self.end(offers)), str(self.path), str(room / "offers.csv"))
@@ -213,7 +214,7 @@ class Plan:
 
 
 def older(path: Path, room: Path) -> Path:
-    """A plant with the same network and talkers, for an older plan: half the octets, another order of streams, and one more stream."""
+    """Writes an older plan with the same network and talkers: half the octets, another order of streams, and one more stream."""
     text = path.read_text(encoding="utf-8")
     streams = tomllib.loads(without_cut(text))["streams"]
     head = re.split(r"^%%$|^\[\[streams\]\]$|^streams\b", text, maxsplit=1, flags=re.M)[0]
@@ -227,5 +228,5 @@ def older(path: Path, room: Path) -> Path:
 
 
 def toml(value: object) -> str:
-    """A number, a name or a list of them in TOML."""
+    """Returns a number, a name or a list of these in TOML."""
     return f"[{', '.join(map(toml, value))}]" if isinstance(value, list) else f'"{value}"' if isinstance(value, str) else str(value)
