@@ -382,7 +382,7 @@ fn variables_are_of_a_bridge(rt: HostRuntime) {
 const MISTAKES: &[(&[&str], &str)] = &[
     (
         &["plan", "--cycle", "125us"],
-        "cqf: words: --cycle 125us names no candidates: N, or FROM..TO/STEP with FROM up to TO and at most 1000 of them, in ns, \
+        "cqf: words: --cycle 125us gives no cycle times: N, or FROM..TO/STEP with FROM up to TO and at most 1000 of them, in ns, \
             10000 to 10000000\n",
     ),
     (
