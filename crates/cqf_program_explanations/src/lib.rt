@@ -22,6 +22,7 @@ mod hints;
 mod lexer;
 mod lines;
 mod network;
+mod network_faults;
 mod noting;
 mod outline;
 mod part_faults;

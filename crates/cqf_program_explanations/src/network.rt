@@ -36,9 +36,9 @@ pub(crate) struct Network<'p> {
     are_bridges: BTreeMap<&'p str, bool>,
     /// The index of the first link between two nodes, as it is written.
     ends: EndsMap<'p>,
-    /// In a network file, the same for the opposite direction of a link that is two.
+    /// The same of a link that stands for two, for its way back.
     back: EndsMap<'p>,
-    /// In a network file, the index of the first talker's link of a station.
+    /// The place of the first access link of a station.
     talkers: BTreeMap<&'p str, usize>,
     /// In ns.
     pub cycle: u64,
@@ -46,8 +46,6 @@ pub(crate) struct Network<'p> {
     /// How far any two clocks may differ.
     pub sync: u64,
     pub limits: Limits,
-    /// Whether it is a network file's, in which a link may be two, one in each direction.
-    pub is_sketch: bool,
 }
 
 /// Appends the texts of an array to others.
@@ -91,12 +89,11 @@ fn link_of<'p>(item: &WrittenItem<'p>, guard: u64) -> WrittenLink<'p> {
     }
 }
 
-/// Returns the network of a plan, or of a network file.
+/// The network that files have.
 pub(crate) fn network_of<'p>(
     alloc: Global,
     plant: &'p Plant<'_>,
     limits: Limits,
-    is_sketch: bool,
 ) -> Result<Network<'p>, AllocError> {
     let (bridge_names, station_names) = (plant.names("bridges")?, plant.names("stations")?);
     let (mut bridges, mut nodes) = (Vec::new(alloc), Vec::new(alloc));
@@ -109,7 +106,6 @@ pub(crate) fn network_of<'p>(
     let guard = plant.number("guard");
     network.guard = guard;
     network.sync = plant.number("sync");
-    network.is_sketch = is_sketch;
     for item in &items {
         network.put_link(alloc, link_of(item, guard))?;
     }
@@ -141,7 +137,6 @@ fn nodes_alone<'p>(
         guard: 0,
         sync: 0,
         limits,
-        is_sketch: false,
     })
 }
 
@@ -211,14 +206,12 @@ impl<'p> Network<'p> {
     fn put_link(&mut self, alloc: Global, link: WrittenLink<'p>) -> Result<(), AllocError> {
         let place = self.links.len();
         put_first(alloc, &mut self.ends, link.from, link.to, place)?;
-        if self.is_sketch {
-            if is_duplex(&link) {
-                put_first(alloc, &mut self.back, link.to, link.from, place)?;
-            }
-            if let Some(station) = talker_of(&*self, &link) {
-                if !self.talkers.contains_key(station) {
-                    self.talkers.insert(station, place)?;
-                }
+        if is_duplex(&link) {
+            put_first(alloc, &mut self.back, link.to, link.from, place)?;
+        }
+        if let Some(station) = talker_of(&*self, &link) {
+            if !self.talkers.contains_key(station) {
+                self.talkers.insert(station, place)?;
             }
         }
         self.links.push(link)?;
@@ -230,14 +223,14 @@ impl<'p> Network<'p> {
         self.are_bridges.get(name).copied().unwrap_or(false)
     }
 
-    /// Returns the link on which a station's talker sends, in a network file.
+    /// The first access link of a station.
     pub(crate) fn talkers_link(&self, station: &str) -> Option<&WrittenLink<'p>> {
         let place = self.talkers.get(station)?;
         self.links.get(*place)
     }
 
     /// Returns the bridge at which a talker's link ends; the link is a talker's, or one of its directions is.
-    pub(crate) fn edge_of(&self, link: &WrittenLink<'p>) -> &'p str {
+    pub(crate) fn edge_of<'l>(&self, link: &WrittenLink<'l>) -> &'l str {
         if self.is_bridge(link.from) {
             link.from
         } else {

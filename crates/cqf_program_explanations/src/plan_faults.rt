@@ -3,6 +3,7 @@
 use crate::domain_faults::{tell_guard_at, tell_link_guards_at};
 use crate::given::CommandInput;
 use crate::network::Network;
+use crate::network_faults::{access_link_of, ends_of_talker, is_talker, tell_entering};
 use crate::places::Grouped;
 use crate::plant::{KeyOwner, WrittenItem};
 use crate::refusal::Refusal;
@@ -61,28 +62,35 @@ fn number_in(text: Option<&str>) -> u64 {
 }
 
 /// Returns why a stream's `from` names no talker.
-fn no_talker(alloc: Global, network: &Network<'_>, name: &str) -> Result<String, AllocError> {
+fn no_talker(alloc: Global, network: &Network<'_>, talker: &str) -> Result<String, AllocError> {
+    let (name, bridge) = ends_of_talker(talker);
     let shown = shortened(alloc, name)?;
+    if let Some(bridge) = bridge {
+        let bridge = shortened(alloc, bridge)?;
+        return format!(in alloc; "no access link leads from {shown} to {bridge}");
+    }
     if network.is_node(name) {
-        return format!(in alloc; "the station {shown} has no link to a bridge");
+        return format!(in alloc; "the station {shown} has no access link to a bridge");
     }
     let question = network.node_question(alloc, name)?;
     format!(in alloc; "no bridge or station {shown}{question}")
 }
 
 /// Reports each stream whose `from` names no talker.
-fn tell_no_talkers(given: &CommandInput<'_>, told: &mut ToldLines) -> Result<(), AllocError> {
+pub(crate) fn tell_no_talkers(
+    given: &CommandInput<'_>,
+    told: &mut ToldLines,
+) -> Result<(), AllocError> {
     let network = given.network()?;
     for item in &given.plant.items(KeyOwner::Stream)? {
-        let Some(name) = item.text("from") else {
+        let Some(talker) = item.text("from") else {
             continue;
         };
-        let is_there = network.is_bridge(name) || network.talkers_link(name).is_some();
-        if is_there || told.is_counted() {
+        if is_talker(&network, talker) || told.is_counted() {
             continue;
         }
         let (place, label) = (item.place_of("from"), item.label(given.alloc)?);
-        let why = no_talker(given.alloc, &network, name)?;
+        let why = no_talker(given.alloc, &network, talker)?;
         told.tell(format!(in given.alloc; "{place}: {label}: from: {why}")?)?;
     }
     Ok(())
@@ -155,16 +163,20 @@ fn tell_too_soon(
 ) -> Result<(), AllocError> {
     let network = given.network()?;
     let (place, label) = (item.place_of("deadline"), item.label(given.alloc)?);
-    let Some(link) = network.talkers_link(item.text("from").unwrap_or("")) else {
+    let talker = item.text("from").unwrap_or("");
+    let Some(link) = access_link_of(&network, talker) else {
         return Ok(());
     };
-    let (from, to) = (item.text("from").unwrap_or(""), network.edge_of(link));
-    let (taken, deadline) = (
-        Grouped(time_on(link, longest_frame(item))),
-        Grouped(item.number("deadline")),
-    );
+    let (from, to) = (ends_of_talker(talker).0, network.edge_of(link));
+    let (taken, deadline) = (time_on(link, longest_frame(item)), item.number("deadline"));
+    let waits = if taken < deadline {
+        " beside what it waits for there"
+    } else {
+        ""
+    };
+    let (taken, deadline) = (Grouped(taken), Grouped(deadline));
     told.tell(format!(in given.alloc;
-        "{place}: {label}: a frame takes {taken} ns on the talker's link {from}>{to}, and its deadline is {deadline} ns"
+        "{place}: {label}: a frame takes {taken} ns on the access link {from}>{to}{waits}, and its deadline is {deadline} ns"
     )?)
 }
 
@@ -422,6 +434,9 @@ pub(crate) fn tell_plan(
     };
     match unplaced.fault {
         "NoTalker" => return tell_no_talkers(given, told),
+        "TwoAccessLinks" | "OtherEdge" | "OtherListeners" => {
+            return tell_entering(given, told, unplaced.stream, unplaced.fault);
+        }
         "NoListener" => return tell_no_listeners(given, told),
         "NameHeld" => return tell_names_twice(given, told),
         "TooManyHops" => return tell_many_hops(given, told, unplaced.stream),

@@ -12,8 +12,8 @@ const LONGEST_FRAME: u64 = 1522;
 /// The octets of preamble and start delimiter (IEEE 802.3).
 const PREAMBLE: u64 = 8;
 
-/// Returns whether the command reads a network file.
-pub(crate) fn reads_sketch(given: &CommandInput<'_>) -> bool {
+/// Whether the command plans, and so takes a network of which something is open.
+pub(crate) fn is_planning(given: &CommandInput<'_>) -> bool {
     given.command == "plan"
 }
 

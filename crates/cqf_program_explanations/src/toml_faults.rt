@@ -9,7 +9,7 @@ use crate::hints::{is_open, plan_hint};
 use crate::outline::{Element, KeyLine, Outline};
 use crate::places::Place;
 use crate::plant::{KeyOwner, PlantFile, WrittenItem};
-use crate::sketch::{is_in_step, reads_sketch};
+use crate::sketch::{is_in_step, is_planning};
 use crate::told::ToldLines;
 use crate::words::{nearest, shown};
 use cqf_program_files::{LINK, STREAM, TOP};
@@ -301,7 +301,7 @@ pub(crate) fn tell_missing(
 
 /// Returns the form of a value of the top level, for the command: a network file may have several cycle times.
 fn form_at_top(given: &CommandInput<'_>, key: &str) -> Option<(Form, &'static str)> {
-    if key == "cycle" && reads_sketch(given) {
+    if key == "cycle" && is_planning(given) {
         Some((Form::Cycles, CYCLES_FORM))
     } else {
         form_of(KeyOwner::Top, key)
@@ -409,13 +409,15 @@ fn form_within(
 fn bad_form(given: &CommandInput<'_>, item: &WrittenItem<'_>, key: &str) -> Option<&'static str> {
     let value = item.get(key)?;
     let (form, words) = form_within(given, item.kind, key)?;
-    let has_path = item.get("path").is_some() || item.get("paths").is_some();
     if key == "paths" && item.get("path").is_some() {
         Some("give path or paths, not both")
-    } else if item.kind == KeyOwner::Stream && matches!(key, "from" | "to") && has_path {
-        Some("give a path, or from and to, not both")
-    } else if matches!(key, "every" | "phase") && is_in_step(item) {
-        Some("give every and phase, or in-step, not both")
+    } else if key == "phase" && is_in_step(item) && item.get("every").is_none() {
+        Some("a phase goes with every: give both, or in-step alone")
+    } else if key == "least-size"
+        && item.get("size").is_some()
+        && item.number(key) > item.number("size")
+    {
+        Some("least-size is no more than the stream's size")
     } else if fits(form, value) {
         None
     } else if key == "delay" && value.is_array() {

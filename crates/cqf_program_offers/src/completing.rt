@@ -9,9 +9,9 @@ ghost use Rattle.cqf_program_scenario.specs.Lines.{script_line};
 ghost use Rattle.cqf_output.specs.Stops.{EndsWith, IsRefused, or_line};
 
 use crate::calls::made_calls;
-use crate::flows_part;
 use crate::offers::made_offers;
 use crate::parts::{copied_requests, requests_part};
+use crate::reading::flows_of_parts;
 use cqf_admission::{Names, Ordered};
 use cqf_model::Limits;
 use cqf_output::Stop;
@@ -54,8 +54,7 @@ fn with_both(
     ensures ok { IfOk result (λ made. with_both limits cycles domain.now streams.now ≡ Ok made.items) }
     ensures err { IfErr result (IsRefused (with_both limits cycles domain.now streams.now)) }
 {
-    let plan = domain_part(alloc, limits, domain)?;
-    let flows = flows_part(alloc, streams)?;
+    let (plan, flows) = flows_of_parts(alloc, limits, domain, streams)?;
     let requests = copied_requests(alloc, flows.as_slice())?;
     let script = made_calls(alloc, &plan, requests.as_slice())?;
     let offers = made_offers(alloc, &plan, cycles, flows.as_slice())?;
@@ -98,8 +97,7 @@ fn with_offers(
     ensures ok { IfOk result (λ made. with_offers limits cycles domain.now streams.now script.now ≡ Ok made.items) }
     ensures err { IfErr result (IsRefused (with_offers limits cycles domain.now streams.now script.now)) }
 {
-    let plan = domain_part(alloc, limits, domain)?;
-    let flows = flows_part(alloc, streams)?;
+    let (plan, flows) = flows_of_parts(alloc, limits, domain, streams)?;
     let requests = copied_requests(alloc, flows.as_slice())?;
     let _orders = check_script(alloc, cycles, requests.as_slice(), script)?;
     let offers = made_offers(alloc, &plan, cycles, flows.as_slice())?;

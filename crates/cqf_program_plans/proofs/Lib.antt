@@ -11,3 +11,8 @@ pub mod LookedOver
 pub mod Found
 mod CostsByTurn
 mod LatencyLines
+pub mod WrittenFlows
+mod AccessLoads
+mod LatencyBehind
+mod Steps
+mod LoadSteps

@@ -15,14 +15,15 @@ ghost use Rattle.cqf_program_sketch.specs.Steps.{AreSettled};
 
 use crate::candidates::Candidate;
 use crate::choosing::{Choice, choose};
-use crate::plans::{flows_placed, line_of_best};
+use crate::plans::{choices_of, flows_placed, line_of_best};
 use crate::table::text_of_candidates;
 use crate::trying::{Tried, judge_all};
+use cqf_edge::{AccessTimes, EdgeFault, EdgeStreams, TalkerFault, edge_streams};
 use cqf_model::{Limits, Refused};
 use cqf_output::{REFUSED, Stop};
-use cqf_plants::write_plant;
+use cqf_plants::write_network;
 use cqf_program_placing::{PlanFault, Settled, Unsettled, settle};
-use cqf_program_plans::{flows_stop, stream_stop};
+use cqf_program_plans::{edge_stop, flows_stop, stream_stop};
 use cqf_program_scenario::two_parts;
 use cqf_sketch::{SketchDomain, SketchFault, Stream, read_sketch_streams};
 use cqf_topology::DomainFault;
@@ -108,25 +109,80 @@ fn settled_part(
     }
 }
 
-/// Returns the domain and the settled streams of the input, read within some limits. Returns `Err` with status 1 and the line of the first
-/// fault: of its parts, of the domain, of the streams, or of what no cycle time changes; with status 3 if an allocation fails.
+/// A network that is to be planned: its domain, its settled streams as they come to their edge bridges, how long they take there from the
+/// hand-over, by the same places, and the texts of both.
+#[derive(Drop)]
+struct PlanInput<'t> {
+    domain: SketchDomain,
+    streams: Vec<Settled>,
+    times: Vec<Option<AccessTimes>>,
+    domain_text: &'t [u8],
+    streams_text: &'t [u8],
+}
+
+/// The end where streams of a network that is to be planned don't come to their edge bridges.
+fn unentered_stop(alloc: Global, fault: EdgeFault) -> Stop {
+    match fault {
+        EdgeFault::Talker(name, found) => {
+            Stop::with_text(alloc, REFUSED, line_of_unentered(alloc, &name, found))
+        }
+        other => edge_stop(alloc, other),
+    }
+}
+
+/// The line of a stream that doesn't enter the network as its text says.
+fn line_of_unentered(alloc: Global, name: &Name, fault: TalkerFault) -> Result<String, Memory> {
+    let line = format!(in alloc; "cqf: plan: {name}: {fault}\n")?;
+    Ok(line)
+}
+
+/// The streams of a network, as they come to their edge bridges.
+fn edges_wanted(
+    alloc: Global,
+    network: &SketchDomain,
+    wanted: Vec<Stream>,
+) -> Result<EdgeStreams, Stop> {
+    match edge_streams(alloc, network, wanted) {
+        Ok(edge) => Ok(edge),
+        Err(fault) => Err(unentered_stop(alloc, fault)),
+    }
+}
+
+/// Refuses a network one of whose access links is full: with status 1 and the line that tells the station of the first.
+fn refuse_full(alloc: Global, full: Option<Name>) -> Result<(), Stop> {
+    match full {
+        Some(station) => Err(edge_stop(alloc, EdgeFault::AccessFull(station))),
+        None => Ok(()),
+    }
+}
+
+/// The domain and the settled streams of the input, read within some limits. `Err` with status 1 and the line of the first fault: of its
+/// parts, of the domain, of the streams, of what no cycle time changes, or of the access links; and with status 3 for want of memory.
 fn read_sketch(
     alloc: Global,
     limits: Limits,
     given: Option<Vec<u32>>,
     input: &[u8],
-) -> Result<(SketchDomain, Vec<Settled>), Stop>
+) -> Result<PlanInput<'_>, Stop>
     requires { IfSome given (λ cycles. AreCandidates cycles.items) }
     ensures ok { let said = option_map (λ cycles. cycles.items) given in IfOk result (λ found.
-        sketch_input limits said input.now ≡ Ok (record { domain = found.0; streams = map settled_value found.1.items })) }
-    ensures settled { IfOk result (λ found. AreSettled found.0 (map settled_value found.1.items)) }
+        sketch_input limits said input.now ≡ Ok (record { domain = found.domain; streams = map settled_value found.streams.items })) }
+    ensures settled { IfOk result (λ found. AreSettled found.domain (map settled_value found.streams.items)) }
     ensures err { let said = option_map (λ cycles. cycles.items) given in IfErr result (IsRefused (sketch_input limits said input.now)) }
 {
     let (domain_text, streams_text) = two_parts(alloc, input)?;
     let domain = sketch_part(alloc, limits, domain_text, given)?;
     let wanted = wanted_part(alloc, streams_text)?;
-    let streams = settled_part(alloc, &domain, wanted)?;
-    Ok((domain, streams))
+    let edge = edges_wanted(alloc, &domain, wanted)?;
+    let streams = settled_part(alloc, &domain, edge.streams)?;
+    refuse_full(alloc, edge.full)?;
+    Ok(PlanInput {
+        domain,
+        streams,
+        times: edge.times,
+        domain_text,
+        streams_text,
+    })
 }
 
 /// Returns the table of a network file's candidates.
@@ -139,16 +195,23 @@ fn table_of(alloc: Global, sketch: &SketchDomain, streams: &[Settled]) -> Result
     Ok(text)
 }
 
-/// Returns the text of the plan on a cycle time on which streams are placed.
-fn plant_of(alloc: Global, streams: &[Settled], tried: &Tried) -> Result<Vec<u8>, Memory>
-    requires each { length tried.now.outcomes.items ≡ length streams.now }
+/// The text of the network with a cycle time on which its streams are placed.
+fn network_text(alloc: Global, given: &PlanInput<'_>, tried: &Tried) -> Result<Vec<u8>, Memory>
+    requires each { length tried.now.outcomes.items ≡ length given.now.streams.items }
     requires early { All BeginsEarly (map outcome_value tried.now.outcomes.items) }
-    ensures { let become = map outcome_value tried.now.outcomes.items in IfOk result (λ text.
-        IsToldPlant tried.now.domain (flows_placed tried.now.domain.cycle_time (map settled_value streams.now) become) text.items) }
+    ensures { IfOk result (λ text. IsTriedText given.now tried.now text.items) }
 {
     let cycle_time = tried.domain.cycle_time();
+    let streams = given.streams.as_slice();
     let flows = flows_placed(alloc, streams, cycle_time, tried.outcomes.as_slice())?;
-    let text = write_plant(alloc, &tried.domain, flows.as_slice())?;
+    let filled = choices_of(alloc, streams, cycle_time, flows, given.times.as_slice())?;
+    let text = write_network(
+        alloc,
+        given.domain_text,
+        given.streams_text,
+        cycle_time.0 as u32,
+        filled.as_slice(),
+    )?;
     Ok(text.into_bytes())
 }
 
@@ -164,18 +227,18 @@ fn unplanned_stop(alloc: Global, count: usize, best: &Candidate) -> Stop
 ///
 /// # Errors
 /// With status 1 and the line that says why none of its candidates is good; with status 3 if an allocation fails.
-fn plan_of(alloc: Global, sketch: &SketchDomain, streams: &[Settled]) -> Result<Vec<u8>, Stop>
-    requires { AreSettled sketch.now (map settled_value streams.now) }
-    ensures ok { IfOk result (λ text. IsPlanText (record { domain = sketch.now; streams = map settled_value streams.now }) text.items) }
-    ensures err { IfErr result (IsToldRefusal false (record { domain = sketch.now; streams = map settled_value streams.now })) }
+fn plan_of(alloc: Global, given: &PlanInput<'_>) -> Result<Vec<u8>, Stop>
+    requires { AreSettled given.now.domain (map settled_value given.now.streams.items) }
+    ensures ok { IfOk result (λ text. IsPlanText (sketched_of given.now) text.items) }
+    ensures err { IfErr result (IsToldRefusal false (sketched_of given.now)) }
 {
-    match choose(alloc, sketch, streams) {
-        Ok(Choice::Planned(tried)) => match plant_of(alloc, streams, &tried) {
+    match choose(alloc, &given.domain, given.streams.as_slice()) {
+        Ok(Choice::Planned(tried)) => match network_text(alloc, given, &tried) {
             Ok(text) => Ok(text),
             Err(_) => Err(Stop::memory(alloc)),
         },
         Ok(Choice::Unplanned(best)) => {
-            Err(unplanned_stop(alloc, sketch.candidates().len(), &best))
+            Err(unplanned_stop(alloc, given.domain.candidates().len(), &best))
         }
         Err(_) => Err(Stop::memory(alloc)),
     }
@@ -185,20 +248,15 @@ fn plan_of(alloc: Global, sketch: &SketchDomain, streams: &[Settled]) -> Result<
 ///
 /// # Errors
 /// As [`plan_of`]; for the table, only with status 3 if an allocation fails.
-fn told_of(
-    alloc: Global,
-    table: bool,
-    sketch: &SketchDomain,
-    streams: &[Settled],
-) -> Result<Vec<u8>, Stop>
-    requires { AreSettled sketch.now (map settled_value streams.now) }
-    ensures ok { IfOk result (λ text. IsToldOf table (record { domain = sketch.now; streams = map settled_value streams.now }) (Ok text.items)) }
-    ensures err { IfErr result (IsToldRefusal table (record { domain = sketch.now; streams = map settled_value streams.now })) }
+fn told_of(alloc: Global, table: bool, given: &PlanInput<'_>) -> Result<Vec<u8>, Stop>
+    requires { AreSettled given.now.domain (map settled_value given.now.streams.items) }
+    ensures ok { IfOk result (λ text. IsToldOf table (sketched_of given.now) (Ok text.items)) }
+    ensures err { IfErr result (IsToldRefusal table (sketched_of given.now)) }
 {
     if !table {
-        return plan_of(alloc, sketch, streams);
+        return plan_of(alloc, given);
     }
-    match table_of(alloc, sketch, streams) {
+    match table_of(alloc, &given.domain, given.streams.as_slice()) {
         Ok(text) => Ok(text),
         Err(_) => Err(Stop::memory(alloc)),
     }
@@ -222,6 +280,6 @@ pub fn plan_output(
     ensures ok { IfOk result (λ text. IsPlanOf limits table (option_map (λ cycles. cycles.items) given) input.now (Ok text.items)) }
     ensures err { IfErr result (IsPlanRefusal limits table (option_map (λ cycles. cycles.items) given) input.now) }
 {
-    let (sketch, streams) = read_sketch(alloc, limits, given, input)?;
-    told_of(alloc, table, &sketch, streams.as_slice())
+    let found = read_sketch(alloc, limits, given, input)?;
+    told_of(alloc, table, &found)
 }

@@ -10,6 +10,8 @@ ghost use Rattle.cqf_program_sketch.specs.Judging.{flow_of, flows_placed, traffi
 ghost use Rattle.cqf_program_sketch.specs.Steps.{flows_by};
 
 use crate::candidates::Candidate;
+use cqf_edge::AccessTimes;
+use cqf_plants::FilledStream;
 use cqf_program_placing::{PlacingOutcome, Settled};
 use cqf_topology::{PacedRequest, Planned};
 use cqf_traffic::{Flow, Traffic};
@@ -93,6 +95,67 @@ pub(crate) fn flows_placed(
         put_flow(alloc, &mut flows, stream, cycle_time, &outcomes[place])?;
     }
     Ok(flows)
+}
+
+/// When a talker's offers begin whose stream's grid begins at an instant at its edge bridge, in one of so many cycles, where its frames take
+/// so long to that bridge at least, in nanoseconds: the least number that is so, up to so many cycles.
+fn offset_before(at_edge: Nanos, taken: u64, cycle_time: Nanos, every: u32) -> u32
+    requires some { 0 < cycle_time.0 }
+    requires short { cycle_time.0 ≤ longest_cycle }
+    requires few { every ≤ most_every }
+    requires turns { 0 < every }
+    ensures { result ≡ offset_before at_edge.0 taken cycle_time.0 every }
+{
+    let round = u64::from(every) * cycle_time.0;
+    let late = taken % round;
+    ((at_edge.0 + round - late) % round) as u32
+}
+
+/// When the offers of a stream begin at its talker, where it was chosen in which cycles it is offered, by its traffic at its edge bridge.
+fn offset_told(
+    stream: &Settled,
+    cycle_time: Nanos,
+    flow: &Flow,
+    times: Option<AccessTimes>,
+) -> Option<u32>
+    requires some { 0 < cycle_time.0 }
+    requires short { cycle_time.0 ≤ longest_cycle }
+    ensures { result ≡ offset_told cycle_time.0 (settled_value stream.now) (flow_text flow.now) times }
+{
+    if !stream.is_chosen_on(cycle_time) {
+        return None;
+    }
+    let traffic = flow.traffic?;
+    let taken = match times {
+        Some(times) => u64::from(times.least),
+        None => 0,
+    };
+    let every = flow.planned.request.every;
+    Some(offset_before(traffic.offset(), taken, cycle_time, every))
+}
+
+/// What was chosen for streams that are all placed on a cycle time, by how their flows come to their edge bridges and how long they take there.
+pub(crate) fn choices_of(
+    alloc: Global,
+    streams: &[Settled],
+    cycle_time: Nanos,
+    flows: Vec<Flow>,
+    times: &[Option<AccessTimes>],
+) -> Result<Vec<FilledStream>, Memory>
+    requires some { 0 < cycle_time.0 }
+    requires short { cycle_time.0 ≤ longest_cycle }
+    requires each { length flows.items ≡ length streams.now }
+    requires taken { length times.now ≡ length streams.now }
+{
+    let mut filled = Vec::with_capacity(alloc, flows.len())?;
+    for (place, flow) in flows.into_iter().enumerate() {
+        let offset = offset_told(&streams[place], cycle_time, &flow, times[place]);
+        filled.push(FilledStream {
+            request: flow.planned.request,
+            offset,
+        })?;
+    }
+    Ok(filled)
 }
 
 /// Returns the line that says why none of `count` candidates is good, by the best of them.

@@ -4,11 +4,11 @@ ghost use Rattle.cqf_model.specs.Limits.{most_bridges, most_stations};
 ghost use Rattle.cqf_sketch.specs.Edges.{talkers_of};
 ghost use Rattle.cqf_topology.specs.Fields.{Gives};
 ghost use Rattle.cqf_sketch.specs.SketchDomain.{AreCandidates, AreCheckedEdges, HasNumberedNames, HasTalkerLinks, IsOpenCycle, IsReadableSketch, domain_at, longest_guard, longest_of, open_cycle};
-ghost use Rattle.cqf_sketch.specs.SketchDomain.{EdgeInside, checked, link_of, plant_of, sketch_domain_of_text, sketch_with, talker_of, with_names};
+ghost use Rattle.cqf_sketch.specs.SketchDomain.{EdgeInside, checked, link_of, network_of_text, plant_of, sketch_domain_of_text, sketch_with, talker_of, with_names};
 
 use crate::SketchFault;
 use crate::checks::check;
-use crate::draft::{SketchDraft, read_draft};
+use crate::draft::{SketchDraft, read_draft, read_one_draft};
 use crate::ends::{JoinedEdge, join_edges};
 use cqf_model::{Limits, Link};
 use cqf_topology::{Domain, DomainFault, LinkList, NameList, numbered_names};
@@ -16,7 +16,7 @@ use cqf_units::{Memory, Name, Rate};
 use std::alloc::Global;
 use std::marker::Model;
 
-/// A talker's link, from a station to its bridge. It isn't a link of the plan.
+/// An access link, from a station to a bridge. It has no gates and no budget, and isn't one of the domain's links.
 #[derive(Clone, Copy, Debug, PartialEq, Eq)]
 pub struct TalkerLink {
     /// The station's number.
@@ -26,6 +26,10 @@ pub struct TalkerLink {
     pub rate: Rate,
     /// The greatest delay, in nanoseconds.
     pub delay: u32,
+    /// The least delay, at most the greatest.
+    pub least: u32,
+    /// The most octets that a frame has which the station sends beside its streams, 64 to 1,522; `None` where it sends no such frame.
+    pub other: Option<u32>,
 }
 
 /// The domain of a network file: its limits, the candidates for its cycle time in the order of preference, its guard
@@ -184,23 +188,16 @@ impl SketchDomain {
     /// 10,000,000 ns. Unknown keys are ignored.
     ///
     /// # Errors
-    /// The faults of [`read_draft`] come first. Then each of these checks is made over the whole file before the next:
-    ///
-    /// * `NameTaken`: the first name, bridges before stations, that occurred earlier.
-    /// * `UnknownName`: the first `from` that names no node, or `to` that names no node to which the link can lead:
-    ///   another bridge, or a station if `from` is a bridge.
-    /// * `LinkTwice`: the first link one of whose directions has the ends of an earlier one.
-    /// * `TwoTalkerLinks`: the first station with a second talker's link.
-    /// * `GuardTooLong`: the guard band is at least as long as each candidate.
-    /// * `LinkGuardTooLong`: the first link of the plan whose own guard band is.
-    /// * `DelayTooLong`: the first link of the plan whose greatest delay and how far clocks may differ, together,
-    ///   aren't below its guard band.
-    /// * `GapTooLong`: the first link of the plan on which the gap after a frame takes longer than its guard band.
-    /// * `TooMany`: there are more bridges, stations or links of the plan than the limits allow.
-    /// * `SyncTooLong`: the first link of the plan on which clocks may differ by more than a shortest frame and its
-    ///   least delay take together.
-    ///
-    /// `Memory` if an allocation fails.
+    /// What is wrong in being read, as of [`read_draft`]; and then, each over the whole before the next: `NameTaken`, of the first name,
+    /// bridges before stations, that stood earlier; `UnknownName`, of the first `from` that names no node, or `to` that names no node
+    /// other than that, and no bridge where `from` is a station; `LinkTwice`, of the first link that leads as an earlier one does, also
+    /// back; `GuardTooLong`, where the guard time reaches the greatest
+    /// candidate, and `LinkGuardTooLong`, of the first link of the plant whose own does; `DelayTooLong`, of the first link of the plant
+    /// whose greatest delay and how far clocks may be apart, together, aren't below its guard time, and `GapTooLong`, of the first on
+    /// which the gap behind a frame takes longer; `TooMany`, where there are more bridges, stations, links of the plant or access links
+    /// than may be; `SyncTooLong`, of the first link of the plant on which clocks may be further apart than a shortest frame and its least
+    /// delay take together; and `NoAccessLink`, of the first link that has `other` and leaves no station, there or back. Links are
+    /// named by their elements' places in `links`, from 0. `Memory` where a growth is refused.
     pub fn read(
         alloc: Global,
         text: &[u8],
@@ -212,6 +209,18 @@ impl SketchDomain {
             (sketch_domain_of_text limits (option_map (λ cycles. cycles.items) given) text.now) }
     {
         let draft = read_draft(alloc, text, limits, given)?;
+        SketchDomain::of_draft(alloc, &draft)
+    }
+
+    /// The domain of a text whose cycle time is one number, as every command but `plan` reads it. The domain has this one candidate, and it
+    /// is open.
+    ///
+    /// # Errors
+    /// As of [`SketchDomain::read`], but that an array at `cycle` is `BadValue`.
+    pub fn read_one(alloc: Global, text: &[u8], limits: Limits) -> Result<SketchDomain, SketchFault>
+        ensures { Gives (SketchFault.Domain DomainFault.Memory) (λ domain. domain) result (network_of_text limits text.now) }
+    {
+        let draft = read_one_draft(alloc, text, limits)?;
         SketchDomain::of_draft(alloc, &draft)
     }
 
@@ -283,8 +292,8 @@ impl SketchDomain {
         self.links.as_slice()
     }
 
-    /// Does nothing at run time. In a proof, it supplies what was checked when the file was read: each talker's link
-    /// leads from a station to a bridge of the file, and no station has two.
+    /// Does nothing, and makes known to a proof what was seen to when the sketch was read: each talker's link goes from a station to a
+    /// bridge of the sketch, and no two have the same ends.
     pub fn know(&self)
         ensures there { HasTalkerLinks self.now }
     {
@@ -292,7 +301,21 @@ impl SketchDomain {
         let _ = &self.talkers;
     }
 
-    /// Returns the talkers' links, each from a station to a bridge of the file. No station has two.
+    /// The names of the bridges, by number.
+    pub fn bridges(&self) -> &NameList
+        ensures { result.now.keys ≡ self.now.bridges }
+    {
+        &self.bridges
+    }
+
+    /// The names of the stations, by number.
+    pub fn stations(&self) -> &NameList
+        ensures { result.now.keys ≡ self.now.stations }
+    {
+        &self.stations
+    }
+
+    /// The talkers' links, each from a station to a bridge of the sketch, in the order of the text. No two have the same ends.
     pub fn talkers(&self) -> &[TalkerLink]
         ensures value { result.now ≡ self.now.talkers }
         ensures there { HasTalkerLinks self.now }

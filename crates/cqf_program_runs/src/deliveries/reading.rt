@@ -1,16 +1,20 @@
 //! The input of the commands `deliveries` and `check`, and of others over deliveries.
-ghost use Rattle.std.specs.Prelude.{IfErr, IfOk};
+ghost use Rattle.std.specs.Prelude.{◌≡◌, IfErr, IfOk, true};
 ghost use Rattle.cqf_program_scenario.specs.Lines.{streams_line};
 ghost use Rattle.cqf_program_scenario.specs.RunParts.{texts_of};
 ghost use Rattle.cqf_output.specs.Stops.{IsRefused, or_line};
 ghost use Rattle.cqf_topology.specs.PlannedText.{planned_of_text};
-ghost use Rattle.cqf_program_runs.specs.Deliveries.PlannedScenario.{planned_scenario, planned_scenario_of};
-ghost use Rattle.cqf_program_runs.specs.Deliveries.Reading.{ArePlannedIn, IsPlannedGiven, IsPlannedIn};
+ghost use Rattle.cqf_program_runs.specs.Deliveries.PlannedScenario.{planned_of_part, planned_scenario, planned_scenario_of};
+ghost use Rattle.cqf_program_plans.specs.Edges.{has_access};
+ghost use Rattle.cqf_program_runs.specs.Deliveries.Reading.{ArePlannedIn, ArePlannedOf, IsPlannedGiven, IsPlannedIn};
 
 use cqf_model::Limits;
 use cqf_output::Stop;
-use cqf_program_plans::parted;
-use cqf_program_scenario::{RunInput, RunParts, domain_part, planned_part, read_behind, run_parts};
+use cqf_program_plans::{open_edges_part, parted, parted_flows};
+use cqf_program_scenario::{
+    RunInput, RunParts, domain_of, network_part, planned_part, read_behind, run_parts,
+};
+use cqf_sketch::SketchDomain;
 use cqf_topology::PacedRequest;
 use std::alloc::Global;
 
@@ -37,6 +41,39 @@ fn read_paced_streams(
     }
 }
 
+/// The requests for the streams of a part whose stations have access links, and what is left of their deadlines at their edge bridges.
+fn read_edge_streams(
+    alloc: Global,
+    network: &SketchDomain,
+    text: &[u8],
+) -> Result<(Vec<PacedRequest>, Vec<Option<u32>>), Stop>
+    requires { has_access network.now ≡ true }
+    ensures ok { IfOk result (λ found. ArePlannedOf network.now text.now found.0.items found.1.items) }
+    ensures err { IfErr result (IsRefused (planned_of_part network.now text.now)) }
+{
+    let edge = open_edges_part(alloc, network, text)?;
+    match parted_flows(alloc, edge.flows) {
+        Ok(found) => Ok(found),
+        Err(_) => Err(Stop::memory(alloc)),
+    }
+}
+
+/// The requests for the streams of a part, and their deadlines from their edge bridges on.
+fn read_planned_streams(
+    alloc: Global,
+    network: &SketchDomain,
+    text: &[u8],
+) -> Result<(Vec<PacedRequest>, Vec<Option<u32>>), Stop>
+    ensures ok { IfOk result (λ found. ArePlannedOf network.now text.now found.0.items found.1.items) }
+    ensures err { IfErr result (IsRefused (planned_of_part network.now text.now)) }
+{
+    if network.talkers().is_empty() {
+        read_paced_streams(alloc, text)
+    } else {
+        read_edge_streams(alloc, network, text)
+    }
+}
+
 /// Reads the scenario of the parts within given limits, with its streams' deadlines.
 fn read_planned_parts(
     alloc: Global,
@@ -47,8 +84,9 @@ fn read_planned_parts(
     ensures ok { IfOk result (λ made. IsPlannedIn limits cycles (texts_of parts.entry) made) }
     ensures err { IfErr result (IsRefused (planned_scenario_of limits cycles (texts_of parts.entry))) }
 {
-    let domain = domain_part(alloc, limits, parts.domain)?;
-    let (requests, deadlines) = read_paced_streams(alloc, parts.streams)?;
+    let network = network_part(alloc, limits, parts.domain)?;
+    let domain = domain_of(alloc, &network)?;
+    let (requests, deadlines) = read_planned_streams(alloc, &network, parts.streams)?;
     let given = read_behind(alloc, cycles, domain, requests, parts)?;
     Ok(PlannedGiven { given, deadlines })
 }

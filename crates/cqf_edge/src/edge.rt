@@ -1,0 +1,172 @@
+//! A stream's way to its edge bridge.
+ghost use Rattle.std.specs.Prelude.{◌≡◌, ◌+◌, ◌*◌, ◌≤◌, ◌^◌, None};
+ghost use Rattle.cqf_traffic.specs.Keys.{bound_of};
+ghost use Rattle.cqf_access.specs.Arriving.{way_of};
+ghost use Rattle.cqf_access.specs.Bounding.{link_of};
+ghost use Rattle.cqf_edge.specs.Edge.{IsPassage, IsWritten, closer_word, delays_of, grid_word, left_behind, longest_wait_on, steps_on, times_on, word_from};
+ghost use Rattle.cqf_edge.specs.Edge.{word_on};
+ghost use Rattle.cqf_edge.specs.Uses.{time_in};
+
+use crate::uses::{AccessBound, Handed};
+use cqf_access::{Delays, edge_jitter, edge_offset, grid_jitter};
+use cqf_sketch::TalkerLink;
+use cqf_traffic::{Traffic, TrafficKey};
+use cqf_units::{Nanos, Octets, Rate, slot, time_of};
+
+/// How long a frame takes from the hand-over to its talker's access link until it is whole at its edge bridge, in nanoseconds: at least, and
+/// at most.
+#[derive(Clone, Copy, Debug, PartialEq, Eq)]
+pub struct AccessTimes {
+    pub least: u32,
+    pub most: u32,
+}
+
+/// How a stream goes by its talker's access link: the link, what the stream hands to it, and how long a frame may take there.
+#[derive(Clone, Copy, Debug)]
+pub(crate) struct Passage {
+    pub(crate) link: TalkerLink,
+    pub(crate) handed: Handed,
+    pub(crate) bound: AccessBound,
+}
+
+/// How long a frame of so many octets takes with its preamble and so long a delay, where it needn't wait.
+fn way_on(rate: Rate, delay: u32, octets: u32) -> u64
+    ensures value { result ≡ way_of (link_of rate None) delay octets }
+    ensures short { result ≤ 800 * (octets + 8) + delay }
+{
+    time_of(u64::from(octets) + 8, rate) + u64::from(delay)
+}
+
+impl Passage {
+    /// What is known of waiting, in nanoseconds: 0 where nothing is.
+    fn time(&self) -> Nanos
+        ensures { result.0 ≡ time_in self.now.bound }
+    {
+        match self.bound {
+            AccessBound::Within(time) => time,
+            AccessBound::Idle | AccessBound::Full => Nanos(0),
+        }
+    }
+
+    /// The delays of the link.
+    fn delays(&self) -> Delays
+        ensures { result ≡ delays_of self.now.link }
+    {
+        Delays {
+            least: Nanos(u64::from(self.link.least)),
+            most: Nanos(u64::from(self.link.delay)),
+        }
+    }
+
+    /// How long a frame of the stream waits at most.
+    fn longest_wait(&self) -> u64
+        requires { time_in self.now.bound ≤ 2 ^ 32 }
+        ensures value { result ≡ longest_wait_on self.now }
+        ensures short { result ≤ time_in self.now.bound }
+    {
+        match self.handed.traffic {
+            Some(traffic) => {
+                let taken = slot(traffic.size(), self.link.rate);
+                self.time().0.saturating_sub(taken)
+            }
+            None => 0,
+        }
+    }
+
+    /// How long the stream's frames take.
+    pub(crate) fn times(&self) -> AccessTimes
+        requires { IsPassage self.now }
+        ensures value { result ≡ times_on self.now }
+        ensures ordered { result.least ≤ result.most }
+    {
+        let rate = self.link.rate;
+        let longest = way_on(rate, self.link.delay, self.handed.octets);
+        AccessTimes {
+            least: way_on(rate, self.link.least, self.handed.shortest) as u32,
+            most: (longest + self.longest_wait()) as u32,
+        }
+    }
+
+    /// The jitter at the edge bridge: how late a frame may be.
+    fn closer_jitter(&self, traffic: Traffic) -> Nanos
+        requires passage { IsPassage self.now }
+        requires written { IsWritten traffic }
+        ensures value { result.0 ≡ (closer_word self.now traffic).jitter }
+        ensures short { result.0 ≤ bound_of TrafficKey.Jitter }
+    {
+        let shortest = Octets(self.handed.shortest);
+        edge_jitter(
+            self.link.rate,
+            self.delays(),
+            self.time(),
+            shortest,
+            traffic,
+        )
+    }
+
+    /// The jitter on the grid there, which has the whole wait in it.
+    fn grid_jitter(&self, traffic: Traffic) -> Nanos
+        requires passage { IsPassage self.now }
+        requires written { IsWritten traffic }
+        ensures value { result.0 ≡ (grid_word self.now traffic).jitter }
+        ensures short { result.0 ≤ bound_of TrafficKey.Jitter }
+    {
+        let shortest = Octets(self.handed.shortest);
+        grid_jitter(
+            self.link.rate,
+            self.delays(),
+            self.time(),
+            shortest,
+            traffic,
+        )
+    }
+
+    /// The promise at the edge bridge, with the jitter there.
+    fn word_from(&self, traffic: Traffic, jitter: Nanos) -> Traffic
+        requires passage { IsPassage self.now }
+        requires written { IsWritten traffic }
+        requires short { jitter.0 ≤ bound_of TrafficKey.Jitter }
+        ensures { result ≡ word_from self.now traffic jitter.0 }
+    {
+        let shortest = Octets(self.handed.shortest);
+        let offset = edge_offset(self.link.rate, self.delays(), shortest, traffic);
+        traffic.delayed_by(jitter, offset)
+    }
+
+    /// What the stream's talker promises, as it holds at the edge bridge.
+    pub(crate) fn word(&self) -> Option<Traffic>
+        requires { IsPassage self.now }
+        ensures { result ≡ word_on self.now }
+    {
+        match self.handed.traffic {
+            Some(traffic) => {
+                let jitter = self.closer_jitter(traffic);
+                Some(self.word_from(traffic, jitter))
+            }
+            None => None,
+        }
+    }
+
+    /// The same where each frame has to come in its cycle: its jitter has the whole wait in it.
+    pub(crate) fn word_in_step(&self) -> Option<Traffic>
+        requires { IsPassage self.now }
+        ensures { result ≡ steps_on self.now }
+    {
+        match self.handed.traffic {
+            Some(traffic) => {
+                let jitter = self.grid_jitter(traffic);
+                Some(self.word_from(traffic, jitter))
+            }
+            None => None,
+        }
+    }
+}
+
+impl AccessTimes {
+    /// What is left of a deadline at the edge bridge.
+    pub(crate) fn left_behind(self, deadline: u32) -> u32
+        ensures { result ≡ left_behind self deadline }
+    {
+        deadline.saturating_sub(self.most)
+    }
+}

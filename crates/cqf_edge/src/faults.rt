@@ -1,0 +1,79 @@
+//! Why streams don't come to edge bridges.
+ghost use Rattle.std.specs.Prelude.{◌≡◌, ◌++◌, Some, codes};
+ghost use Rattle.cqf_edge.specs.Faults.{edge_fault_text, talker_fault_text};
+
+use cqf_units::{Memory, Name};
+use std::alloc::AllocFailed;
+use std::fmt;
+use thiserror::Error;
+
+/// Why a stream doesn't enter the network as its text says.
+#[derive(Clone, Copy, Debug, PartialEq, Eq, Error)]
+pub enum TalkerFault {
+    /// Its talker is no bridge, and no station with such an access link.
+    NoTalker,
+    /// Its talker is a station with several access links, and the text names none of them.
+    TwoAccessLinks,
+    /// Its branches don't begin at the bridge at which its talker's streams enter.
+    OtherEdge,
+    /// Its branches don't end at its listeners, in their order.
+    OtherListeners,
+}
+
+/// Why the streams of a network don't come to their edge bridges: the first fault.
+#[derive(Debug, PartialEq, Eq, Drop, Error)]
+pub enum EdgeFault {
+    /// The first stream, by its name, that doesn't enter as its text says.
+    Talker(Name, TalkerFault),
+    /// The station of the first access link on which what is promised may wait without end, or longer than 10^9 ns.
+    AccessFull(Name),
+    /// A growth was refused.
+    Memory,
+}
+
+impl fmt::Display for TalkerFault {
+    ghost output = { λ fault. Some (talker_fault_text fault) };
+
+    fn fmt<W: fmt::Write>(&self, f: &mut fmt::Formatter<W>) -> fmt::Result {
+        match self {
+            TalkerFault::NoTalker => f.write_str("NoTalker"),
+            TalkerFault::TwoAccessLinks => f.write_str("TwoAccessLinks"),
+            TalkerFault::OtherEdge => f.write_str("OtherEdge"),
+            TalkerFault::OtherListeners => f.write_str("OtherListeners"),
+        }
+    }
+}
+
+impl fmt::Display for EdgeFault {
+    ghost output = { λ fault. Some (edge_fault_text fault) };
+
+    fn fmt<W: fmt::Write>(&self, f: &mut fmt::Formatter<W>) -> fmt::Result {
+        match self {
+            EdgeFault::Talker(name, fault) => write!(f, "{fault} {name}"),
+            EdgeFault::AccessFull(station) => write!(f, "AccessFull {station}"),
+            EdgeFault::Memory => f.write_str("Memory"),
+        }
+    }
+}
+
+/// Want of memory, as a fault.
+impl From<Memory> for EdgeFault {
+    ghost use Rattle.cqf_edge.specs.declared.faults.EdgeFault.TheVariants as variant;
+
+    ghost from_gives = { λ _ fault. fault ≡ variant.Memory };
+
+    fn from(_refused: Memory) -> EdgeFault {
+        EdgeFault::Memory
+    }
+}
+
+/// Want of room for a value, likewise.
+impl<T: Drop> From<AllocFailed<T>> for EdgeFault {
+    ghost use Rattle.cqf_edge.specs.declared.faults.EdgeFault.TheVariants as variant;
+
+    ghost from_gives = { λ _ fault. fault ≡ variant.Memory };
+
+    fn from(_refused: AllocFailed<T>) -> EdgeFault {
+        EdgeFault::Memory
+    }
+}
