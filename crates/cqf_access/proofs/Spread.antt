@@ -1,5 +1,5 @@
 -- Distinct numbers have distance.
-use Rattle.std.proofs.Common.{◌≡◌, ℕ, zero, suc, ◌+◌, ◌-◌, ◌<◌, ◌≤◌, ◌∷◌, [], Bool, true, inl, inr, refl, sym, ap, ◌∙◌, arith, AllPairs, Contains}
+use Rattle.std.proofs.Common.{◌≡◌, ℕ, zero, suc, ◌+◌, ◌-◌, ◌<◌, ◌≤◌, ◌⊎◌, ◌∷◌, [], Bool, true, inl, inr, refl, subst, sym, ap, ◌∙◌, arith, AllPairs, Contains}
 use Rattle.std.proofs.Common.{sum_by, ◌==◌, eq-eqb, eqb-true, if◌then◌else◌}
 use Rattle.std.proofs.lemmas.Bool.{cases_lt, cond-true}
 use Rattle.cqf_lists.proofs.EachBelow.{contains_below, contains_from_below}
@@ -55,22 +55,58 @@ pub record Ends (p : ℕ → ℕ) (first count : ℕ) : Type 0 where
   pub least : (k : ℕ) → k ≤ count → p low ≤ p (first + k)
   pub most : (k : ℕ) → k ≤ count → p (first + k) ≤ p high
 
+-- of some consecutive numbers, one that comes before each of them in an order
+module _ (p : ℕ → ℕ) (before : ℕ → ℕ → Type 0) (total : (a b : ℕ) → before a b ⊎ before b a)
+    (through : (a b c : ℕ) → before a b → before b c → before a c) (first : ℕ) where
+  itself : (a : ℕ) → before a a
+  itself a = elim (total a a) [
+    | inl same ↦ same
+    | inr same ↦ same
+  ]
+
+  foremost : (count : ℕ) → (u : ℕ) × (first ≤ u) × (u ≤ first + count) × ((k : ℕ) → k ≤ count → before (p u) (p (first + k)))
+  foremost zero = (
+    first,
+    omega arith,
+    omega arith,
+    λ k l. let e : first ≡ first + k = omega (arith, l) in
+        subst (λ (v : ℕ). before (p first) (p v)) e (itself (p first)),
+  )
+  foremost (suc n) =
+      let last = first + suc n in
+      let r = foremost n in
+      let at_last : (k : ℕ) → k ≤ suc n → n < k → last ≡ first + k = λ k l m. omega (arith, l, m) in
+      elim (total (p last) (p r.0)) [
+        | inl new ↦ (
+          last,
+          omega arith,
+          omega arith,
+          λ k l. elim (cases_lt n k) [
+            | inl m ↦ subst (λ (v : ℕ). before (p last) (p v)) (at_last k l m) (itself (p last))
+            | inr m ↦ through (p last) (p r.0) (p (first + k)) new (r.3 k m)
+          ],
+        )
+        | inr old ↦ (
+          r.0,
+          r.1,
+          omega (arith, r.2),
+          λ k l. elim (cases_lt n k) [
+            | inl m ↦ subst (λ (v : ℕ). before (p r.0) (p v)) (at_last k l m) old
+            | inr m ↦ r.3 k m
+          ],
+        )
+      ]
+
+either : (a b : ℕ) → (a ≤ b) ⊎ (b ≤ a)
+either a b = elim (cases_lt a b) [
+  | inl less ↦ inl (omega (arith, less))
+  | inr more ↦ inr more
+]
+
 pub ends : (p : ℕ → ℕ) (first count : ℕ) → Ends p first count
-ends p first zero = record {
-  low = first;
-  high = first;
-  low_from = omega arith;
-  low_upto = omega arith;
-  high_from = omega arith;
-  high_upto = omega arith;
-  least = λ k l. let e : first ≡ first + k = omega (arith, l) in omega (arith, ap p e);
-  most = λ k l. let e : first ≡ first + k = omega (arith, l) in omega (arith, ap p e);
-}
-ends p first (suc n) =
-    let r = ends p first n in
-    let at = first + suc n in
-    let low = lower r in
-    let high = higher r in
+ends p first count =
+    let low = foremost p (λ a b. a ≤ b) either (λ a b c x y. omega (arith, x, y)) first count in
+    let high = foremost p (λ a b. b ≤ a) (λ a b. either b a) (λ a b c x y. omega (arith, x, y)) first count in
     record {
       low = low.0;
       high = high.0;
@@ -81,53 +117,6 @@ ends p first (suc n) =
       least = low.3;
       most = high.3;
     }
-  where
-    at_last : (k : ℕ) → k ≤ suc n → n < k → first + k ≡ first + suc n
-    at_last k l m = omega (arith, l, m)
-
-    lower : Ends p first n → (u : ℕ) × (first ≤ u) × (u ≤ first + suc n) × ((k : ℕ) → k ≤ suc n → p u ≤ p (first + k))
-    lower r = elim (cases_lt (p (first + suc n)) (p r.low)) [
-      | inl less ↦ (
-        first + suc n,
-        omega arith,
-        omega arith,
-        λ k l. elim (cases_lt n k) [
-          | inl m ↦ omega (arith, ap p (at_last k l m))
-          | inr m ↦ omega (arith, less, r.least k m)
-        ],
-      )
-      | inr more ↦ (
-        r.low,
-        r.low_from,
-        omega (arith, r.low_upto),
-        λ k l. elim (cases_lt n k) [
-          | inl m ↦ omega (arith, ap p (at_last k l m), more)
-          | inr m ↦ r.least k m
-        ],
-      )
-    ]
-
-    higher : Ends p first n → (u : ℕ) × (first ≤ u) × (u ≤ first + suc n) × ((k : ℕ) → k ≤ suc n → p (first + k) ≤ p u)
-    higher r = elim (cases_lt (p r.high) (p (first + suc n))) [
-      | inl less ↦ (
-        first + suc n,
-        omega arith,
-        omega arith,
-        λ k l. elim (cases_lt n k) [
-          | inl m ↦ omega (arith, ap p (at_last k l m))
-          | inr m ↦ omega (arith, less, r.most k m)
-        ],
-      )
-      | inr more ↦ (
-        r.high,
-        r.high_from,
-        omega (arith, r.high_upto),
-        λ k l. elim (cases_lt n k) [
-          | inl m ↦ omega (arith, ap p (at_last k l m), more)
-          | inr m ↦ r.most k m
-        ],
-      )
-    ]
 
 -- if they are distinct, the greatest exceeds the least by at least the number of the others
 pub apart_by : (p : ℕ → ℕ) (first count : ℕ) (r : Ends p first count) → ((j k : ℕ) → first ≤ j → j < k → k ≤ first + count → p j ≡ p k → ⊥) →

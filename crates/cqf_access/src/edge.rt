@@ -1,5 +1,5 @@
 //! The promise that a talker keeps at its edge bridge.
-ghost use Rattle.std.specs.Prelude.{◌≡◌, ◌≤◌, ◌^◌};
+ghost use Rattle.std.specs.Prelude.{◌≡◌, ◌+◌, ◌≤◌, ◌^◌};
 ghost use Rattle.cqf_traffic.specs.TrafficText.{promise_of};
 ghost use Rattle.cqf_access.specs.Arriving.{at_edge, edge_offset, longest_wait, spread_of, way_of};
 ghost use Rattle.cqf_access.specs.Bounding.{link_of};
@@ -57,6 +57,16 @@ fn spread_of(rate: Rate, delays: Delays, shortest: Octets, promise: Traffic) -> 
     Nanos(spread)
 }
 
+/// Returns a stream's jitter at the edge bridge, if the waits of its frames differ by at most `wait`.
+fn jitter_with(rate: Rate, delays: Delays, wait: Nanos, shortest: Octets, promise: Traffic) -> Nanos
+    requires bounded { wait.0 ≤ 2 ^ 32 }
+    requires short { delays.least.0 ≤ 2 ^ 32 }
+    requires brief { delays.most.0 ≤ 2 ^ 32 }
+    ensures { result.0 ≡ promise.jitter + (wait.0 + spread_of (link_of rate None) delays shortest.0 promise.size) }
+{
+    Nanos(promise.jitter().0 + wait.0 + spread_of(rate, delays, shortest, promise).0)
+}
+
 /// Returns the jitter of a talker's promise at the edge bridge. Its access link sends one frame after the other, no frame waits longer than
 /// the bound allows ([`access_bound`]), and no frame of the stream is shorter than `shortest`. The bound and the delays are at most 2^32
 /// ns.
@@ -74,8 +84,8 @@ pub fn edge_jitter(
     requires brief { delays.most.0 ≤ 2 ^ 32 }
     ensures { result.0 ≡ (closer_at_edge (link_of rate None) delays bound.0 shortest.0 (promise_of promise)).jitter }
 {
-    let wait = closer_wait(rate, bound, shortest, promise).0;
-    Nanos(promise.jitter().0 + wait + spread_of(rate, delays, shortest, promise).0)
+    let wait = closer_wait(rate, bound, shortest, promise);
+    jitter_with(rate, delays, wait, shortest, promise)
 }
 
 /// Returns how late a frame can be on its stream's grid at the edge bridge, under the same conditions. This includes the frame's whole
@@ -92,8 +102,8 @@ pub fn grid_jitter(
     requires brief { delays.most.0 ≤ 2 ^ 32 }
     ensures { result.0 ≡ (at_edge (link_of rate None) delays bound.0 shortest.0 (promise_of promise)).jitter }
 {
-    let wait = longest_wait(rate, bound, promise).0;
-    Nanos(promise.jitter().0 + wait + spread_of(rate, delays, shortest, promise).0)
+    let wait = longest_wait(rate, bound, promise);
+    jitter_with(rate, delays, wait, shortest, promise)
 }
 
 /// Returns the offset of a stream's grid at the edge bridge. No frame of the stream is shorter than `shortest`.

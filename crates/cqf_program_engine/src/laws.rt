@@ -5,8 +5,8 @@ ghost use Rattle.cqf_program_engine.specs.Run.{FaultIsOfThreads, FaultIsOfThread
 use crate::sources::Source;
 use cqf_output::Sink;
 
-/// Law: if the words mean a job other than a run on threads, no run on threads is left to be made. So for each command
-/// but `run --threads` the engine has ended when `run_unless_threaded` returns, and that never waits.
+/// Law: if the words mean a job other than a run on threads, no run on threads is left to be made, so
+/// `run_unless_threaded` returns a status. The body of `engine` then returns that at once; no clause says so.
 pub fn engine_ends()
     ensures { OnlyThreadsAreLeft }
 {}

@@ -3,8 +3,8 @@
 //! - [`engine`] runs it, and returns the exit status. [`tell`] ends a run before it has begun. `VERSION` is the
 //!   program's version.
 //! - [`run_unless_threaded`] is all of the engine except for a run on threads, which it returns as a [`ThreadedRun`].
-//!   It never waits, so it returns if each read and each write does; `engine_ends` says for which words this is the
-//!   whole engine.
+//!   It has no handle that may wait, so it returns if each read and each write does; [`engine_ends`] says for which
+//!   words no run on threads is left.
 //! - [`Heard`] is a reader that remembers what was read and whether a read failed. [`Told`] is a writer that remembers
 //!   whether it refused anything. The engine runs over these, so its caller knows why a run ended.
 //! - A [`Source`] is a reader with the kinds of error with which it may fail; a [`Sink`] is a writer with the kinds

@@ -483,8 +483,8 @@ pub fn tell<O: Sink, F: Sink>(stop: &Stop, output: &mut Told<O>, faults: &mut To
     stop.status
 }
 
-/// Runs the program, as [`engine`] does, except for a run on threads. If the words mean one, all of the input was read,
-/// and nothing else is at fault, this run is returned as `Err`. Then it isn't made, and nothing was written.
+/// Runs the program, as [`engine`] does, except for a run on threads. It returns such a run as `Err`, and only if the
+/// words mean one and all of the input was read. Then the run isn't made, and nothing was written.
 ///
 /// `rt` is for the threads of `report`. It isn't a handle that may wait, so the checker proves that this function
 /// returns if each read and each write does: no loop is endless, and nothing waits for another thread, except for the

@@ -1,10 +1,11 @@
 -- What a plan, the output of `latency` and that of `summary` say about a run, by bytes.
-use Rattle.std.proofs.Common.{◌≡◌, ◌∙◌, [], ℕ, Bool, List, Option, Some, Ok, ap, map, refl, subst, sym}
+use Rattle.std.proofs.Common.{◌≡◌, ◌≤◌, ◌∙◌, [], ℕ, Bool, List, Option, Some, Ok, ap, map, refl, subst, sym}
 use Rattle.cqf_lists.specs.Results.{and_then, refuse}
 use Rattle.cqf_model.specs.declared.limits.Limits.{Limits}
 use Rattle.cqf_model.specs.Domain.{Domain}
 use Rattle.cqf_model.specs.History.{Recorded, held_in}
 use Rattle.cqf_model.specs.HistoryBook.{run_of_history}
+use Rattle.cqf_model.specs.Limits.{most_cycles}
 use Rattle.cqf_text.specs.Parts.{parts_of}
 use Rattle.cqf_topology.specs.DomainText.{domain_within}
 use Rattle.cqf_topology.specs.PlannedText.{PlannedText, planned_of_text}
@@ -23,11 +24,12 @@ use Rattle.cqf_program_plans.proofs.CompileLemmas.{same_ok}
 use Rattle.cqf_program_runs.specs.declared.deliveries.delivery.Delivery.{Delivery}
 use Rattle.cqf_program_runs.specs.Deliveries.{deliveries_of}
 use Rattle.cqf_program_runs.specs.Deliveries.PlannedScenario.{planned_scenario, planned_scenario_of, run_of_scenario}
+use Rattle.cqf_program_summary.specs.Summary.Output.{IsSummaryOutput}
 use Rattle.cqf_program_laws.specs.OutputLaws.{AreAsWritten, BeginsWith, DeliveriesAreAsWritten, HasTexts, RunsKeepToldPlans, ThreadsAreAsWritten}
-use Rattle.cqf_program_laws.specs.OutputLaws.{ThreadsKeepToldPlans, WrittenLatenciesAreBounded, WrittenRowsAddUp}
+use Rattle.cqf_program_laws.specs.OutputLaws.{ThreadsKeepToldPlans, WrittenLatenciesAreBounded, WrittenOffersCountOnce, WrittenRowsAddUp}
 use Rattle.cqf_program_laws.specs.PlanLaws.{IsKeptPlan, PlansKeepTheirWordOnThreads, PlansKeepTheirWordToScripts}
 use Rattle.cqf_program_laws.specs.ReaderLaws.{FlowsArePlanned, IsRunnable, PlannedScenariosAreScenarios, ReadersAgreeOnParts, ScenariosMayBeRun}
-use Rattle.cqf_program_laws.specs.SummaryLaws.{IsReadRun, LatenciesAreBounded, RowsAddUp}
+use Rattle.cqf_program_laws.specs.SummaryLaws.{EachOfferCountsOnce, IsReadRun, LatenciesAreBounded, RowsAddUp}
 use Rattle.cqf_program_laws.specs.ToldPlans.{HasKeptPlan, ToldPlansRun}
 use Rattle.cqf_program_laws.specs.VerdictLaws.{AreAsJudged, VerdictsHoldOfAccounts, VerdictsHoldOfScripts, latencies_told}
 use Rattle.cqf_program_laws.proofs.MayRun.{parts_of_scenario}
@@ -203,26 +205,23 @@ threads_are_as_written flows agree may_run verdicts limits strict domain streams
 
 -- ---- summaries
 
-pub written_rows_add_up : PlannedScenariosAreScenarios → ScenariosMayBeRun → RowsAddUp → WrittenRowsAddUp
-written_rows_add_up scenarios may_run rows limits cycles input output fare way short told of =
+-- the run that a summary is of
+read_run : PlannedScenariosAreScenarios → ScenariosMayBeRun → (limits : Limits) (cycles : ℕ) (input output : List ℕ) → cycles ≤ most_cycles →
+    (told : IsSummaryOutput limits cycles input output) → IsReadRun limits cycles input told.found.0 told.found.1 told.book
+read_run scenarios may_run limits cycles input output short told =
     let s : Scenario = told.found.0 in
     let runnable = may_run limits cycles input s (scenarios limits cycles input s told.found.1 told.holds) in
-    rows limits cycles input s told.found.1 told.book fare way (record {
-      short = short;
-      read = told.holds;
-      domain = runnable.domain;
-      may = runnable.may;
-      is_book = told.is_book;
-    }) of
+    record { short = short; read = told.holds; domain = runnable.domain; may = runnable.may; is_book = told.is_book }
+
+pub written_rows_add_up : PlannedScenariosAreScenarios → ScenariosMayBeRun → RowsAddUp → WrittenRowsAddUp
+written_rows_add_up scenarios may_run rows limits cycles input output fare way short told of =
+    rows limits cycles input told.found.0 told.found.1 told.book fare way (read_run scenarios may_run limits cycles input output short told) of
+
+pub written_offers_count_once : PlannedScenariosAreScenarios → ScenariosMayBeRun → EachOfferCountsOnce → WrittenOffersCountOnce
+written_offers_count_once scenarios may_run once limits cycles input output fare way short told of =
+    once limits cycles input told.found.0 told.found.1 told.book fare way (read_run scenarios may_run limits cycles input output short told) of
 
 pub written_latencies_are_bounded : PlannedScenariosAreScenarios → ScenariosMayBeRun → LatenciesAreBounded → WrittenLatenciesAreBounded
 written_latencies_are_bounded scenarios may_run bounded limits cycles input output fare way taken short told of is =
-    let s : Scenario = told.found.0 in
-    let runnable = may_run limits cycles input s (scenarios limits cycles input s told.found.1 told.holds) in
-    bounded limits cycles input s told.found.1 told.book fare way taken (record {
-      short = short;
-      read = told.holds;
-      domain = runnable.domain;
-      may = runnable.may;
-      is_book = told.is_book;
-    }) of is
+    bounded limits cycles input told.found.0 told.found.1 told.book fare way taken
+    (read_run scenarios may_run limits cycles input output short told) of is

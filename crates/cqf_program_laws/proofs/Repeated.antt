@@ -1,6 +1,6 @@
 -- What streams cost of a link repeats after 80 cycles.
-use Rattle.std.proofs.Common.{ℕ, ◌≡◌, ◌+◌, ◌++◌, ◌%◌, ◌<◌, ◌≤◌, ◌∙◌, ◌==◌, Bool, List, [], ◌∷◌, Contains, None, Ok, Option, Some, ap, arith, fold, inl, inr, length, max, mod-lt, refl, subst, sym}
-use Rattle.std.specs.Prelude.{◌&&◌, if◌then◌else◌, nat_le, suc, zero}
+use Rattle.std.proofs.Common.{ℕ, ◌≡◌, ◌+◌, ◌++◌, ◌%◌, ◌<◌, ◌≤◌, ◌∙◌, Bool, List, [], ◌∷◌, Contains, None, Ok, Option, Some, ap, arith, fold, inl, inr, length, max, mod-lt, refl, subst, sym}
+use Rattle.std.specs.Prelude.{if◌then◌else◌, nat_le, suc, zero}
 use Rattle.std.specs.List.{list_any}
 use Rattle.std.proofs.Math.Nat.{add-mod_right}
 use Rattle.std.proofs.lemmas.Bool.{cases_lt, cases_order}
@@ -12,18 +12,17 @@ use Rattle.cqf_lists.proofs.Members.{contains_none, contains_one}
 use Rattle.cqf_units.specs.Timing.{cost_of}
 use Rattle.cqf_model.specs.declared.history.Refused.{Refused}
 use Rattle.cqf_model.specs.declared.history.Refused.TheVariants.{NameHeld, TooManyStreams}
-use Rattle.cqf_model.specs.declared.topology.Hop.{Hop}
-use Rattle.cqf_model.specs.declared.topology.Pace.{Pace}
 use Rattle.cqf_model.specs.declared.topology.Row.{Row}
 use Rattle.cqf_model.specs.Domain.{Domain, is_text}
 use Rattle.cqf_model.specs.History.{Asked, held_in, refused_if}
 use Rattle.cqf_model.specs.Limits.{most_every, streams_within}
-use Rattle.cqf_model.specs.Table.{cost_on, link_cost, uses}
+use Rattle.cqf_model.specs.Table.{cost_on, link_cost}
 use Rattle.cqf_admission.specs.Judging.{form_refusal}
-use Rattle.cqf_admission.specs.Turns.{AreOfGoodPaces, IsGoodPace, IsOfGoodPace}
+use Rattle.cqf_admission.specs.Turns.{AreOfGoodPaces, IsOfGoodPace}
 use Rattle.cqf_admission.proofs.GrantLemmas.{form_paced}
 use Rattle.cqf_admission.proofs.Paced.{good_held}
-use Rattle.cqf_admission.proofs.TurnLemmas.{asked_is_good, turn_again}
+use Rattle.cqf_admission.proofs.TurnLemmas.{asked_is_good}
+use Rattle.cqf_laws_history.proofs.Turns.{uses_again}
 use Rattle.cqf_program_plans.specs.Compile.Output.{stream_line}
 use Rattle.cqf_program_plans.specs.Load.Listing.{listed_row, listing_refusal}
 use Rattle.cqf_program_plans.specs.Load.Output.{listed_from}
@@ -57,16 +56,12 @@ module _ (f : ℕ → ℕ) where
         | inr more ↦ (before.0, omega (arith, before.1), omega (arith, with_next (suc n), more, before.2))
       ]
 
--- a stream uses a link in a cycle if and only if it uses it in that cycle modulo 80
-uses_again : (tree : List Hop) (pace : Pace) (l cycle : ℕ) → IsGoodPace pace → uses tree pace l (cycle % most_every) ≡ uses tree pace l cycle
-uses_again tree pace l cycle good = λ i. list_any (λ (hop : Hop). (hop.link == l) && turn_again pace hop.depth cycle good.divides i) tree
-
 -- so the costs are those of the first 80 cycles
 module _ (rows : List Row) (good : AreOfGoodPaces rows) (l : ℕ) where
   cost_again : (cycle : ℕ) → link_cost rows l (cycle % most_every) ≡ link_cost rows l cycle
   cost_again cycle =
       fold_same (λ (n : ℕ) (row : Row). n + cost_on row l (cycle % most_every)) (λ (n : ℕ) (row : Row). n + cost_on row l cycle) 0 rows
-      (λ n row among. ap (λ (b : Bool). n + (if b then cost_of row.octets else 0)) (uses_again row.tree.items row.pace l cycle (good row among)))
+      (λ n row among. ap (λ (b : Bool). n + (if b then cost_of row.octets else 0)) (uses_again row.tree.items row.pace l cycle (good row among).divides))
 
   repeated : AreRepeatedCosts rows l
   repeated = record {

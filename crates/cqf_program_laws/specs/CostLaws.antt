@@ -14,7 +14,7 @@ pub record AreRepeatedCosts (rows : List Row) (l : ℕ) : Type 0 where
   pub most : (cycle : ℕ) → link_cost rows l cycle ≤ most_cost rows l
   pub reached : (cycle : ℕ) × (cycle < most_every) × (link_cost rows l cycle ≡ most_cost rows l)
 
--- so what `load` writes as held of a link is the greatest cost of all cycles, and what it writes as left is the least of all cycles
+-- so what `load` writes as held of a link is the greatest cost of all cycles
 abbrev pub ListedCostsRepeat : Type 0
 ListedCostsRepeat = (d : Domain) (streams : List Asked) (rows : List Row) (l : ℕ) → listed_from d [] streams ≡ Ok rows → AreRepeatedCosts rows l
 

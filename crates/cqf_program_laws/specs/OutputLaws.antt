@@ -27,7 +27,7 @@ use Rattle.cqf_program_summary.specs.Summary.{Fare}
 use Rattle.cqf_program_summary.specs.Summary.Output.{IsSummaryOutput}
 use Rattle.cqf_program_threads.specs.ThreadsOutput.{IsThreadsOutput}
 use Rattle.cqf_program_laws.specs.PlanLaws.{PlanKeepsItsWord}
-use Rattle.cqf_program_laws.specs.SummaryLaws.{AreWithinBounds, IsRowOf}
+use Rattle.cqf_program_laws.specs.SummaryLaws.{AreWithinBounds, CountsEachOnce, IsRowOf}
 use Rattle.cqf_program_laws.specs.VerdictLaws.{AreAsJudged, latencies_told}
 
 -- the input of a run begins with these texts of a domain and of streams
@@ -99,6 +99,13 @@ WrittenRowsAddUp =
     (limits : Limits) (cycles : ℕ) (input output : List ℕ) (fare : Fare) (way : ListenerWay) → cycles ≤ most_cycles →
     (told : IsSummaryOutput limits cycles input output) → IsRowOf cycles told.found.0 told.found.1 told.book fare way →
     fare.offered ≡ way.tally.delivered + way.tally.late + fare.dropped + way.tally.under_way
+
+-- each number of such a row is that of the offers that end in one way, and each of these ends in exactly one
+abbrev pub WrittenOffersCountOnce : Type 0
+WrittenOffersCountOnce =
+    (limits : Limits) (cycles : ℕ) (input output : List ℕ) (fare : Fare) (way : ListenerWay) → cycles ≤ most_cycles →
+    (told : IsSummaryOutput limits cycles input output) → IsRowOf cycles told.found.0 told.found.1 told.book fare way →
+    CountsEachOnce (run_of_scenario cycles told.found.0) told.found.1 told.book fare way
 
 -- and its times are within the bounds of `latency`
 abbrev pub WrittenLatenciesAreBounded : Type 0

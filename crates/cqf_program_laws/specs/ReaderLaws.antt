@@ -1,4 +1,4 @@
--- The commands read the same in the same input, and what they accept may be run.
+-- What a command reads in a text, those that read fewer of its keys read there too; and what is accepted may be run.
 use Rattle.std.specs.Prelude.{ℕ, ◌≡◌, List, map, Ok}
 use Rattle.cqf_lists.specs.Results.{and_then}
 use Rattle.cqf_model.specs.declared.limits.Limits.{Limits}

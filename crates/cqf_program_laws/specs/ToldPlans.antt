@@ -1,4 +1,4 @@
--- What the text of a plan that `plan` writes ensures, with no other premise.
+-- What the text of a plan that `plan` writes ensures, if any cycle times that it is given are in their range.
 use Rattle.std.specs.Prelude.{ℕ, ◌≡◌, All, IfSome, List, Option, Ok, false}
 use Rattle.cqf_model.specs.declared.limits.Limits.{Limits}
 use Rattle.cqf_model.specs.Domain.{Domain}

@@ -10,7 +10,7 @@
 
 ghost use Rattle.cqf_program_laws.specs.CostLaws.{HeldCostsRepeat, ListedCostsRepeat};
 ghost use Rattle.cqf_program_laws.specs.OutputLaws.{DeliveriesAreAsWritten, RunsKeepToldPlans, ThreadsAreAsWritten, ThreadsKeepToldPlans};
-ghost use Rattle.cqf_program_laws.specs.OutputLaws.{WrittenLatenciesAreBounded, WrittenRowsAddUp};
+ghost use Rattle.cqf_program_laws.specs.OutputLaws.{WrittenLatenciesAreBounded, WrittenOffersCountOnce, WrittenRowsAddUp};
 ghost use Rattle.cqf_program_laws.specs.PlanLaws.{DeadlinesOfSketchesAreKept, DeadlinesRunFromTalkers, PlansKeepTheirWord};
 ghost use Rattle.cqf_program_laws.specs.PlanLaws.{PlansKeepTheirWordLoosely, PlansKeepTheirWordOnThreads, PlansKeepTheirWordToScripts, SettledStreamsAreOfSketches};
 ghost use Rattle.cqf_program_laws.specs.ReaderLaws.{FlowsArePlanned, PlannedScenariosAreScenarios, PlannedStreamsArePaced, ReadersAgreeOnParts, ScenariosMayBeRun};
@@ -122,10 +122,10 @@ pub fn summaries_are_within_bounds()
     cqf_program_runs::arrivals_are_the_shift();
 }
 
-/// What one command reads in an input, the others read there too. A streams text that is read with its deadlines is read without them as
+/// What a command reads in a text, those that read fewer of its keys read there too. A streams text that is read with its deadlines is read without them as
 /// the same requests, so an input that `deliveries`, `check` and `summary` accept is accepted by `run`, `report` and `run --threads` as the
-/// same scenario. Each scenario that is accepted may be run: its domain is well-formed, there is room for its calls, and its frames are
-/// frames of the domain, in order.
+/// same scenario. Each scenario that is accepted may be run: its domain is well-formed, there is room for its calls, its frames are frames
+/// of the domain, and its offers are in order.
 pub fn readers_agree()
     ensures flows { FlowsArePlanned }
     ensures streams { PlannedStreamsArePaced }
@@ -136,7 +136,7 @@ pub fn readers_agree()
 
 /// Each text that `plan` writes is read as its plan by every command, within the same limits. The plan's domain is well-formed, its streams
 /// are all admitted before cycle 0, each reserves as much as its talker needs in a cycle, and none may miss its deadline. So the laws about
-/// plans that keep their word need only that `plan` wrote the text.
+/// plans that keep their word need only that `plan` wrote the text, and that cycle times which it was given are in their range.
 pub fn told_plans_run()
     ensures { ToldPlansRun }
 {
@@ -144,9 +144,10 @@ pub fn told_plans_run()
     cqf_program_sketch::told_plan_is_admitted();
 }
 
-/// A plan keeps its word in each output of `run` and of `run --threads` whose input begins with a text that `plan` wrote within the same limits.
-/// Nothing else is required of the plan or of the scenario. Each frame that the plan promises is covered, and whole at each of its stream's
-/// listeners in time. A run has at most 100,000 cycles.
+/// A plan keeps its word in each output of `run` and of `run --threads` whose input begins with a text, for its domain and its streams, that `plan`
+/// wrote within the same limits. Cycle times that `plan` was given are in their range; nothing else is required of the plan or of the scenario.
+/// Each frame that the plan promises is covered, and whole at each of its stream's listeners in time, if the run is long enough. A run has at
+/// most 100,000 cycles.
 pub fn outputs_keep_told_plans()
     ensures runs { RunsKeepToldPlans }
     ensures threads { ThreadsKeepToldPlans }
@@ -157,8 +158,8 @@ pub fn outputs_keep_told_plans()
 }
 
 /// What an output of `latency` says about a domain's text and its streams holds for each output of `deliveries` whose input begins with these
-/// texts: no delivery is late for which it says `in-time`, each one that arrives is late for which it says `late`, and each takes no less than
-/// `least` and no more than `most`. The same holds for the deliveries in the book of each output of `run --threads`.
+/// texts: no delivery is late for which it says `in-time`, each one that arrives is late for which it says `late`, and each that is whole
+/// within the run takes no less than `least` and no more than `most`. A run of `deliveries` has at most 100,000 cycles. The same holds for the deliveries in the book of each output of `run --threads`.
 pub fn deliveries_are_as_written()
     ensures deliveries { DeliveriesAreAsWritten }
     ensures threads { ThreadsAreAsWritten }
@@ -167,18 +168,21 @@ pub fn deliveries_are_as_written()
     told_verdicts_hold();
 }
 
-/// The rows of each output of `summary` add up, and their times are within the bounds of `latency`.
+/// Each number of a row of an output of `summary` is that of the offers that end in one way, each of these ends in exactly one, and the times are
+/// within the bounds of `latency`. A run has at most 100,000 cycles.
 pub fn summaries_are_as_written()
     ensures rows { WrittenRowsAddUp }
+    ensures once { WrittenOffersCountOnce }
     ensures bounds { WrittenLatenciesAreBounded }
 {
     readers_agree();
     summaries_add_up();
+    each_offer_counts_once();
     summaries_are_within_bounds();
 }
 
 /// What streams that `load` lists cost of a link repeats after 80 cycles. So the greatest cost of 80 cycles, which is written as held, is the
-/// greatest of all cycles, and what is written as left is the least of all cycles. The same holds of the streams that a legal history holds.
+/// greatest of all cycles. The same holds of the streams that a legal history holds.
 pub fn costs_repeat()
     ensures listed { ListedCostsRepeat }
     ensures held { HeldCostsRepeat }
