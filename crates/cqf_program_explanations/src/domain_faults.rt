@@ -1,7 +1,6 @@
 //! Domains that no network can have.
 
 use crate::given::CommandInput;
-use crate::hints::{is_open, plan_hint};
 use crate::network::{Network, WrittenLink};
 use crate::places::{Grouped, Place};
 use crate::plant::{FoundKey, KeyOwner, WrittenItem};
@@ -60,22 +59,7 @@ pub(crate) fn tell_name_taken(
     tell_taken(given, told, &mut firsts, "stations", stations.as_slice())
 }
 
-/// Returns why a name isn't a bridge at which a link begins.
-fn no_beginning(alloc: Global, network: &Network<'_>, name: &str) -> Result<String, AllocError> {
-    let shown = shortened(alloc, name)?;
-    if network.is_node(name) {
-        return format!(in alloc; "{shown} is a station: a link from it leads to a bridge");
-    }
-    let question = network.bridge_question(alloc, name)?;
-    format!(in alloc; "no bridge {shown}{question}")
-}
-
-/// Whether a link may begin where it does: at a bridge, or at a station, from which it leads to a bridge.
-fn may_begin(network: &Network<'_>, link: &WrittenLink<'_>) -> bool {
-    network.is_node(link.from)
-}
-
-/// Reports a talker's link that doesn't lead to a bridge.
+/// Reports an access link that doesn't lead to a bridge.
 fn tell_talkers_end(
     given: &CommandInput<'_>,
     told: &mut ToldLines,
@@ -95,25 +79,24 @@ fn tell_talkers_end(
     )?)
 }
 
-/// Reports a link that begins where none may begin.
+/// Reports a link that begins at what isn't a node.
 fn tell_beginning(
     given: &CommandInput<'_>,
     told: &mut ToldLines,
     network: &Network<'_>,
     link: &WrittenLink<'_>,
 ) -> Result<(), AllocError> {
-    if may_begin(network, link) || told.is_counted() {
+    if network.is_node(link.from) || told.is_counted() {
         return Ok(());
     }
-    let (alloc, label) = (given.alloc, link.item.label(given.alloc)?);
-    let place = link.item.place_of("from");
-    let why = no_beginning(alloc, network, link.from)?;
-    let hint = if network.is_node(link.from) && is_open(given)? {
-        plan_hint(given)?
-    } else {
-        String::new(alloc)
-    };
-    told.tell(format!(in alloc; "{place}: {label}: from: {why}{hint}")?)
+    let (place, label) = (link.item.place_of("from"), link.item.label(given.alloc)?);
+    let (shown, question) = (
+        shortened(given.alloc, link.from)?,
+        network.node_question(given.alloc, link.from)?,
+    );
+    told.tell(format!(in given.alloc;
+        "{place}: {label}: from: no bridge or station {shown}{question}"
+    )?)
 }
 
 /// Reports a link that ends at what isn't a node.
@@ -243,7 +226,7 @@ pub(crate) fn tell_links_twice(
     Ok(())
 }
 
-/// Tells of each link that says what else its station may send, and leaves no station.
+/// Reports each link that has `other` and leaves no station.
 pub(crate) fn tell_misplaced_others(
     given: &CommandInput<'_>,
     told: &mut ToldLines,
@@ -274,7 +257,7 @@ fn greatest_cycle(given: &CommandInput<'_>) -> Result<u64, AllocError> {
     Ok(most)
 }
 
-/// Returns whether delays and gaps are checked for a link: in a network file a talker's link isn't one of the domain's.
+/// Returns whether delays and gaps are checked for a link: an access link isn't one of the domain's.
 fn is_checked(network: &Network<'_>, link: &WrittenLink<'_>) -> bool {
     is_of_plant(network, link)
 }
@@ -397,6 +380,12 @@ pub(crate) fn tell_syncs(given: &CommandInput<'_>, told: &mut ToldLines) -> Resu
     Ok(())
 }
 
+/// Returns the most access links that some limits allow: four for each station.
+fn access_links_within(limits: Limits) -> u64 {
+    let stations = limits.stations_within() as u64;
+    stations.saturating_mul(4)
+}
+
 /// Returns how many links the domain of a network file has.
 fn count_of_plant(given: &CommandInput<'_>) -> Result<u64, AllocError> {
     let network = given.network()?;
@@ -427,6 +416,34 @@ fn most_of(limits: Limits, key: &str) -> usize {
     }
 }
 
+/// Returns how many access links a network has.
+fn count_of_access(network: &Network<'_>) -> u64 {
+    let mut count: u64 = 0;
+    for link in &network.links {
+        count = count.saturating_add(u64::from(talker_of(network, link).is_some()));
+    }
+    count
+}
+
+/// Reports too many access links.
+fn tell_many_access_links(
+    given: &CommandInput<'_>,
+    told: &mut ToldLines,
+) -> Result<(), AllocError> {
+    let count = count_of_access(&given.network()?);
+    let most = access_links_within(given.limits);
+    match given.plant.top("links") {
+        Some(found) if count > most => {
+            let (place, count, most) = (found.place, Grouped(count), Grouped(most));
+            let larger = given.larger(access_links_within(LARGE))?;
+            told.tell(format!(in given.alloc;
+                "{place}: {count} access links: a network has at most {most}{larger}"
+            )?)
+        }
+        _ => Ok(()),
+    }
+}
+
 /// Reports the keys with too many elements.
 pub(crate) fn tell_too_many(
     given: &CommandInput<'_>,
@@ -444,5 +461,5 @@ pub(crate) fn tell_too_many(
             }
         }
     }
-    Ok(())
+    tell_many_access_links(given, told)
 }

@@ -8,9 +8,10 @@ use cqf_units::Name;
 use std::alloc::{AllocError, Global};
 use toml::Value;
 
-/// The form of a name, in words.
-pub(crate) const TALKER_FORM: &str = "from is a name, or a station's and a bridge's with @ between";
+/// The form of a stream's talker, in words.
+const TALKER_FORM: &str = "from is a name, or a station's and a bridge's with @ between";
 
+/// The form of a name, in words.
 pub(crate) const NAME_FORM: &str = "a name is 1 to 32 of a to z, 0 to 9, - and _";
 
 /// The form of a path, in words.
@@ -217,7 +218,7 @@ pub(crate) fn is_name(value: &Value) -> bool {
     }
 }
 
-/// Whether the value is a name, or two with `@` between.
+/// Returns whether the value is a name, or two with `@` between.
 fn is_talker(value: &Value) -> bool {
     let Some(text) = value.as_str() else {
         return false;

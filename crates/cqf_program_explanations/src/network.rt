@@ -1,7 +1,7 @@
 //! The network of a plan: its nodes and links by name.
 
 use crate::plant::{FoundKey, KeyOwner, Plant, WrittenItem, number_of};
-use crate::sketch::{is_duplex, talker_of};
+use crate::sketch::is_duplex;
 use crate::words::question;
 use cqf_model::Limits;
 use std::alloc::{AllocError, Global};
@@ -23,6 +23,13 @@ pub(crate) struct WrittenLink<'p> {
     pub guard: u64,
 }
 
+/// A direction of a link as it is written: the link's index, and whether it is the way back of a duplex link.
+#[derive(Clone, Copy, Debug, PartialEq, Eq)]
+pub(crate) struct LinkWay {
+    pub place: usize,
+    pub is_back: bool,
+}
+
 /// Indexes by the name of a node and that of another.
 type EndsMap<'p> = BTreeMap<&'p str, BTreeMap<&'p str, usize>>;
 
@@ -36,10 +43,8 @@ pub(crate) struct Network<'p> {
     are_bridges: BTreeMap<&'p str, bool>,
     /// The index of the first link between two nodes, as it is written.
     ends: EndsMap<'p>,
-    /// The same of a link that stands for two, for its way back.
+    /// The same for the way back of a duplex link.
     back: EndsMap<'p>,
-    /// The place of the first access link of a station.
-    talkers: BTreeMap<&'p str, usize>,
     /// In ns.
     pub cycle: u64,
     pub guard: u64,
@@ -89,7 +94,7 @@ fn link_of<'p>(item: &WrittenItem<'p>, guard: u64) -> WrittenLink<'p> {
     }
 }
 
-/// The network that files have.
+/// Returns the network that files have.
 pub(crate) fn network_of<'p>(
     alloc: Global,
     plant: &'p Plant<'_>,
@@ -132,7 +137,6 @@ fn nodes_alone<'p>(
         are_bridges,
         ends: BTreeMap::new(alloc),
         back: BTreeMap::new(alloc),
-        talkers: BTreeMap::new(alloc),
         cycle: 0,
         guard: 0,
         sync: 0,
@@ -209,11 +213,6 @@ impl<'p> Network<'p> {
         if is_duplex(&link) {
             put_first(alloc, &mut self.back, link.to, link.from, place)?;
         }
-        if let Some(station) = talker_of(&*self, &link) {
-            if !self.talkers.contains_key(station) {
-                self.talkers.insert(station, place)?;
-            }
-        }
         self.links.push(link)?;
         Ok(())
     }
@@ -223,13 +222,7 @@ impl<'p> Network<'p> {
         self.are_bridges.get(name).copied().unwrap_or(false)
     }
 
-    /// The first access link of a station.
-    pub(crate) fn talkers_link(&self, station: &str) -> Option<&WrittenLink<'p>> {
-        let place = self.talkers.get(station)?;
-        self.links.get(*place)
-    }
-
-    /// Returns the bridge at which a talker's link ends; the link is a talker's, or one of its directions is.
+    /// Returns the bridge at which an access link ends; the link is one, or one of its directions is.
     pub(crate) fn edge_of<'l>(&self, link: &WrittenLink<'l>) -> &'l str {
         if self.is_bridge(link.from) {
             link.from
@@ -243,15 +236,26 @@ impl<'p> Network<'p> {
         self.are_bridges.contains_key(name)
     }
 
-    /// Returns the index of the link between two nodes.
-    pub(crate) fn link_between(&self, from: &str, to: &str) -> Option<usize> {
-        place_at(&self.ends, from, to)
+    /// Returns the link of the domain that leads from one node to another.
+    pub(crate) fn way_between(&self, from: &str, to: &str) -> Option<LinkWay> {
+        if !self.is_bridge(from) {
+            return None;
+        }
+        match place_at(&self.ends, from, to) {
+            Some(place) => Some(LinkWay {
+                place,
+                is_back: false,
+            }),
+            None => Some(LinkWay {
+                place: place_at(&self.back, from, to)?,
+                is_back: true,
+            }),
+        }
     }
 
-    /// Returns whether a link of the plan leads from one node to another.
+    /// Returns whether a link of the domain leads from one node to another.
     pub(crate) fn leads(&self, from: &str, to: &str) -> bool {
-        self.is_bridge(from)
-            && (self.link_between(from, to).is_some() || place_at(&self.back, from, to).is_some())
+        self.way_between(from, to).is_some()
     }
 
     /// Returns the question whether a bridge was meant.

@@ -1,4 +1,4 @@
-//! Networks of which something is open, and streams that don't come to their edge bridges.
+//! Networks with open parts, and streams that don't enter as their text says.
 
 use crate::given::CommandInput;
 use crate::hints::plan_hint;
@@ -6,13 +6,13 @@ use crate::network::{Network, WrittenLink};
 use crate::plan_faults::tell_no_talkers;
 use crate::plant::{KeyOwner, WrittenItem};
 use crate::refusal::Refusal;
-use crate::sketch::{is_in_step, talker_of};
+use crate::sketch::{has_traffic, is_in_step, nanos_question, talker_of};
 use crate::told::ToldLines;
 use crate::words::shortened;
 use std::alloc::{AllocError, Global};
 use toml::Value;
 
-/// A talker's node, and the bridge that stands behind `@`.
+/// Returns a talker's node, and the bridge after `@`.
 pub(crate) fn ends_of_talker(talker: &str) -> (&str, Option<&str>) {
     match talker.split_once('@') {
         Some((node, bridge)) => (node, Some(bridge)),
@@ -20,8 +20,8 @@ pub(crate) fn ends_of_talker(talker: &str) -> (&str, Option<&str>) {
     }
 }
 
-/// Whether an access link leads from a station, and to a bridge where one is named.
-fn is_access(network: &Network<'_>, link: &WrittenLink<'_>, talker: &str) -> bool {
+/// Returns whether an access link is a talker's: it leads from the station, and to the bridge if the talker's text names one.
+pub(crate) fn is_access(network: &Network<'_>, link: &WrittenLink<'_>, talker: &str) -> bool {
     let (node, bridge) = ends_of_talker(talker);
     if talker_of(network, link) != Some(node) {
         return false;
@@ -32,7 +32,7 @@ fn is_access(network: &Network<'_>, link: &WrittenLink<'_>, talker: &str) -> boo
     }
 }
 
-/// The first access link of a talker.
+/// Returns the first access link of a talker.
 pub(crate) fn access_link_of<'n, 'p>(
     network: &'n Network<'p>,
     talker: &str,
@@ -45,12 +45,12 @@ pub(crate) fn access_link_of<'n, 'p>(
     None
 }
 
-/// Whether a text names a talker: a bridge, or a station with an access link.
+/// Returns whether a text names a talker: a bridge, or a station with an access link.
 pub(crate) fn is_talker(network: &Network<'_>, talker: &str) -> bool {
     network.is_bridge(talker) || access_link_of(network, talker).is_some()
 }
 
-/// The branches of a stream, each its names.
+/// Returns the branches of a stream, each its names.
 fn branches_of<'p>(alloc: Global, item: &WrittenItem<'p>) -> Result<Vec<&'p [Value]>, AllocError> {
     let mut branches = Vec::new(alloc);
     if let Some(path) = item.get("path").and_then(Value::as_array) {
@@ -66,23 +66,43 @@ fn branches_of<'p>(alloc: Global, item: &WrittenItem<'p>) -> Result<Vec<&'p [Val
     Ok(branches)
 }
 
-/// What is said of a stream whose talker has several access links.
-fn several_words(alloc: Global, network: &Network<'_>, talker: &str) -> Result<String, AllocError> {
-    let mut words = format!(in alloc; "from: {talker} has several access links: say which, as")?;
-    let mut first = true;
+/// Returns the texts that name a station's access links, with `or` between.
+fn texts_of_links(
+    alloc: Global,
+    network: &Network<'_>,
+    station: &str,
+) -> Result<String, AllocError> {
+    let mut words = String::new(alloc);
     for link in &network.links {
-        if is_access(network, link, talker) {
-            let edge = network.edge_of(link);
-            let between = if first { "" } else { " or" };
-            let more = format!(in alloc; "{between} {talker}@{edge}")?;
+        if is_access(network, link, station) {
+            let (between, edge) = (
+                if words.is_empty() { "" } else { " or " },
+                network.edge_of(link),
+            );
+            let more = format!(in alloc; "{between}{station}@{edge}")?;
             words.push_str(more.as_str())?;
-            first = false;
         }
     }
     Ok(words)
 }
 
-/// What is said of a stream whose path begins elsewhere than its talker's streams enter.
+/// Returns the words about the access links that a station has.
+pub(crate) fn links_words(
+    alloc: Global,
+    network: &Network<'_>,
+    station: &str,
+) -> Result<String, AllocError> {
+    let texts = texts_of_links(alloc, network, station)?;
+    format!(in alloc; "; did you mean {texts}?")
+}
+
+/// Returns the words about a stream whose talker has several access links.
+fn several_words(alloc: Global, network: &Network<'_>, talker: &str) -> Result<String, AllocError> {
+    let texts = texts_of_links(alloc, network, talker)?;
+    format!(in alloc; "from: {talker} has several access links: say which, as {texts}")
+}
+
+/// Returns the words about a stream whose path begins at another bridge than where its talker's streams enter.
 fn other_edge_words(
     alloc: Global,
     network: &Network<'_>,
@@ -98,14 +118,14 @@ fn other_edge_words(
         if begins != edge {
             let (begins, talker) = (shortened(alloc, begins)?, shortened(alloc, talker)?);
             return format!(in alloc;
-                "its path begins at {begins}, and its talker {talker} comes in at {edge}"
+                "its path begins at {begins}, and its talker {talker} comes in at {edge}: let it begin there"
             );
         }
     }
     Ok(String::new(alloc))
 }
 
-/// Tells of the stream of a name that doesn't enter as its text says.
+/// Reports the stream of a name that doesn't enter as its text says.
 pub(crate) fn tell_entering(
     given: &CommandInput<'_>,
     told: &mut ToldLines,
@@ -122,7 +142,8 @@ pub(crate) fn tell_entering(
             "TwoAccessLinks" => ("from", several_words(alloc, &network, talker)?),
             "OtherEdge" => ("from", other_edge_words(alloc, &network, item, talker)?),
             _ => {
-                let words = "to: its listeners aren't those of its paths, in their order";
+                let words =
+                    "to: its listeners aren't those of its paths, in their order; without to they are";
                 ("to", String::from_str(alloc, words)?)
             }
         };
@@ -132,7 +153,7 @@ pub(crate) fn tell_entering(
     Ok(())
 }
 
-/// Whether a stream has its ends and no way between them.
+/// Returns whether a stream has its ends and no path between them.
 fn lacks_way(item: &WrittenItem<'_>) -> bool {
     if item.get("path").is_some() || item.get("paths").is_some() {
         return false;
@@ -140,28 +161,17 @@ fn lacks_way(item: &WrittenItem<'_>) -> bool {
     item.get("from").is_some() && item.get("to").is_some()
 }
 
-/// The keys of a stream's traffic.
-const TRAFFIC: [&str; 5] = ["interval", "frames", "size", "jitter", "offset"];
-
-/// Whether a stream has traffic, and doesn't say what it reserves.
+/// Returns whether a stream has traffic, and doesn't say what it reserves.
 fn lacks_octets(item: &WrittenItem<'_>) -> bool {
-    if item.get("octets").is_some() {
-        return false;
-    }
-    for key in &TRAFFIC {
-        if item.get(*key).is_some() {
-            return true;
-        }
-    }
-    false
+    item.get("octets").is_none() && has_traffic(item)
 }
 
-/// Whether a stream's talker is in step, and nothing says of how many cycles it is offered in one.
+/// Returns whether a stream's talker is in step, and `every` is missing.
 fn lacks_turns(item: &WrittenItem<'_>) -> bool {
     is_in_step(item) && item.get("every").is_none()
 }
 
-/// What of a stream is left to `plan`, in words; nothing where nothing is.
+/// Returns what `plan` would add to a stream, in words; an empty text if nothing is open.
 fn open_words(item: &WrittenItem<'_>) -> &'static str {
     if lacks_way(item) {
         "has no path"
@@ -174,7 +184,7 @@ fn open_words(item: &WrittenItem<'_>) -> &'static str {
     }
 }
 
-/// Tells of each stream of which something is open.
+/// Reports each stream that has an open part.
 fn tell_open(given: &CommandInput<'_>, told: &mut ToldLines) -> Result<(), AllocError> {
     let hint = plan_hint(given)?;
     for item in &given.plant.items(KeyOwner::Stream)? {
@@ -188,7 +198,7 @@ fn tell_open(given: &CommandInput<'_>, told: &mut ToldLines) -> Result<(), Alloc
     Ok(())
 }
 
-/// Tells of a cycle time that is open.
+/// Reports a cycle time that is open.
 fn tell_open_cycle(given: &CommandInput<'_>, told: &mut ToldLines) -> Result<(), AllocError> {
     let hint = plan_hint(given)?;
     let Some(found) = given.plant.top("cycle") else {
@@ -198,7 +208,7 @@ fn tell_open_cycle(given: &CommandInput<'_>, told: &mut ToldLines) -> Result<(),
     told.tell(format!(in given.alloc; "{place}: cycle has several cycle times{hint}")?)
 }
 
-/// What a stream takes of its access link, in tenths of a Mb/s: its frames with their preambles and gaps.
+/// Returns what a stream takes of its access link, in tenths of a Mb/s: its frames with their preambles and gaps.
 fn taken_by(item: &WrittenItem<'_>) -> u64 {
     let (interval, size) = (item.number("interval"), item.number("size"));
     let frames = item.get("frames").map_or(1, |_| item.number("frames"));
@@ -209,16 +219,16 @@ fn taken_by(item: &WrittenItem<'_>) -> u64 {
         .unwrap_or(0)
 }
 
-/// A number of tenths with its point.
+/// Returns a number of tenths with its point.
 fn in_tenths(alloc: Global, tenths: u64) -> Result<String, AllocError> {
     let (whole, rest) = (tenths / 10, tenths % 10);
     format!(in alloc; "{whole}.{rest}")
 }
 
-/// How many streams a line on an access link names.
+/// How many streams a line about an access link names.
 const MOST_NAMED: u64 = 4;
 
-/// What a link's streams take of it, all together and one by one, in tenths of a Mb/s and in words; none where it has no streams.
+/// Returns what a link's streams take of it: all together in tenths of a Mb/s, and each in words. Returns `None` if it has no streams.
 fn use_words(
     given: &CommandInput<'_>,
     network: &Network<'_>,
@@ -226,6 +236,7 @@ fn use_words(
 ) -> Result<Option<(u64, String)>, AllocError> {
     let alloc = given.alloc;
     let (mut all, mut count, mut words) = (0u64, 0u64, String::new(alloc));
+    let mut question = String::new(alloc);
     for item in &given.plant.items(KeyOwner::Stream)? {
         let talker = item.text("from").unwrap_or("");
         if talker.is_empty() || !is_access(network, link, talker) {
@@ -234,6 +245,9 @@ fn use_words(
         let taken = taken_by(item);
         all = all.saturating_add(taken);
         count = count.saturating_add(1);
+        if question.is_empty() {
+            question = nanos_question(alloc, item, "interval")?;
+        }
         if count <= MOST_NAMED {
             let between = if count == 1 { "" } else { ", " };
             let name = shortened(alloc, item.text("name").unwrap_or(""))?;
@@ -248,10 +262,12 @@ fn use_words(
         let more = count - MOST_NAMED;
         words.push_str(format!(in alloc; " and {more} more")?.as_str())?;
     }
+    words.push_str("; give it a higher rate, or them longer intervals")?;
+    words.push_str(question.as_str())?;
     Ok(Some((all, words)))
 }
 
-/// Tells what the streams of a station take of its access links.
+/// Reports what the streams of a station take of its access links.
 fn tell_full(
     given: &CommandInput<'_>,
     told: &mut ToldLines,
@@ -274,7 +290,7 @@ fn tell_full(
     Ok(())
 }
 
-/// Tells why a network is refused.
+/// Reports why a network is refused.
 pub(crate) fn tell_network(
     given: &CommandInput<'_>,
     told: &mut ToldLines,

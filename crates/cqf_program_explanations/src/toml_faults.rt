@@ -9,7 +9,7 @@ use crate::hints::{is_open, plan_hint};
 use crate::outline::{Element, KeyLine, Outline};
 use crate::places::Place;
 use crate::plant::{KeyOwner, PlantFile, WrittenItem};
-use crate::sketch::{is_in_step, is_planning};
+use crate::sketch::{has_traffic, is_in_step, is_planning};
 use crate::told::ToldLines;
 use crate::words::{nearest, shown};
 use cqf_program_files::{LINK, STREAM, TOP};
@@ -203,7 +203,8 @@ fn tell_missing_top(
     told: &mut ToldLines,
     key: &str,
 ) -> Result<(), AllocError> {
-    let in_links = tell_misplaced(given, told, KeyOwner::Link, key)?;
+    // a link may have a guard band of its own
+    let in_links = key != GUARD && tell_misplaced(given, told, KeyOwner::Link, key)?;
     let in_streams = tell_misplaced(given, told, KeyOwner::Stream, key)?;
     let near = tell_near_top(given, told, key)?;
     if in_links || in_streams || near {
@@ -238,11 +239,22 @@ fn near_key<'p>(
     Ok(None)
 }
 
-/// Returns whether a link or a stream is a table that lacks a key, and any keys that may replace it.
-fn lacks(item: &WrittenItem<'_>, key: &str) -> bool {
-    item.value.is_table()
-        && item.get(key).is_none()
-        && !(key == "path" && item.get("paths").is_some())
+/// Returns whether a stream may lack a key, because of other keys. `plan` chooses octets for traffic, and takes ends from a path; a key of
+/// traffic is owed by streams with traffic.
+fn may_lack(given: &CommandInput<'_>, item: &WrittenItem<'_>, key: &str) -> bool {
+    let has_path = item.get("path").is_some() || item.get("paths").is_some();
+    match key {
+        "path" => has_path,
+        "octets" => is_planning(given) && has_traffic(item),
+        "from" | "to" => item.kind == KeyOwner::Stream && has_path,
+        "interval" | "size" => !has_traffic(item),
+        _ => false,
+    }
+}
+
+/// Returns whether a link or a stream is a table that lacks a key which it has to have.
+fn lacks(given: &CommandInput<'_>, item: &WrittenItem<'_>, key: &str) -> bool {
+    item.value.is_table() && item.get(key).is_none() && !may_lack(given, item, key)
 }
 
 /// Returns the words about a stream that lacks a key, if `plan` chooses its value.
@@ -267,7 +279,7 @@ fn tell_missing_within(
         key
     };
     for item in &given.plant.items(kind)? {
-        if !lacks(item, key) || told.is_counted() {
+        if !lacks(given, item, key) || told.is_counted() {
             continue;
         }
         let label = item.label(given.alloc)?;
