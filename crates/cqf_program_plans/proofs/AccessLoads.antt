@@ -50,11 +50,11 @@ reserved_little octets every small =
     omega (arith, up, frames, small)
 
 -- an access link of a network has its ends there
-pub link_there : (network : SketchDomain) (links : List TalkerLink) (k : ℕ) (link : TalkerLink) → HasTalkerLinks network → links ≡ network.talkers →
-    k < length links → link ≡ get_or links k link → IsTalkerLink network link
-link_there network links k link has same below is =
+pub link_there : (network : SketchDomain) (links : List TalkerLink) (k : ℕ) (d : TalkerLink) → HasTalkerLinks network → links ≡ network.talkers →
+    k < length links → IsTalkerLink network (get_or links k d)
+link_there network links k d has same below =
     let each : All (IsTalkerLink network) links = subst (All (IsTalkerLink network)) (sym same) has.each_there in
-    subst (IsTalkerLink network) (sym is) (each k link below)
+    each k d below
 
 -- one more is added to the link at its place
 pub added_at : (loads : List AccessLoad) (place taken : ℕ) (d : AccessLoad) → place < length loads →
@@ -63,13 +63,19 @@ added_at [] place taken d below = absurd (omega (arith, below))
 added_at (load ∷ loads) zero taken d below = refl
 added_at (load ∷ loads) (suc place) taken d below = ap (λ (rest : List AccessLoad). load ∷ rest) (added_at loads place taken d (omega (arith, below)))
 
+-- so the loads are those in which this one is changed
+pub added_there : (loads : List AccessLoad) (place taken : ℕ) (old after : AccessLoad) → place < length loads → old ≡ get_or loads place old →
+    after ≡ loaded_by taken old → set loads place after ≡ added_load loads place taken
+added_there loads place taken old after below is more =
+    ap (set loads place) (more ∙ ap (loaded_by taken) is) ∙ sym (added_at loads place taken old below)
+
 -- where there is none, nothing changes
 pub added_none : (loads : List AccessLoad) (place taken : ℕ) → length loads ≤ place → added_load loads place taken ≡ loads
 added_none [] place taken above = refl
 added_none (load ∷ loads) zero taken above = absurd (omega (arith, above))
 added_none (load ∷ loads) (suc place) taken above = ap (λ (rest : List AccessLoad). load ∷ rest) (added_none loads place taken (omega (arith, above)))
 
--- some of so many are some of one more
+-- some of a number of streams are some of one more
 more_streams : (count : ℕ) (load : AccessLoad) → IsLoadedBy count load → IsLoadedBy (count + 1) load
 more_streams count load is = record { little = is.little; few = omega (arith, is.few) }
 
@@ -88,13 +94,19 @@ all_more count place taken loads after d below little same all =
     (All-set (IsLoadedBy (count + 1)) loads place (loaded_by taken (get_or loads place d)) (one_more count taken (get_or loads place d) little (all place d below))
     (All-weaker (IsLoadedBy count) (IsLoadedBy (count + 1)) (more_streams count) loads all))
 
--- a link of which nothing is taken
+-- a link before any stream takes a part of it
 pub unloaded_little : (network : SketchDomain) (cycle_time : ℕ) (links : List TalkerLink) → All (IsLoadedBy 0) (map (unloaded network cycle_time) links)
 unloaded_little network cycle_time links =
     All-map (IsLoadedBy 0) (unloaded network cycle_time) links (λ k d below. record { little = omega arith; few = omega arith })
 
 pub all_little : (count : ℕ) (loads : List AccessLoad) → All (IsLoadedBy count) loads → All TakesLittle loads
 all_little count loads all = All-weaker (IsLoadedBy count) TakesLittle (λ load is. is.little) loads all
+
+-- a list has something at each place
+item_at : {A : Type 0} (xs : List A) (k : ℕ) → k < length xs → (x : A) × (x ≡ get_or xs k x)
+item_at [] k below = absurd (omega (arith, below))
+item_at (x ∷ xs) zero below = (x, refl)
+item_at (x ∷ xs) (suc k) below = item_at xs k (omega (arith, below))
 
 -- the loads with what the streams before a place take
 pub record AreLoaded (cycle_time : ℕ) (first : List AccessLoad) (handed : List (Option Handed)) (flows : List Flow) (place : ℕ) (loads : List AccessLoad) :
@@ -162,3 +174,10 @@ module _ (cycle_time : ℕ) (first : List AccessLoad) (handed : List (Option Han
           ∙ ap (λ (now_loaded : List AccessLoad). loads_with cycle_time now_loaded (drop (place + 1) handed) (map flow_text behind)) (sym is);
       all = all;
     }
+
+  -- so one that hands nothing over changes nothing
+  pub loaded_past : (place : ℕ) (loads : List AccessLoad) → place < length flows → AreLoaded cycle_time first handed flows place loads →
+      get_or handed place None ≡ None → AreLoaded cycle_time first handed flows (place + 1) loads
+  loaded_past place loads below so_far none =
+      let found = item_at flows place below in
+      loaded_skip place found.0 loads below found.1 so_far none

@@ -1,4 +1,4 @@
--- Latencies from the hand-over, where none is behind an access link.
+-- Latencies from the hand-over, if no station has an access link.
 use Rattle.std.proofs.Common.{◌≡◌, ℕ, [], List, Option, map}
 use Rattle.std.specs.List.{flat_map}
 use Rattle.std.proofs.lemmas.List.{map-id}

@@ -26,12 +26,12 @@ number_within : (least most : ℕ) (d : Data) (n : ℕ) → number_from least mo
 number_within least most d n h =
     (number-range key.Octets least most (member (key_text key.Octets) d no_members) n (ap (λ o. ok_or o (BadValue key.Octets)) h)).1
 
--- what was read behind a fault of another kind
+-- what was read after a fault of another kind
 map_both-Ok : {A E F : Type 0} (f : E → F) (r : Result A E) (x : A) → result_map_both (λ y. y) f r ≡ Ok x → r ≡ Ok x
 map_both-Ok f (Ok y) x h = cc
 map_both-Ok f (Err e) x h = absurd (cc)
 
--- a jitter or an offset, where one stands there or not
+-- a jitter or an offset, which may be missing
 jitter_by : (o : Option Data) (n : ℕ) → number_by o Jitter ≡ Ok n → n ≤ 1000000000
 jitter_by None n h = let same : 0 ≡ n = cc in omega (arith, same)
 jitter_by (Some d) n h = number_within 0 1000000000 d n (ok_or-Ok (number_from 0 1000000000 d) Jitter n h)

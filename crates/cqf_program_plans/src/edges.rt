@@ -11,7 +11,8 @@ use cqf_sketch::{SketchDomain, read_network_flows};
 use cqf_traffic::read_flows;
 use std::alloc::Global;
 
-/// The end where streams don't come to their edge bridges.
+/// Returns the end of a command whose streams don't reach their edge bridges: status 1 with the line of the fault, or status 3 if an allocation
+/// fails.
 pub fn edge_stop(alloc: Global, fault: EdgeFault) -> Stop
     ensures refused { fault ≢ EdgeFault.Memory → EndsWith 1 (edge_line fault) result }
     ensures memory { fault ≡ EdgeFault.Memory → EndsWith 3 [] result }
@@ -22,14 +23,14 @@ pub fn edge_stop(alloc: Global, fault: EdgeFault) -> Stop
     }
 }
 
-/// Whether a station of a network has an access link.
+/// Returns whether a station of a network has an access link.
 pub(crate) fn has_access(network: &SketchDomain) -> bool
     ensures { result ≡ has_access network.now }
 {
     !network.talkers().is_empty()
 }
 
-/// The streams of a part of a network in which a station has an access link.
+/// Reads the streams of a part of a network in which a station has an access link.
 fn edges_by_access(alloc: Global, network: &SketchDomain, text: &[u8]) -> Result<EdgeFlows, Stop>
     ensures ok { IfOk result (λ edge. edges_by_access network.now text.now ≡ Ok (edges_text edge)) }
     ensures err { IfErr result (IsRefused (edges_by_access network.now text.now)) }
@@ -44,7 +45,7 @@ fn edges_by_access(alloc: Global, network: &SketchDomain, text: &[u8]) -> Result
     }
 }
 
-/// The streams of a part of a network in which none has.
+/// Reads the streams of a part of a network in which no station has one.
 fn edges_without(alloc: Global, text: &[u8]) -> Result<EdgeFlows, Stop>
     ensures ok { IfOk result (λ edge. edges_without text.now ≡ Ok (edges_text edge)) }
     ensures err { IfErr result (IsRefused (edges_without text.now)) }
@@ -59,12 +60,12 @@ fn edges_without(alloc: Global, text: &[u8]) -> Result<EdgeFlows, Stop>
     }
 }
 
-/// The streams of a part of a network, with their deadlines and their traffic, as they come to their edge bridges; on an access link that is
-/// full as if they needn't wait there.
+/// Returns the streams of a part of a network as they are at their edge bridges, with deadlines and traffic. On an access link that is full,
+/// they don't wait.
 ///
 /// # Errors
-/// With status 1 and the line of the first fault of the part, or of the first stream that doesn't enter the network as its text says; and
-/// with status 3 for want of memory.
+/// With status 1 and the line of the first fault of the part, or of the first stream that doesn't enter the network as its text says. With
+/// status 3 if an allocation fails.
 pub fn edges_part(alloc: Global, network: &SketchDomain, text: &[u8]) -> Result<EdgeFlows, Stop>
     ensures ok { IfOk result (λ edge. edges_of_part network.now text.now ≡ Ok (edges_text edge)) }
     ensures err { IfErr result (IsRefused (edges_of_part network.now text.now)) }
@@ -79,7 +80,7 @@ pub fn edges_part(alloc: Global, network: &SketchDomain, text: &[u8]) -> Result<
 /// Refuses a network one of whose access links is full.
 ///
 /// # Errors
-/// With status 1 and the line that tells the station of the first.
+/// With status 1 and the line that names the station of the first.
 pub fn refuse_full(alloc: Global, edge: &EdgeFlows) -> Result<(), Stop>
     ensures ok { OnOk result (edge.now.full ≡ None) }
     ensures err { IfErr result (EndsAsFull edge.now.full) }
@@ -90,10 +91,10 @@ pub fn refuse_full(alloc: Global, edge: &EdgeFlows) -> Result<(), Stop>
     }
 }
 
-/// The streams of a part of a network as they come to their edge bridges, as of [`edges_part`], where no access link is full.
+/// Returns the streams of a part of a network as [`edges_part`] does, if no access link is full.
 ///
 /// # Errors
-/// As of [`edges_part`], and behind them as of [`refuse_full`].
+/// As of [`edges_part`], and then as of [`refuse_full`].
 pub fn open_edges_part(
     alloc: Global,
     network: &SketchDomain,

@@ -115,7 +115,7 @@ fn requests_of(alloc: Global, flows: Vec<PacedFlow>) -> Result<Vec<PacedRequest>
     Ok(requests)
 }
 
-/// The requests of streams with deadlines.
+/// Returns the requests of streams with deadlines.
 fn requests_of_flows(alloc: Global, flows: Vec<Flow>) -> Result<Vec<PacedRequest>, Memory>
     ensures { IfOk result (λ requests. map paced_text requests.items ≡ map (λ flow. flow.0.0) (map flow_text flows.items)) }
 {
@@ -126,10 +126,10 @@ fn requests_of_flows(alloc: Global, flows: Vec<Flow>) -> Result<Vec<PacedRequest
     Ok(requests)
 }
 
-/// The requests of streams that come to their edge bridges, each of which reserves there what its traffic needs of a cycle.
+/// Returns the requests of streams as they are at their edge bridges. Each reserves there what its traffic needs of a cycle.
 ///
 /// # Errors
-/// With status 1 and the line of the first that reserves less; and with status 3 for want of memory.
+/// With status 1 and the line of the first stream that reserves less. With status 3 if an allocation fails.
 pub(crate) fn requests_at(
     alloc: Global,
     domain: &Domain,
@@ -147,12 +147,12 @@ pub(crate) fn requests_at(
     }
 }
 
-/// The streams of a part for a network: each reserves what its traffic needs of a cycle at its edge bridge, where it has traffic.
+/// Returns the requests of a part for a network. Each stream that has traffic reserves what it needs of a cycle at its edge bridge.
 ///
 /// # Errors
-/// With status 1 and the line of the first fault of the part, of its traffic too; or of the first stream that doesn't enter the network as
-/// its text says; or of the first access link that is full; or else of the first stream that reserves less than its traffic needs; and
-/// with status 3 for want of memory.
+/// With status 1 and the line of the first fault of the part, including its traffic; or of the first stream that doesn't enter the network as
+/// its text says; or of the first access link that is full; or else of the first stream that reserves less than its traffic needs. With
+/// status 3 if an allocation fails.
 pub(crate) fn requests_of_network(
     alloc: Global,
     network: &SketchDomain,
@@ -170,8 +170,8 @@ pub(crate) fn requests_of_network(
     requests_at(alloc, domain, edge.flows)
 }
 
-/// The streams of a part for a domain whose stations have no access links: each reserves what its traffic needs of a cycle, where it has
-/// traffic. What stands at their deadlines is passed over.
+/// Returns the requests of a part for a domain whose stations have no access links. Each stream that has traffic reserves what it needs of a
+/// cycle. Deadlines aren't read.
 ///
 /// # Errors
 /// With status 1 and the line of the first fault of the part, including its traffic, or else of the first stream that reserves less than its

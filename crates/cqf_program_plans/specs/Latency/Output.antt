@@ -22,12 +22,12 @@ abbrev pub latency_of_plan : Bool → Domain → List Asked → List (Option ℕ
 latency_of_plan strict d streams deadlines = and_then (admitted_from d [] 1 streams) (λ entries.
     unless_strict strict (first_not_sure d (held_in d entries 0) deadlines) (latency_text d (held_in d entries 0) deadlines))
 
--- what is told of latencies: their text, or where that is asked for strictly the line of the first that isn't surely within its deadline
+-- the result for latencies: their text; or, if strict, the line of the first that isn't certain to be within its deadline
 abbrev pub latency_told : Bool → List Latency → Result (List ℕ) (List ℕ)
 latency_told strict latencies = unless_strict strict (first_line_of latencies) (text_of_latency latencies)
 
--- the same from where streams begin: how long their frames take to their edge bridges, where their talkers are stations, is by stream number,
--- and deadlines are as they are written
+-- a plan as its talkers see it: deadlines as written, and how long frames take to their edge bridges, where talkers are stations; both by
+-- stream number
 pub record PlanFromTalkers : Type 0 where
   pub domain : Domain
   pub streams : List Asked

@@ -25,7 +25,7 @@ access_budget cycle_time rate = 25 * cycle_time / ticks_of_octet rate
 abbrev pub promised_in : ℕ → TrafficText → ℕ
 promised_in cycle_time t = div_ceil (t.frames * (t.size + 20) * cycle_time) t.interval
 
--- and one that promises nothing: what its reservation costs, in the cycles in which it is offered
+-- and what one takes that promises nothing: what its reservation costs, in the cycles in which it is offered
 abbrev pub reserved_in : Asked → ℕ
 reserved_in asked = div_ceil (asked.octets + 20 * (asked.octets / 64)) (max asked.every 1)
 
@@ -36,7 +36,7 @@ taken_by cycle_time handed asked = option_map_or (promised_in cycle_time) handed
 abbrev pub most_taken : ℕ
 most_taken = 2 ^ 44
 
--- an access link of which nothing is taken
+-- an access link before any stream takes a part of it
 abbrev pub unloaded : SketchDomain → ℕ → TalkerLink → AccessLoad
 unloaded network cycle_time link = record {
   from = slice_index_or network.stations link.station [];
@@ -47,7 +47,7 @@ unloaded network cycle_time link = record {
   streams = 0;
 }
 
--- with what one stream more takes of it, and of the link at a place, where there is one
+-- an access link of which one stream more takes a part; and links, of which a stream takes a part of the one at a place, if there is one
 abbrev pub loaded_by : ℕ → AccessLoad → AccessLoad
 loaded_by taken load =
     record { from = load.from; to = load.to; rate = load.rate; budget = load.budget; held = load.held + taken; streams = load.streams + 1 }
@@ -57,7 +57,7 @@ added_load [] place taken = []
 added_load (load ∷ loads) zero taken = loaded_by taken load ∷ loads
 added_load (load ∷ loads) (suc place) taken = load ∷ added_load loads place taken
 
--- with what streams take, each of the link that it is handed to
+-- links of which streams take parts, each of the link to which it is handed
 abbrev pub loads_with : ℕ → List AccessLoad → List (Option Handed) → List FlowText → List AccessLoad
 loads_with cycle_time loads [] flows = loads
 loads_with cycle_time loads (one ∷ more) [] = loads
@@ -72,7 +72,7 @@ access_loads network cycle_time handed flows = loads_with cycle_time (map (unloa
 abbrev pub TakesLittle : AccessLoad → Type 0
 TakesLittle load = load.held ≤ load.streams * most_taken
 
--- and these are some of so many streams
+-- and these are some of a number of streams
 pub record IsLoadedBy (count : ℕ) (load : AccessLoad) : Type 0 where
   pub little : TakesLittle load
   pub few : load.streams ≤ count

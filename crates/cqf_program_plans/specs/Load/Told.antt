@@ -6,7 +6,7 @@ use Rattle.cqf_program_plans.specs.declared.load.access.AccessLoad.{AccessLoad}
 use Rattle.cqf_program_plans.specs.Load.Access.{lines_of_access}
 use Rattle.cqf_program_plans.specs.Load.Text.{load_text}
 
--- what the output is told from: a domain, the rows of its streams, and what these take of access links
+-- what is written: a domain, the rows of its streams, and what these take of access links
 pub record ListedPlan : Type 0 where
   pub domain : Domain
   pub rows : List Row

@@ -107,9 +107,8 @@ fn output_of_rows(
     }
 }
 
-/// The output for a domain and its streams: how long the frames of each stream take to each of its listeners, and whether they
-/// keep the stream's deadline, where all streams are admitted before cycle 0. The deadlines, in nanoseconds, and how long frames take to their
-/// edge bridges are by stream number: the first is that of the first request. A stream has none where there are fewer.
+/// Returns the output for a domain and its streams, if all streams are admitted before cycle 0: how long the frames of each stream take to
+/// each of its listeners, and whether they keep the stream's deadline.
 ///
 /// # Errors
 /// With status 1 and the line of the first stream that isn't admitted; or else, if `strict`, of the first latency whose frames aren't certain to

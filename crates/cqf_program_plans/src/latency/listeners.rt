@@ -96,7 +96,7 @@ fn latency_to(
     }
 }
 
-/// A latency from the hand-over, where frames take so long from there to their edge bridge.
+/// Returns a latency from the hand-over, with the time that frames take from there to their edge bridge.
 fn latency_behind(mut latency: Latency, times: Option<AccessTimes>) -> Latency
     requires least { latency.least < 2 ^ 63 }
     requires most { latency.most < 2 ^ 63 }
@@ -112,8 +112,7 @@ fn latency_behind(mut latency: Latency, times: Option<AccessTimes>) -> Latency
     }
 }
 
-/// Where a stream's frames begin and are to be in time: its deadline as it is written, and how long they take to its edge bridge from the
-/// hand-over, where its talker is a station.
+/// A stream's deadline as written, and how long its frames take from the hand-over to its edge bridge, if its talker is a station.
 #[derive(Clone, Copy)]
 struct StreamEnds {
     deadline: Option<u32>,
@@ -171,7 +170,7 @@ fn deadline_of(deadlines: &[Option<u32>], number: u32) -> Option<u32>
     }
 }
 
-/// How long the frames of the stream of a number take to its edge bridge.
+/// Returns how long the frames of the stream with this number take to its edge bridge.
 fn times_of(times: &[Option<AccessTimes>], number: u32) -> Option<AccessTimes>
     ensures { result ≡ times_of times.now number }
 {
@@ -181,8 +180,8 @@ fn times_of(times: &[Option<AccessTimes>], number: u32) -> Option<AccessTimes>
     }
 }
 
-/// The latencies of the streams of a table to each of their listeners, where the deadlines, and how long frames take to their edge bridges, are
-/// by stream number.
+/// Returns the latencies of the streams of a table to each of their listeners. The deadlines, and how long frames take to their edge bridges,
+/// are by stream number.
 fn latencies_by_costs(
     alloc: Global,
     costs: &Costs<'_>,
@@ -202,9 +201,9 @@ fn latencies_by_costs(
     Ok(latencies)
 }
 
-/// How long the frames of the streams of a table's rows take to each of their listeners from the hand-over at their talkers, where these are
-/// stations; in the order of the rows, and of the listeners in each stream's tree. The deadlines, in nanoseconds, and how long frames take to
-/// their edge bridges are by stream number; a stream has none where there are fewer.
+/// Returns how long the frames of the streams of a table's rows take to each of their listeners: from the hand-over at their talkers, where
+/// these are stations. The order is that of the rows, and then of the listeners in each stream's tree. The deadlines, in nanoseconds, and how
+/// long frames take to their edge bridges are by stream number. A stream whose number is beyond a list's end has none.
 ///
 /// # Errors
 /// `Memory` if an allocation fails.
@@ -224,11 +223,12 @@ pub(crate) fn latencies_from_talkers(
     Ok(latencies)
 }
 
-/// How long the frames of the streams of a table's rows take to each of their listeners from their edge bridges, in the order of the rows, and
-/// of the listeners in each stream's tree. The deadlines, in nanoseconds, are by stream number; a stream has none where there are fewer.
+/// Returns how long the frames of the streams of a table's rows take from their edge bridges to each of their listeners. The order is that of
+/// the rows, and then of the listeners in each stream's tree. The deadlines, in nanoseconds, are by stream number. A stream whose number is
+/// beyond the list's end has none.
 ///
 /// # Errors
-/// `Memory` where a growth is refused.
+/// `Memory` if an allocation fails.
 pub fn latencies_of_rows(
     alloc: Global,
     domain: &Domain,

@@ -19,8 +19,8 @@ use cqf_traffic::Flow;
 use cqf_units::Memory;
 use std::alloc::Global;
 
-/// What the command `latency` reads: a domain, its streams, their deadlines as they are written, and how long their frames take to their
-/// edge bridges from the hand-over, where their talkers are stations, all by the same places.
+/// What the command `latency` reads: a domain, its streams, their deadlines as written, and how long their frames take from the hand-over to
+/// their edge bridges, where their talkers are stations. All lists have the same order.
 #[derive(Drop)]
 pub(crate) struct LatencyInput {
     pub(crate) domain: Domain,
@@ -29,8 +29,8 @@ pub(crate) struct LatencyInput {
     pub(crate) times: Vec<Option<AccessTimes>>,
 }
 
-/// The domain of a network and the streams of a part for it, with their deadlines. Each stream that has traffic reserves what it needs of a
-/// cycle at its edge bridge.
+/// Reads the streams of a part for a network, whose domain this is, with their deadlines. Each stream that has traffic reserves what it needs of
+/// a cycle at its edge bridge.
 fn read_streams(
     alloc: Global,
     network: &SketchDomain,
@@ -51,7 +51,7 @@ fn read_streams(
     })
 }
 
-/// The domain and the streams of the input, read within some limits, likewise.
+/// Reads an input within some limits: its domain and its streams.
 pub(crate) fn read_planned(
     alloc: Global,
     limits: Limits,
@@ -86,10 +86,10 @@ pub fn parted(
     Ok((requests, deadlines))
 }
 
-/// The requests and the deadlines of streams with traffic, likewise.
+/// Returns the requests and the deadlines of streams with traffic, each by the stream's index.
 ///
 /// # Errors
-/// Where a growth is refused.
+/// `Memory` if an allocation fails.
 pub fn parted_flows(
     alloc: Global,
     flows: Vec<Flow>,

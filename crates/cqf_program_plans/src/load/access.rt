@@ -1,4 +1,4 @@
-//! What the streams of a plan take of access links.
+//! The part of access links that the streams of a plan take.
 ghost use Rattle.std.specs.Prelude.{ℕ, ◌≡◌, ◌+◌, ◌-◌, ◌<◌, ◌≤◌, ◌^◌, All, IfOk, None, length, map, option_copied, slice_index_or};
 ghost use Rattle.cqf_admission.specs.Asking.{asked_paced};
 ghost use Rattle.cqf_model.specs.Limits.{longest_cycle};
@@ -13,7 +13,7 @@ use cqf_traffic::Traffic;
 use cqf_units::{Memory, Name, Nanos, Rate, octet_ticks};
 use std::alloc::Global;
 
-/// What streams take of an access link by rate, in octets of a cycle.
+/// What streams take of an access link, in octets of a cycle.
 #[derive(Drop)]
 pub(crate) struct AccessLoad {
     /// The name of the station that it leaves.
@@ -21,11 +21,11 @@ pub(crate) struct AccessLoad {
     /// The name of the bridge in which it ends.
     pub(crate) to: Name,
     pub(crate) rate: Rate,
-    /// How many octets it can send in a cycle.
+    /// The number of octets that it can send in a cycle.
     pub(crate) budget: u64,
-    /// How many its streams take, with preambles and gaps.
+    /// The number of octets that its streams take, with preambles and gaps.
     pub(crate) held: u128,
-    /// How many streams these are.
+    /// The number of these streams.
     pub(crate) streams: u64,
 }
 
@@ -42,7 +42,7 @@ impl AccessLoad {
     }
 }
 
-/// How many octets a link can send in a cycle, which is in nanoseconds.
+/// Returns the number of octets that a link can send in a cycle. The cycle time is in nanoseconds.
 fn budget_in(cycle_time: Nanos, rate: Rate) -> u64
     requires { cycle_time.0 ≤ longest_cycle }
     ensures { result ≡ access_budget cycle_time.0 rate }
@@ -50,7 +50,7 @@ fn budget_in(cycle_time: Nanos, rate: Rate) -> u64
     25 * cycle_time.0 / octet_ticks(rate)
 }
 
-/// How many octets of a cycle a talker takes of its access link by what it promises: the mean of many cycles, rounded up.
+/// Returns the octets of a cycle that a talker takes of its access link by what it promises: the mean of many cycles, rounded up.
 fn promised_in(cycle_time: Nanos, traffic: Traffic) -> u128
     requires { cycle_time.0 ≤ longest_cycle }
     ensures value { result ≡ promised_in cycle_time.0 traffic }
@@ -61,8 +61,8 @@ fn promised_in(cycle_time: Nanos, traffic: Traffic) -> u128
     taken.div_ceil(u128::from(traffic.interval().0))
 }
 
-/// How many one takes that promises nothing: the mean of what its reservation costs, rounded up, since it takes that only in the cycles in
-/// which it is offered.
+/// Returns the octets of a cycle that a talker takes that promises nothing: the mean of what its reservation costs, rounded up. It takes that
+/// only in the cycles in which it is offered.
 fn reserved_in(request: &PacedRequest) -> u128
     ensures value { result ≡ reserved_in (asked_paced request.now) }
     ensures little { result ≤ most_taken }
@@ -72,7 +72,7 @@ fn reserved_in(request: &PacedRequest) -> u128
     taken.div_ceil(u128::from(request.every.max(1)))
 }
 
-/// How many octets of a cycle a stream takes of its access link.
+/// Returns the octets of a cycle that a stream takes of its access link.
 fn taken_by(cycle_time: Nanos, handed: &Handed, request: &PacedRequest) -> u128
     requires { cycle_time.0 ≤ longest_cycle }
     ensures value { result ≡ taken_by cycle_time.0 handed.now (asked_paced request.now) }
@@ -84,7 +84,7 @@ fn taken_by(cycle_time: Nanos, handed: &Handed, request: &PacedRequest) -> u128
     }
 }
 
-/// An access link of which streams take nothing.
+/// Returns an access link, before any stream takes a part of it.
 fn unloaded(network: &SketchDomain, cycle_time: Nanos, link: &TalkerLink) -> AccessLoad
     requires station { link.now.station < length network.now.stations }
     requires bridge { link.now.bridge < length network.now.bridges }
@@ -101,7 +101,7 @@ fn unloaded(network: &SketchDomain, cycle_time: Nanos, link: &TalkerLink) -> Acc
     }
 }
 
-/// The access links of a network, of which streams take nothing.
+/// Returns the access links of a network, before any stream takes a part of them.
 fn all_unloaded(
     alloc: Global,
     network: &SketchDomain,
@@ -131,7 +131,7 @@ fn add_load(loads: &mut Vec<AccessLoad>, cycle_time: Nanos, handed: &Handed, req
     }
 }
 
-/// What the stream at a place hands to an access link.
+/// Returns what the stream at a place hands to an access link.
 fn handed_at(all: &[Option<Handed>], place: usize) -> Option<&Handed>
     ensures { option_copied result ≡ slice_index_or all.now place None }
 {
@@ -141,10 +141,10 @@ fn handed_at(all: &[Option<Handed>], place: usize) -> Option<&Handed>
     }
 }
 
-/// What the streams of a network take of its access links, in the order of these, where a cycle takes so many nanoseconds.
+/// Returns what the streams of a network take of its access links, in the links' order. The cycle time is in nanoseconds.
 ///
 /// # Errors
-/// Where a growth is refused.
+/// `Memory` if an allocation fails.
 pub(crate) fn access_loads(
     alloc: Global,
     network: &SketchDomain,

@@ -63,7 +63,7 @@ fn list_all(alloc: Global, domain: &Domain, requests: &[PacedRequest]) -> Result
     Ok(listing)
 }
 
-/// What `load` reads: a domain, what its streams take of the access links of its stations, and the requests of its streams.
+/// What `load` reads: a domain, what its streams take of its stations' access links, and the requests of its streams.
 #[derive(Drop)]
 struct LoadInput {
     domain: Domain,
@@ -71,8 +71,8 @@ struct LoadInput {
     requests: Vec<PacedRequest>,
 }
 
-/// What `load` reads of a network in which a station has an access link, whose domain this is. An access link may be full, since it is `load`
-/// that shows how full.
+/// Reads the streams of a network in which a station has an access link, whose domain this is. An access link may be full, since `load` shows
+/// how full it is.
 fn read_with_access(
     alloc: Global,
     network: &SketchDomain,
@@ -96,7 +96,7 @@ fn read_with_access(
     })
 }
 
-/// What it reads of one in which none has.
+/// Reads those of a network in which no station has one.
 fn read_without_access(alloc: Global, domain: Domain, text: &[u8]) -> Result<LoadInput, Stop>
     ensures ok { IfOk result (λ found. loaded_without domain text.now ≡ Ok (load_input_value found)) }
     ensures little { IfOk result (λ found. All TakesLittle found.access.items) }
@@ -111,7 +111,7 @@ fn read_without_access(alloc: Global, domain: Domain, text: &[u8]) -> Result<Loa
     })
 }
 
-/// What it reads of a network, whose domain this is.
+/// Reads the streams of a network, whose domain this is.
 fn read_network(
     alloc: Global,
     network: &SketchDomain,
@@ -130,7 +130,7 @@ fn read_network(
     }
 }
 
-/// What it reads of an input, within some limits.
+/// Reads an input, within some limits.
 fn read_load(alloc: Global, limits: Limits, input: &[u8]) -> Result<LoadInput, Stop>
     ensures ok { IfOk result (λ found. load_input limits input.now ≡ Ok (load_input_value found)) }
     ensures little { IfOk result (λ found. All TakesLittle found.access.items) }
@@ -142,8 +142,8 @@ fn read_load(alloc: Global, limits: Limits, input: &[u8]) -> Result<LoadInput, S
     read_network(alloc, &network, domain, streams_text)
 }
 
-/// The output of `load` for an input that is read within some limits, ready to be told: a line a link, with what it holds of the streams
-/// and has left, and behind them one for each access link. A stream that a link has no room for is told with the others.
+/// Returns the output of `load` for an input that is read within some limits, ready to be written: a line for each link, with what it holds of
+/// the streams and has left, and then one for each access link. A stream for which a link has no room is counted with the others.
 ///
 /// # Errors
 /// With status 1 and the line of the first fault of the input: of its parts, of the domain, of the streams, of the first stream that doesn't

@@ -17,8 +17,8 @@ none_if : {A B : Type 0} (b : Bool) (y : A) (z : B) → None ≡ (if b then Some
 none_if true y z e = let never : ⊥ = cc in absurd never
 none_if false y z e = refl
 
-pub latency_to-requires-clause-named : goal.latency_to-requires-clause-named
-latency_to-requires-clause-named c =
+pub latency_to-latency-requires-clause-named : goal.latency_to-latency-requires-clause-named
+latency_to-latency-requires-clause-named c =
     let d = c.domain-domain.result.now in
     let link = c.args.hop.now.link in
     (there_if (is_station (end_of d link)) c.in-Some.listener (name_of_end d link) c.in-Some.ensures).1

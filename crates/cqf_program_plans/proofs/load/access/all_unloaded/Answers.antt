@@ -3,10 +3,10 @@ use Rattle.cqf_program_plans.proofs.load.access.all_unloaded.Goals as goal
 
 pub unloaded-requires-clause-station : goal.unloaded-requires-clause-station
 unloaded-requires-clause-station c =
-    (link_there c.args.network.now c.talkers-links.result.now c.loop-link.link-index c.link-item.result c.talkers-links.ensures.there
-    c.talkers-links.ensures.value c.loop-link-test.true c.link-item.is).station_there
+    (link_there c.args.network.now c.talkers-links.result.now c.loop-link.link-index _ c.talkers-links.ensures.there c.talkers-links.ensures.value
+    c.loop-link-test.true).station_there
 
 pub unloaded-requires-clause-bridge : goal.unloaded-requires-clause-bridge
 unloaded-requires-clause-bridge c =
-    (link_there c.args.network.now c.talkers-links.result.now c.loop-link.link-index c.link-item.result c.talkers-links.ensures.there
-    c.talkers-links.ensures.value c.loop-link-test.true c.link-item.is).bridge_there
+    (link_there c.args.network.now c.talkers-links.result.now c.loop-link.link-index _ c.talkers-links.ensures.there c.talkers-links.ensures.value
+    c.loop-link-test.true).bridge_there
