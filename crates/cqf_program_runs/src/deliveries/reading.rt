@@ -41,7 +41,7 @@ fn read_paced_streams(
     }
 }
 
-/// The requests for the streams of a part whose stations have access links, and what is left of their deadlines at their edge bridges.
+/// Reads the same of a network in which a station has an access link. The deadlines are those from the streams' edge bridges on.
 fn read_edge_streams(
     alloc: Global,
     network: &SketchDomain,
@@ -58,7 +58,7 @@ fn read_edge_streams(
     }
 }
 
-/// The requests for the streams of a part, and their deadlines from their edge bridges on.
+/// Reads the requests for the streams of a part, and their deadlines from their edge bridges on. Ends as [`open_edges_part`] does.
 fn read_planned_streams(
     alloc: Global,
     network: &SketchDomain,
