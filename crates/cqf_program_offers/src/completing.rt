@@ -16,7 +16,7 @@ use cqf_admission::{Names, Ordered};
 use cqf_model::Limits;
 use cqf_output::Stop;
 use cqf_program_files::{begins_as_offers, cycles_of};
-use cqf_program_scenario::{domain_part, script_part};
+use cqf_program_scenario::{domain_of, network_part, script_part};
 use cqf_program_words::{Job, joined};
 use cqf_text::parts;
 use cqf_topology::PacedRequest;
@@ -115,8 +115,9 @@ fn calls_for(
     ensures ok { IfOk result (λ script. calls_for limits planned domain.now streams.now ≡ Ok script.items) }
     ensures err { IfErr result (IsRefused (calls_for limits planned domain.now streams.now)) }
 {
-    let plan = domain_part(alloc, limits, domain)?;
-    let requests = requests_part(alloc, planned, streams)?;
+    let network = network_part(alloc, limits, domain)?;
+    let plan = domain_of(alloc, &network)?;
+    let requests = requests_part(alloc, &network, planned, streams)?;
     made_calls(alloc, &plan, requests.as_slice())
 }
 
@@ -235,9 +236,9 @@ fn made_of_parts(
 /// early that all arrive.
 ///
 /// # Errors
-/// With status 1 and the line of the first fault: of the domain; of the streams, and of their traffic if offers are made; of the script, or
-/// of the first stream that isn't admitted; of the first stream that is refused as by `load`; or `cqf: offers: TooMany`. With status 3 if
-/// an allocation fails.
+/// With status 1 and the line of the first fault: of the domain; of the streams; if offers are made or the job reads deadlines, of the first
+/// stream that doesn't enter the network as its text says, or of the first access link that is full; of the script, or of the first stream
+/// that isn't admitted; of the first stream that is refused as by `load`; or `cqf: offers: TooMany`. With status 3 if an allocation fails.
 pub fn made_input(
     alloc: Global,
     limits: Limits,

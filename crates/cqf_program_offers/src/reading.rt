@@ -13,10 +13,14 @@ use cqf_topology::Domain;
 use cqf_traffic::Flow;
 use std::alloc::Global;
 
-/// The streams of a part of a network as they come to their edge bridges, with what is left there of their deadlines and the words that they
-/// keep there. `Err` with status 1 and the line of its first fault, or of the first access link that is full, and with status 3 for want of
-/// memory.
-pub fn flows_part(alloc: Global, network: &SketchDomain, text: &[u8]) -> Result<Vec<Flow>, Stop>
+/// Returns the streams of a part of a network as they come to their edge bridges, with the rest of their deadlines and the traffic that they
+/// have there. Returns `Err` with status 1 and the line of the part's first fault, or of the first access link that is full; with status 3
+/// if an allocation fails.
+pub(crate) fn flows_part(
+    alloc: Global,
+    network: &SketchDomain,
+    text: &[u8],
+) -> Result<Vec<Flow>, Stop>
     ensures ok { IfOk result (λ flows. flows_of_part network.now text.now ≡ Ok (map flow_text flows.items)) }
     ensures err { IfErr result (IsRefused (flows_of_part network.now text.now)) }
 {
@@ -24,8 +28,8 @@ pub fn flows_part(alloc: Global, network: &SketchDomain, text: &[u8]) -> Result<
     Ok(edge.flows)
 }
 
-/// The domain and the streams of two parts, read within some limits. `Err` with status 1 and the line of the first fault: of the domain, or
-/// of the streams; and with status 3 for want of memory.
+/// Returns the domain and the streams of two parts, read within some limits. Returns `Err` with status 1 and the line of the first fault: of
+/// the domain, or of the streams; with status 3 if an allocation fails.
 pub(crate) fn flows_of_parts(
     alloc: Global,
     limits: Limits,
