@@ -77,10 +77,12 @@ with_offers limits cycles domain streams script =
     and_then (or_line script_line (script_of (map asked_in found.1) cycles script)) (λ calls.
     and_then (made_offers found.0 cycles found.1) (λ offers. Ok (input_of domain (streams ∷ script ∷ offers ∷ [])))))
 
--- the script that is made for a plan and offers, with or without a following part
+-- the script that is made for a network and the streams of a part for it; and for a plan and offers, with or without a following part
+abbrev pub calls_of_network : SketchDomain → Bool → List ℕ → Result (List ℕ) (List ℕ)
+calls_of_network network planned streams = and_then (asked_of_part network planned streams) (made_calls (domain_of network))
+
 abbrev pub calls_for : Limits → Bool → List ℕ → List ℕ → Result (List ℕ) (List ℕ)
-calls_for limits planned domain streams =
-    and_then (network_of_part limits domain) (λ network. and_then (asked_of_part network planned streams) (made_calls (domain_of network)))
+calls_for limits planned domain streams = and_then (network_of_part limits domain) (λ network. calls_of_network network planned streams)
 
 abbrev pub with_calls : Limits → Bool → List ℕ → List ℕ → List (List ℕ) → Result (List ℕ) (List ℕ)
 with_calls limits planned domain streams rest = and_then (calls_for limits planned domain streams) (λ script. Ok (input_of domain (streams ∷ script ∷ rest)))

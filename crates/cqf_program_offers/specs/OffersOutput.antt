@@ -29,11 +29,13 @@ too_many_line = fault_line (codes "offers") (codes "TooMany")
 abbrev pub flows_of_part : SketchDomain → List ℕ → Result (List FlowText) (List ℕ)
 flows_of_part network text = and_then (open_edges_of_part network text) (λ edge. Ok edge.flows)
 
+-- the domain of a network and the streams of a part for it
+abbrev pub flows_of_network : SketchDomain → List ℕ → Result (Domain × List FlowText) (List ℕ)
+flows_of_network network streams = and_then (flows_of_part network streams) (λ flows. Ok (domain_of network, flows))
+
 -- the domain and the streams of two parts that are read within some limits, or the line of the first fault: of the domain, then of the streams
 abbrev pub flows_of_parts : Limits → List ℕ → List ℕ → Result (Domain × List FlowText) (List ℕ)
-flows_of_parts limits domain streams =
-    and_then (network_of_part limits domain) (λ network.
-    and_then (flows_of_part network streams) (λ flows. Ok (domain_of network, flows)))
+flows_of_parts limits domain streams = and_then (network_of_part limits domain) (λ network. flows_of_network network streams)
 
 -- the domain and the streams of an input, or the line of the first fault: of the number of parts, then of the parts
 abbrev pub flows_input : Limits → List ℕ → Result (Domain × List FlowText) (List ℕ)
