@@ -24,18 +24,20 @@ use Rattle.cqf_program_offers.specs.OffersText.{offers_text}
 abbrev pub too_many_line : List ℕ
 too_many_line = fault_line (codes "offers") (codes "TooMany")
 
--- the streams of a part of a network as they come to their edge bridges, with what is left there of their deadlines and the words that they
--- keep there; or the line of the first fault, of the first access link that is full too
+-- the streams of a part of a network as they come to their edge bridges, with the rest of their deadlines and the traffic that they have
+-- there; or the line of the part's first fault, or of the first access link that is full
 abbrev pub flows_of_part : SketchDomain → List ℕ → Result (List FlowText) (List ℕ)
 flows_of_part network text = and_then (open_edges_of_part network text) (λ edge. Ok edge.flows)
 
+-- the domain of a network and the streams of a part for it
+abbrev pub flows_of_network : SketchDomain → List ℕ → Result (Domain × List FlowText) (List ℕ)
+flows_of_network network streams = and_then (flows_of_part network streams) (λ flows. Ok (domain_of network, flows))
+
 -- the domain and the streams of two parts that are read within some limits, or the line of the first fault: of the domain, then of the streams
 abbrev pub flows_of_parts : Limits → List ℕ → List ℕ → Result (Domain × List FlowText) (List ℕ)
-flows_of_parts limits domain streams =
-    and_then (network_of_part limits domain) (λ network.
-    and_then (flows_of_part network streams) (λ flows. Ok (domain_of network, flows)))
+flows_of_parts limits domain streams = and_then (network_of_part limits domain) (λ network. flows_of_network network streams)
 
--- those of an input, or the line of the first fault: of the parts, then of these
+-- the domain and the streams of an input, or the line of the first fault: of the number of parts, then of the parts
 abbrev pub flows_input : Limits → List ℕ → Result (Domain × List FlowText) (List ℕ)
 flows_input limits input = and_then (two_parts (parts_of input)) (λ parts. flows_of_parts limits parts.0 parts.1)
 
@@ -48,7 +50,7 @@ abbrev pub first_name : List (List (List ℕ)) → Option (List ℕ)
 first_name [] = None
 first_name (path ∷ more) = slice_get path 0
 
--- a stream as its talker sees it: its edge bridge is the one with which its branches begin
+-- a stream as its talker sees it: its edge bridge is the one with which its branches begin, and its traffic is that at this bridge
 abbrev pub edge_of : Domain → List (List (List ℕ)) → ℕ
 edge_of d paths = unwrap_or (as_bridge (option_and_then (node_named d) (first_name paths))) 0
 

@@ -1,6 +1,6 @@
 //! The reader of streams with their traffic.
 ghost use Rattle.std.specs.Prelude.{◌≡◌, Ok, IfErr, IfOk, map};
-ghost use Rattle.cqf_program_offers.specs.OffersOutput.{flows_input, flows_of_part, flows_of_parts};
+ghost use Rattle.cqf_program_offers.specs.OffersOutput.{flows_input, flows_of_network, flows_of_part, flows_of_parts};
 ghost use Rattle.cqf_output.specs.Stops.{IsRefused};
 ghost use Rattle.cqf_traffic.specs.FlowsText.{flow_text};
 
@@ -13,10 +13,14 @@ use cqf_topology::Domain;
 use cqf_traffic::Flow;
 use std::alloc::Global;
 
-/// The streams of a part of a network as they come to their edge bridges, with what is left there of their deadlines and the words that they
-/// keep there. `Err` with status 1 and the line of its first fault, or of the first access link that is full, and with status 3 for want of
-/// memory.
-pub fn flows_part(alloc: Global, network: &SketchDomain, text: &[u8]) -> Result<Vec<Flow>, Stop>
+/// Returns the streams of a part of a network as they come to their edge bridges, with the rest of their deadlines and the traffic that they
+/// have there. Returns `Err` with status 1 and the line of the part's first fault, or of the first access link that is full; with status 3
+/// if an allocation fails.
+pub(crate) fn flows_part(
+    alloc: Global,
+    network: &SketchDomain,
+    text: &[u8],
+) -> Result<Vec<Flow>, Stop>
     ensures ok { IfOk result (λ flows. flows_of_part network.now text.now ≡ Ok (map flow_text flows.items)) }
     ensures err { IfErr result (IsRefused (flows_of_part network.now text.now)) }
 {
@@ -24,8 +28,22 @@ pub fn flows_part(alloc: Global, network: &SketchDomain, text: &[u8]) -> Result<
     Ok(edge.flows)
 }
 
-/// The domain and the streams of two parts, read within some limits. `Err` with status 1 and the line of the first fault: of the domain, or
-/// of the streams; and with status 3 for want of memory.
+/// Returns the domain of a network and the streams of a part for it. Returns `Err` as [`flows_part`].
+fn flows_of_network(
+    alloc: Global,
+    network: &SketchDomain,
+    streams: &[u8],
+) -> Result<(Domain, Vec<Flow>), Stop>
+    ensures ok { IfOk result (λ found. flows_of_network network.now streams.now ≡ Ok (found.0, map flow_text found.1.items)) }
+    ensures err { IfErr result (IsRefused (flows_of_network network.now streams.now)) }
+{
+    let flows = flows_part(alloc, network, streams)?;
+    let domain = domain_of(alloc, network)?;
+    Ok((domain, flows))
+}
+
+/// Returns the domain and the streams of two parts, read within some limits. Returns `Err` with status 1 and the line of the first fault: of
+/// the domain, or of the streams; with status 3 if an allocation fails.
 pub(crate) fn flows_of_parts(
     alloc: Global,
     limits: Limits,
@@ -36,9 +54,7 @@ pub(crate) fn flows_of_parts(
     ensures err { IfErr result (IsRefused (flows_of_parts limits domain.now streams.now)) }
 {
     let network = network_part(alloc, limits, domain)?;
-    let plan = domain_of(alloc, &network)?;
-    let flows = flows_part(alloc, &network, streams)?;
-    Ok((plan, flows))
+    flows_of_network(alloc, &network, streams)
 }
 
 /// Returns the domain and the streams of the input, read within some limits. Returns `Err` with status 1 and the line of the first fault:
