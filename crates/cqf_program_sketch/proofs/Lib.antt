@@ -5,4 +5,6 @@ mod PlacedLemmas
 mod TriedLemmas
 mod TextLemmas
 mod ChoiceLemmas
+mod ChoicesMade
+mod EdgeRead
 pub mod ReadSketches
