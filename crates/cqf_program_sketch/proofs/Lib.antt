@@ -6,3 +6,16 @@ mod TriedLemmas
 mod TextLemmas
 mod ChoiceLemmas
 pub mod ReadSketches
+mod Inputs
+mod Rounds
+mod Erased
+mod PlacedWays
+mod Retold
+mod EndsRead
+mod Ones
+mod Entered
+mod ComesBack
+mod ReadBack
+mod Shallow
+mod ReadTemp
+mod ToldPlans

@@ -44,7 +44,7 @@ lacks_nothing cycle_time place octets (Some t) enough =
     let no_less : nat_lt octets need ≡ false = le-ltb octets need (enough t refl) in
     cond-false (nat_lt octets need) _ None no_less
 
-none_lacks : (cycle_time place : ℕ) (flows : List FlowText) → All (ReservesEnough cycle_time) flows → first_lack cycle_time place (map planned_octets flows) ≡ None
+pub none_lacks : (cycle_time place : ℕ) (flows : List FlowText) → All (ReservesEnough cycle_time) flows → first_lack cycle_time place (map planned_octets flows) ≡ None
 none_lacks cycle_time place [] enough = refl
 none_lacks cycle_time place (flow ∷ flows) enough =
     let first : ReservesEnough cycle_time flow = enough 0 flow (omega arith) in

@@ -165,8 +165,7 @@ fn read_sketch(
     input: &[u8],
 ) -> Result<PlanInput<'_>, Stop>
     requires { IfSome given (λ cycles. AreCandidates cycles.items) }
-    ensures ok { let said = option_map (λ cycles. cycles.items) given in IfOk result (λ found.
-        sketch_input limits said input.now ≡ Ok (record { domain = found.domain; streams = map settled_value found.streams.items })) }
+    ensures ok { let said = option_map (λ cycles. cycles.items) given in IfOk result (λ found. sketch_input limits said input.now ≡ Ok (sketched_of found)) }
     ensures settled { IfOk result (λ found. AreSettled found.domain (map settled_value found.streams.items)) }
     ensures err { let said = option_map (λ cycles. cycles.items) given in IfErr result (IsRefused (sketch_input limits said input.now)) }
 {
@@ -186,11 +185,12 @@ fn read_sketch(
 }
 
 /// Returns the table of a network file's candidates.
-fn table_of(alloc: Global, sketch: &SketchDomain, streams: &[Settled]) -> Result<Vec<u8>, Memory>
-    requires { AreSettled sketch.now (map settled_value streams.now) }
-    ensures { IfOk result (λ text. IsCandidatesText (record { domain = sketch.now; streams = map settled_value streams.now }) text.items) }
+fn table_of(alloc: Global, given: &PlanInput<'_>) -> Result<Vec<u8>, Memory>
+    requires { AreSettled given.now.domain (map settled_value given.now.streams.items) }
+    ensures { IfOk result (λ text. IsCandidatesText (sketched_of given.now) text.items) }
 {
-    let told = judge_all(alloc, sketch, streams)?;
+    let streams = given.streams.as_slice();
+    let told = judge_all(alloc, &given.domain, streams)?;
     let text = text_of_candidates(alloc, streams.len(), told.as_slice())?;
     Ok(text)
 }
@@ -260,7 +260,7 @@ fn told_of(alloc: Global, table: bool, given: &PlanInput<'_>) -> Result<Vec<u8>,
     if !table {
         return plan_of(alloc, given);
     }
-    match table_of(alloc, &given.domain, given.streams.as_slice()) {
+    match table_of(alloc, given) {
         Ok(text) => Ok(text),
         Err(_) => Err(Stop::memory(alloc)),
     }
