@@ -1,5 +1,5 @@
 -- A stream whose frames are handed to an access link, as it is read in the text of a plan: it comes to its edge bridge as it was placed.
-use Rattle.std.proofs.Common.{◌≡◌, ◌∙◌, ◌+◌, ◌-◌, ◌*◌, ◌%◌, ◌<◌, ◌≤◌, ℕ, Bool, true, false, Option, Some, None, ap, arith, refl, subst, sym}
+use Rattle.std.proofs.Common.{◌≡◌, ◌∙◌, ◌+◌, ◌-◌, ◌*◌, ◌%◌, ◌<◌, ◌≤◌, ℕ, List, Option, Some, None, ap, arith, refl, subst, sym}
 use Rattle.std.specs.Prelude.{min, option_map, slice_get, unwrap_or}
 use Rattle.std.specs.Option.{option_and_then, option_map_or}
 use Rattle.cqf_traffic.specs.TrafficText.{TrafficText, promise_of}

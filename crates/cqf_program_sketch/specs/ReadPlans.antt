@@ -1,15 +1,19 @@
 -- What every command reads in the text of a plan: the domain on the chosen cycle time, and the streams that were placed there.
-use Rattle.std.specs.Prelude.{ℕ, ◌≡◌, ◌*◌, ◌%◌, ◌≤◌, List, [], All, IfSome, Option, Some, None, Ok, false, length, map, slice_get, true}
+use Rattle.std.specs.Prelude.{ℕ, ◌≡◌, ◌+◌, ◌*◌, ◌%◌, ◌≤◌, List, [], All, Contains, IfSome, Option, Some, None, Ok, false, length, map, slice_get, true}
 use Rattle.std.specs.Option.{ForSome}
 use Rattle.toml.specs.Data.{Members, members_depth}
 use Rattle.cqf_model.specs.declared.limits.Limits.{Limits}
-use Rattle.cqf_model.specs.Domain.{Domain}
-use Rattle.cqf_model.specs.History.{Recorded, held_in}
+use Rattle.cqf_laws_timing.specs.Traffic.{offers_named}
+use Rattle.cqf_model.specs.declared.frames.Offer.{Offer}
+use Rattle.cqf_model.specs.Domain.{Domain, cycle_of}
+use Rattle.cqf_model.specs.History.{Recorded, held_in, pace_of}
+use Rattle.cqf_model.specs.Paces.{is_turn}
 use Rattle.cqf_topology.specs.PacedText.{paced_of_text}
 use Rattle.cqf_topology.specs.PlannedText.{planned_of_text}
 use Rattle.cqf_topology.specs.StreamsText.{streams_of_text}
 use Rattle.cqf_traffic.specs.FlowsText.{FlowText, flows_of_text}
 use Rattle.cqf_traffic.specs.PacedFlows.{paced_flows_of_text}
+use Rattle.cqf_traffic.specs.Offering.{offers_before}
 use Rattle.cqf_traffic.specs.TrafficText.{TrafficText}
 use Rattle.cqf_sketch.specs.NetworkFlows.{NetworkFlowText, network_flows_of_text}
 use Rattle.cqf_sketch.specs.SketchDomain.{AreCandidates, SketchDomain, network_of_text}
@@ -22,9 +26,10 @@ use Rattle.cqf_program_plans.specs.Compile.Output.{admitted_from}
 use Rattle.cqf_program_plans.specs.Edges.{open_edges_of_part}
 use Rattle.cqf_program_plans.specs.Latency.Text.{is_not_sure, latencies_of}
 use Rattle.cqf_program_plans.specs.Reserving.{first_lack, planned_octets}
-use Rattle.cqf_program_offers.specs.OffersOutput.{asked_in}
+use Rattle.cqf_program_offers.specs.OffersOutput.{asked_in, sender_of}
 use Rattle.cqf_program_placing.specs.Placing.{is_chosen_on}
 use Rattle.cqf_program_placing.specs.Settled.{SettledStream}
+use Rattle.cqf_program_sketch.specs.Choosing.{IsPlanned}
 use Rattle.cqf_program_sketch.specs.PlanLaws.{ReservesEnough, deadlines_of}
 use Rattle.cqf_program_sketch.specs.PlanOutput.{IsPlanText, Sketched, sketch_input}
 
@@ -100,3 +105,13 @@ ToldPlansReadBack =
     (limits : Limits) (given : Option (List ℕ)) (input text : List ℕ) (sketched : Sketched) → IfSome given AreCandidates →
     sketch_input limits given input ≡ Ok sketched → IsShallow sketched.domain_text → IsShallow sketched.streams_text → (plan : IsPlanText sketched text) →
     IsReadPlan limits sketched.streams plan.domain plan.flows text
+
+-- the offers of a plan's stream whose phase was chosen, as it comes to its edge bridge, are in the cycles in which the stream reserves, for every
+-- seed and without one. This holds by the talker's clock, and by the edge bridge's, which may differ from it by as much as the domain's `sync`
+abbrev pub ChosenStreamsComeInTurns : Type 0
+ChosenStreamsComeInTurns =
+    (sketch : SketchDomain) (streams : List SettledStream) (d : Domain) (flows there : List FlowText) (place : ℕ) (stream : SettledStream) (one : FlowText)
+    (until : ℕ) (seed : Option ℕ) (x : Offer) → IsPlanned sketch streams d flows → ComeAsPlaced d.cycle_time streams flows there →
+    slice_get streams place ≡ Some stream → slice_get there place ≡ Some one → is_chosen_on d.cycle_time stream ≡ true →
+    Contains (offers_named one.0.0.name (offers_before until seed (map (sender_of d) there))) x → (at : ℕ) → x.at.0 ≤ at + d.sync → at ≤ x.at.0 + d.sync →
+    is_turn (pace_of (asked_in one)) 0 (cycle_of d at) ≡ true

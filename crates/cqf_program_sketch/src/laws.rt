@@ -1,6 +1,6 @@
 //! Laws about plans that are written.
-ghost use Rattle.cqf_program_sketch.specs.PlanLaws.{ChosenStreamsComeInTurns, SketchesArePlacedByRoom, ToldPlanIsAdmitted};
-ghost use Rattle.cqf_program_sketch.specs.ReadPlans.{ToldPlansReadBack};
+ghost use Rattle.cqf_program_sketch.specs.PlanLaws.{SketchesArePlacedByRoom, ToldPlanIsAdmitted};
+ghost use Rattle.cqf_program_sketch.specs.ReadPlans.{ChosenStreamsComeInTurns, ToldPlansReadBack};
 
 use cqf_laws_history::state_follows_history;
 use cqf_laws_timing::lists_bound_costs;
@@ -19,7 +19,7 @@ pub fn told_plan_is_admitted()
 }
 
 /// The offers of a written plan's stream whose phase was chosen are in the cycles in which the stream reserves, for every seed and without
-/// one.
+/// one. This holds of streams that are read as [`told_plans_read_back`] says.
 pub fn chosen_streams_come_in_turns()
     ensures { ChosenStreamsComeInTurns }
 {
