@@ -5,6 +5,8 @@ mod PlacedLemmas
 mod TriedLemmas
 mod TextLemmas
 mod ChoiceLemmas
+mod ChoicesMade
+mod EdgeRead
 pub mod ReadSketches
 mod Inputs
 mod Rounds

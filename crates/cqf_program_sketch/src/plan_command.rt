@@ -1,6 +1,9 @@
 //! The command `plan`.
-ghost use Rattle.std.specs.Prelude.{◌≡◌, ◌≢◌, [], All, IfErr, IfOk, IfSome, Some, Ok, false, length, map, option_map, string_bytes};
+ghost use Rattle.std.specs.Prelude.{◌≡◌, ◌≢◌, [], All, IfErr, IfOk, IfSome, None, OnOk, Some, Ok, false, length, map, option_map, string_bytes};
+ghost use Rattle.cqf_program_plans.specs.Edges.{EndsAsFull, full_line};
 ghost use Rattle.cqf_program_plans.specs.Reserving.{flows_line};
+ghost use Rattle.cqf_edge.specs.EdgeStreams.{IsWrittenStream, edge_streams};
+ghost use Rattle.cqf_edge.specs.EdgeValues.{edge_streams_text};
 ghost use Rattle.cqf_program_placing.specs.Settled.{settled_of, settled_value};
 ghost use Rattle.cqf_output.specs.Stops.{EndsWith, IsRefused, or_line};
 ghost use Rattle.cqf_sketch.specs.SketchDomain.{AreCandidates, sketch_domain_of_text};
@@ -9,7 +12,7 @@ ghost use Rattle.cqf_program_placing.specs.Placing.{BeginsEarly, outcome_value};
 ghost use Rattle.cqf_program_sketch.specs.Choosing.{IsBad, line_of_best};
 ghost use Rattle.cqf_program_sketch.specs.Judging.{flows_placed};
 ghost use Rattle.cqf_program_sketch.specs.PlanOutput.{IsCandidatesText, IsPlanOf, IsPlanRefusal, IsPlanText, IsToldOf, IsToldRefusal};
-ghost use Rattle.cqf_program_sketch.specs.PlanOutput.{sketch_input, sketch_line, unsettled_line};
+ghost use Rattle.cqf_program_sketch.specs.PlanOutput.{sketch_input, sketch_line, unentered_line, unsettled_line};
 ghost use Rattle.cqf_program_sketch.specs.Steps.{AreSettled, AreTurned};
 ghost use Rattle.cqf_program_sketch.specs.Writing.{IsTriedText, IsWritable, sketched_of};
 
@@ -23,7 +26,7 @@ use cqf_model::{Limits, Refused};
 use cqf_output::{REFUSED, Stop};
 use cqf_plants::write_network;
 use cqf_program_placing::{PlanFault, Settled, Unsettled, settle};
-use cqf_program_plans::{edge_stop, flows_stop, stream_stop};
+use cqf_program_plans::{flows_stop, stream_stop};
 use cqf_program_scenario::two_parts;
 use cqf_sketch::{SketchDomain, SketchFault, Stream, read_sketch_streams};
 use cqf_topology::DomainFault;
@@ -62,6 +65,7 @@ fn sketch_part(
 /// Returns the streams of a network file's part; `Err` likewise.
 fn wanted_part(alloc: Global, text: &[u8]) -> Result<Vec<Stream>, Stop>
     ensures ok { IfOk result (λ streams. sketch_streams_of_text text.now ≡ Ok (map stream_text streams.items)) }
+    ensures written { IfOk result (λ streams. All IsWrittenStream (map stream_text streams.items)) }
     ensures err { IfErr result (IsRefused (or_line flows_line (sketch_streams_of_text text.now))) }
 {
     match read_sketch_streams(alloc, text) {
@@ -109,55 +113,79 @@ fn settled_part(
     }
 }
 
-/// A network that is to be planned: its domain, its settled streams as they come to their edge bridges, how long they take there from the
-/// hand-over, by the same places, and the texts of both.
+/// A network that is to be planned, with its streams settled as they come to their edge bridges.
 #[derive(Drop)]
 struct PlanInput<'t> {
     domain: SketchDomain,
     streams: Vec<Settled>,
+    /// How long the frames of each stream take to its edge bridge from the hand-over, if its talker is a station.
     times: Vec<Option<AccessTimes>>,
     domain_text: &'t [u8],
     streams_text: &'t [u8],
 }
 
-/// The end where streams of a network that is to be planned don't come to their edge bridges.
-fn unentered_stop(alloc: Global, fault: EdgeFault) -> Stop {
-    match fault {
-        EdgeFault::Talker(name, found) => {
-            Stop::with_text(alloc, REFUSED, line_of_unentered(alloc, &name, found))
-        }
-        other => edge_stop(alloc, other),
-    }
-}
-
-/// The line of a stream that doesn't enter the network as its text says.
-fn line_of_unentered(alloc: Global, name: &Name, fault: TalkerFault) -> Result<String, Memory> {
+/// Returns the line of a stream that doesn't enter the network as its text says.
+fn line_of_unentered(alloc: Global, name: &Name, fault: TalkerFault) -> Result<String, Memory>
+    ensures { IfOk result (λ line. string_bytes line ≡ unentered_line (EdgeFault.Talker name.now fault)) }
+{
     let line = format!(in alloc; "cqf: plan: {name}: {fault}\n")?;
     Ok(line)
 }
 
-/// The streams of a network, as they come to their edge bridges.
+/// Returns the end if the access link of a station is full.
+fn full_stop(alloc: Global, station: Name) -> Stop
+    ensures { EndsWith 1 (full_line station) result }
+{
+    Stop::refused(alloc, "network", &EdgeFault::AccessFull(station))
+}
+
+/// Returns the end if streams of a network file don't come to their edge bridges.
+fn unentered_stop(alloc: Global, fault: EdgeFault) -> Stop
+    ensures refused { fault ≢ EdgeFault.Memory → EndsWith 1 (unentered_line fault) result }
+    ensures memory { fault ≡ EdgeFault.Memory → EndsWith 3 [] result }
+{
+    match fault {
+        EdgeFault::Talker(name, found) => {
+            Stop::with_text(alloc, REFUSED, line_of_unentered(alloc, &name, found))
+        }
+        EdgeFault::AccessFull(station) => full_stop(alloc, station),
+        EdgeFault::Memory => Stop::memory(alloc),
+    }
+}
+
+/// Returns the streams of a network file as they come to their edge bridges. Returns `Err` with status 1 and the line of the first stream
+/// that doesn't enter the network as its text says; with status 3 if an allocation fails.
 fn edges_wanted(
     alloc: Global,
     network: &SketchDomain,
     wanted: Vec<Stream>,
-) -> Result<EdgeStreams, Stop> {
+) -> Result<EdgeStreams, Stop>
+    requires { All IsWrittenStream (map stream_text wanted.items) }
+    ensures ok { IfOk result (λ edge. edge_streams network.now (map stream_text wanted.items) ≡ Ok (edge_streams_text edge)) }
+    ensures err { IfErr result (IsRefused (or_line unentered_line (edge_streams network.now (map stream_text wanted.items)))) }
+{
     match edge_streams(alloc, network, wanted) {
         Ok(edge) => Ok(edge),
         Err(fault) => Err(unentered_stop(alloc, fault)),
     }
 }
 
-/// Refuses a network one of whose access links is full: with status 1 and the line that tells the station of the first.
-fn refuse_full(alloc: Global, full: Option<Name>) -> Result<(), Stop> {
+/// Refuses a network if one of its access links is full, with status 1 and the line of the first one's station.
+fn refuse_full(alloc: Global, full: Option<Name>) -> Result<(), Stop>
+    ensures ok { OnOk result (full ≡ None) }
+    ensures err { IfErr result (EndsAsFull full) }
+{
     match full {
-        Some(station) => Err(edge_stop(alloc, EdgeFault::AccessFull(station))),
+        Some(station) => Err(full_stop(alloc, station)),
         None => Ok(()),
     }
 }
 
-/// The domain and the settled streams of the input, read within some limits. `Err` with status 1 and the line of the first fault: of its
-/// parts, of the domain, of the streams, of what no cycle time changes, or of the access links; and with status 3 for want of memory.
+/// Returns the domain and the settled streams of the input, read within some limits.
+///
+/// # Errors
+/// With status 1 and the line of the first fault: of its parts, of the domain, of the streams, of what no cycle time changes, or of the
+/// access links; with status 3 if an allocation fails.
 fn read_sketch(
     alloc: Global,
     limits: Limits,
