@@ -363,7 +363,7 @@ module _ (network : SketchDomain) (talkers : HasTalkerLinks network) (cycle_time
   entrance_there e at = by s.talker refl is.entered
     where
       by : (t : Option Talker) → s.talker ≡ t → entrance_if t ≡ Ok o.entrance → IsEntrance network e
-      by None same h = let both : Ok None ≡ Ok (Some e) = h ∙ ap Ok at in absurd cc
+      by None same h = let both = h ∙ ap Ok at in absurd cc
       by (Some talker) same h =
           let there = enters_there talker same h in
           let is_e : there.e ≡ e = same_Some there.e e (sym there.at ∙ at) in

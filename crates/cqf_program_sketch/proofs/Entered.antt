@@ -195,9 +195,9 @@ module _ (network : SketchDomain) (talkers : HasTalkerLinks network) (cycle_time
   -- ---- a stream that enters nowhere has no talker
 
   none_found : {X : Type 0} (test : X → Bool) (xs : List X) → position test xs ≡ None → find test xs ≡ None
-  none_found test xs none = by (find test xs) refl
+  none_found {X} test xs none = by (find test xs) refl
     where
-      by : (o : Option _) → find test xs ≡ o → o ≡ None
+      by : (o : Option X) → find test xs ≡ o → o ≡ None
       by None e = refl
       by (Some x) e =
           let found = find_member test xs x e in
@@ -215,6 +215,7 @@ module _ (network : SketchDomain) (talkers : HasTalkerLinks network) (cycle_time
       by None None is h =
           let none = none_found (leaves_station station) network.talkers is in
           let nothing : entrance_at network (Some (Station station)) ≡ None = ap (option_map entrance_behind) none in
+          let both = sym nothing ∙ at in
           absurd cc
 
   no_node : (node : List ℕ) (x : placing_entrance.Entrance) → at_node network (place_of node network.bridges) (place_of node network.stations) None ≡ Err NoTalker →
@@ -229,7 +230,8 @@ module _ (network : SketchDomain) (talkers : HasTalkerLinks network) (cycle_time
   -- a talker that is found nowhere isn't settled
   never_settled : (s : StreamText) (talker : Talker) (why : TalkerFault) (way : SettledWay) (wanted : WantedText) → EndsOf wanted (Some talker) s.listeners →
       and_then (entrance_of network talker) (λ entrance. entrance_by network s entrance wanted) ≡ Err why →
-      (if is_between wanted && is_none talker.bridge then Ok None else Err (fault.Talker s.name NoTalker)) ≡ Ok None → why ≡ NoTalker →
+      ◌≡◌ {A = Result (Option Entrance) EdgeFault} (if is_between wanted && is_none talker.bridge then Ok None else Err (fault.Talker s.name NoTalker))
+      (Ok None) → why ≡ NoTalker →
       settled_way network (open_domain network) wanted ≡ Ok way → ⊥
   never_settled s talker why way (Along given) ends failed later same settles = absurd cc
   never_settled s talker why way (Between from to) ends failed later same settles =
@@ -244,7 +246,8 @@ module _ (network : SketchDomain) (talkers : HasTalkerLinks network) (cycle_time
       no_node talker.node x none
       (ap (λ (n : List ℕ). entrance_at network (node_named (open_domain network) n)) node ∙ ok_or-Ok entrance plan_fault.NoTalker x entered)
     where
-      none_bridge : (o : Option (List ℕ)) → (if true && is_none o then Ok None else Err (fault.Talker s.name NoTalker)) ≡ Ok None → o ≡ None
+      none_bridge : (o : Option (List ℕ)) →
+          ◌≡◌ {A = Result (Option Entrance) EdgeFault} (if true && is_none o then Ok None else Err (fault.Talker s.name NoTalker)) (Ok None) → o ≡ None
       none_bridge None h = refl
       none_bridge (Some n) h = absurd cc
 

@@ -19,5 +19,4 @@ mod Entered
 mod ComesBack
 mod ReadBack
 mod Shallow
-mod ReadTemp
 mod ToldPlans

@@ -46,7 +46,7 @@ use Rattle.cqf_program_sketch.proofs.Inputs.{AreEntered, IsInput, entered, input
 use Rattle.cqf_program_sketch.proofs.Ones.{AreOnes, IsOne, One, ones_by}
 use Rattle.cqf_program_sketch.proofs.ReadBack.{all_at_edge, all_come, all_good, all_kept, all_read, all_turned, at_edge, domain_found, edges_found, entrances_of_ones, flows_found, flows_of}
 use Rattle.cqf_program_sketch.proofs.ReadBack.{none_found_full, plain_edges, read_of, streams_of}
-use Rattle.cqf_program_sketch.proofs.ReadTemp.{read_is_sketch}
+use Rattle.cqf_program_sketch.proofs.ReadSketches.{read_is_sketch}
 use Rattle.cqf_program_sketch.proofs.Shallow.{network_shallow}
 use Rattle.cqf_program_sketch.proofs.SoundPlans.{told_plan_is_admitted}
 
