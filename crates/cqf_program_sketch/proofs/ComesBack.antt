@@ -4,6 +4,7 @@ use Rattle.std.proofs.Math.Nat.{mul-le-mul}
 use Rattle.std.specs.Prelude.{if◌then◌else◌, nat_lt, option_map, unwrap_or}
 use Rattle.std.specs.Option.{option_and_then, option_map_or}
 use Rattle.std.specs.Result.{result_map_both}
+use Rattle.std.proofs.lemmas.Bool.{ltb-true}
 use Rattle.std.proofs.lemmas.Option.{same_Some}
 use Rattle.cqf_lists.specs.Results.{and_then}
 use Rattle.cqf_units.specs.Name.{is_name}
@@ -36,7 +37,6 @@ use Rattle.cqf_edge.specs.Entrances.{IsEntrance, agrees_with, at_node, by_statio
 use Rattle.cqf_edge.specs.Uses.{handed_over}
 use Rattle.cqf_plants.specs.NetworkLaws.{IsChoice, beginning_at, chosen_flow, chosen_network_flow, chosen_pacing, chosen_stream, chosen_traffic, chosen_way, every_of, paths_of, phase_of}
 use Rattle.cqf_plants.specs.NetworkLaws.{with_cycle}
-use Rattle.cqf_program_placing.specs.declared.entrances.Entrance as placing_entrance
 use Rattle.cqf_program_placing.specs.declared.faults.PlanFault.{PlanFault}
 use Rattle.cqf_program_placing.specs.declared.faults.PlanFault.TheVariants as plan_fault
 use Rattle.cqf_program_placing.specs.Placing.{is_chosen_on, reserved_by, reserved_on, turns_on}
@@ -48,7 +48,7 @@ use Rattle.cqf_program_placing.proofs.Stepping.{first_is_early}
 use Rattle.cqf_program_sketch.specs.PlanOutput.{offset_before, offset_told, taken_by}
 use Rattle.cqf_program_sketch.specs.ReadPlans.{ComesAsPlaced, ComesIn}
 use Rattle.cqf_program_sketch.proofs.EndsRead.{EndsOf}
-use Rattle.cqf_program_sketch.proofs.Entered.{edge_named, entered_by, entrance_inside, enters, paths_agree, paths_behind, paths_read}
+use Rattle.cqf_program_sketch.proofs.Entered.{entered_by, entrance_inside, enters, no_link, paths_agree, paths_behind, paths_read}
 use Rattle.cqf_program_sketch.proofs.Erased.{erased}
 use Rattle.cqf_program_sketch.proofs.Ones.{IsOne, One}
 use Rattle.cqf_program_sketch.proofs.Retold.{Found, erased_retold, found_at, handed_retold, made, passage_found, passage_with, retold, round_kept, times_retold}
@@ -379,9 +379,7 @@ module _ (network : SketchDomain) (talkers : HasTalkerLinks network) (cycle_time
 
       at_edge : (e : Entrance) (w : WantedText) → o.entrance ≡ Some e → talker_of_stream network (open_domain network) (way_behind network e w) ≡ None
       at_edge e (Along paths) at = refl
-      at_edge e (Between from to) at =
-          ap (λ n. option_and_then (λ (x : placing_entrance.Entrance). x.talker) (entrance_at network n))
-          (edge_named network talkers cycle_time good e (entrance_there e at))
+      at_edge e (Between from to) at = no_link network talkers cycle_time good e to (entrance_there e at)
 
       by : (e : Option Entrance) → o.entrance ≡ e → talker_of_stream network (open_domain network) (stream_behind network e p s).way ≡ None
       by None none = along s.way (never_between none)
@@ -392,6 +390,26 @@ module _ (network : SketchDomain) (talkers : HasTalkerLinks network) (cycle_time
       none_taken (stream_behind network o.entrance p s).deadline o.settled.deadline
       (ap (λ (link : Option TalkerLink). deadline_after (taken_on link (longest_of (stream_behind network o.entrance p s).octets
       (stream_behind network o.entrance p s).traffic)) (stream_behind network o.entrance p s).deadline) (sym no_talker) ∙ is.settles.deadline_is)
+
+  -- and something is left
+  left_some : (left after : Option ℕ) (x : ℕ) → deadline_after 0 left ≡ Ok after → after ≡ Some x → 1 ≤ x
+  left_some None after x h has = let none : None ≡ after = cc in let both = none ∙ has in absurd cc
+  left_some (Some n) after x h has = by (nat_lt 0 n) refl h
+    where
+      by : (b : Bool) → nat_lt 0 n ≡ b → (if b then Ok (Some (n - 0)) else Err plan_fault.TooSoon) ≡ Ok after → 1 ≤ x
+      by true is h =
+          let same : Some (n - 0) ≡ after = cc in
+          let value : n - 0 ≡ x = same_Some (n - 0) x (same ∙ has) in
+          let some : 0 < n = ltb-true 0 n is in
+          omega (arith, value, some)
+      by false is h = absurd cc
+
+  pub some_left : (x : ℕ) → o.flow.0.1 ≡ Some x → 1 ≤ x
+  some_left x has =
+      left_some (stream_behind network o.entrance p s).deadline o.settled.deadline x
+      (ap (λ (link : Option TalkerLink). deadline_after (taken_on link (longest_of (stream_behind network o.entrance p s).octets
+      (stream_behind network o.entrance p s).traffic)) (stream_behind network o.entrance p s).deadline) (sym no_talker) ∙ is.settles.deadline_is)
+      (sym is.taken.deadline ∙ has)
 
   -- how it comes there
   abbrev pub passed : Option Entrance → Option Passage
@@ -508,7 +526,7 @@ module _ (network : SketchDomain) (talkers : HasTalkerLinks network) (cycle_time
       let octets : o.filled.request.octets ≡ o.flow.0.0.octets = ap (λ (r : PacedText). r.octets) is.choice.request in
       let every : o.filled.request.every ≡ o.flow.0.0.every = ap (λ (r : PacedText). r.every) is.choice.request in
       let phase : o.filled.request.phase ≡ o.flow.0.0.phase = ap (λ (r : PacedText). r.phase) is.choice.request in
-      let most : o.flow.0.0.octets ≤ most_reserved = reserved_few o.settled.octets _ o.flow.0.0.octets is.settles.reservable reserves in
+      let most : o.flow.0.0.octets ≤ most_reserved = reserved_few o.settled.octets (option_map (λ (t : TrafficText). needed cycle_time (promise_of t)) o.settled.traffic) o.flow.0.0.octets is.settles.reservable reserves in
       let early : o.flow.0.0.phase < most_every =
       first_is_early cycle_time o.settled.pacing o.settled.traffic o.flow.0.0.phase is.settles.paced is.taken.phase in
       record {

@@ -50,18 +50,18 @@ stream_same : (x y : StreamText) → ◌≡◌ {A = Result StreamText FlowsFault
 stream_same x y e = cc
 
 stream_ends : (table : Members) (stream : StreamText) → stream_from table ≡ Ok stream → HasEnds stream
-stream_ends table =
-    after HasEnds _ _ (λ name _.
-    after HasEnds _ _ (λ octets _.
-    after HasEnds _ _ (λ pacing _.
-    after HasEnds _ _ (λ paths _.
-    after HasEnds _ _ (λ talker _.
-    after HasEnds _ _ (λ listeners _.
-    after HasEnds _ _ (λ way at_way.
-    after HasEnds _ _ (λ deadline _.
-    after HasEnds _ _ (λ traffic _.
-    after HasEnds _ _ (λ shortest _ stream made.
-    subst HasEnds (stream_same (record {
+stream_ends table stream e =
+    let (name, at_name, h1) = and_then-Ok (or_streams (read_at key.Name as_str table)) _ stream e in
+    let (octets, at_octets, h2) = and_then-Ok (or_streams (octets_from table)) _ stream h1 in
+    let (pacing, at_pacing, h3) = and_then-Ok (pacing_from table) _ stream h2 in
+    let (paths, at_paths, h4) = and_then-Ok (or_streams (branches_if table)) _ stream h3 in
+    let (talker, at_talker, h5) = and_then-Ok (or_streams (talker_read table)) _ stream h4 in
+    let (listeners, at_listeners, h6) = and_then-Ok (or_streams (listeners_read table)) _ stream h5 in
+    let (way, at_way, h7) = and_then-Ok (or_streams (way_by paths talker listeners)) _ stream h6 in
+    let (deadline, at_deadline, h8) = and_then-Ok (or_streams (deadline_from table)) _ stream h7 in
+    let (traffic, at_traffic, h9) = and_then-Ok (traffic_or table) _ stream h8 in
+    let (shortest, at_shortest, h10) = and_then-Ok (shortest_read traffic table) _ stream h9 in
+    let made : StreamText = record {
       name = name;
       octets = octets;
       pacing = pacing;
@@ -71,7 +71,8 @@ stream_ends table =
       deadline = deadline;
       traffic = traffic;
       shortest = shortest;
-    }) stream made) (ends_by paths talker listeners way (or_streams-read (way_by paths talker listeners) way at_way))))))))))))
+    } in
+    subst HasEnds (stream_same made stream h10) (ends_by paths talker listeners way (or_streams-read (way_by paths talker listeners) way at_way))
 
 element_ends : (d : Data) (stream : StreamText) → and_then (ok_or (as_table d) (flows_fault.Streams (toml_fault.BadValue key.Streams))) stream_from ≡ Ok stream →
     HasEnds stream

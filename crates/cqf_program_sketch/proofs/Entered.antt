@@ -2,7 +2,7 @@
 use Rattle.std.proofs.Common.{◌≡◌, ◌∙◌, ◌+◌, ◌<◌, ◌==◌, ℕ, zero, suc, Bool, true, false, List, [], ◌∷◌, Option, Some, None, Result, Ok, Err, ap, arith, count_by, length, map, nat_lt, ok_or, position, refl, subst, sym}
 use Rattle.std.specs.Prelude.{◌&&◌, find, if◌then◌else◌, is_none, is_some, not, option_map, slice_get}
 use Rattle.std.specs.List.{list_all, list_any}
-use Rattle.std.specs.Option.{option_map_or}
+use Rattle.std.specs.Option.{option_and_then, option_map_or}
 use Rattle.std.specs.Result.{result_map_both}
 use Rattle.std.proofs.lemmas.Bool.{both_ways}
 use Rattle.std.proofs.lemmas.List.Elements.{All-contains}
@@ -32,11 +32,10 @@ use Rattle.cqf_edge.specs.EdgeStreams.{entrance_by, entrance_of_stream, entrance
 use Rattle.cqf_edge.specs.Entrances.{IsEntrance, agrees_with, at_bridge, at_node, begins_with, by_station, by_that_to, by_the_only, edge_bridge, edge_name, end_at, entrance_of}
 use Rattle.cqf_edge.specs.Entrances.{joins, leaves_station, listeners_agree}
 use Rattle.cqf_plants.specs.NetworkLaws.{chosen_way, paths_of}
-use Rattle.cqf_program_placing.specs.declared.entrances.Entrance as placing_entrance
 use Rattle.cqf_program_placing.specs.declared.faults.PlanFault.{PlanFault}
 use Rattle.cqf_program_placing.specs.declared.faults.PlanFault.TheVariants as plan_fault
 use Rattle.cqf_program_placing.specs.Settled.{Between as BetweenNodes, Along as AlongBranches, SettledWay, entrance_at, entrance_behind, first_apart, open_domain, settled_way}
-use Rattle.cqf_program_placing.specs.Settled.{stations_by_name, way_along, way_from}
+use Rattle.cqf_program_placing.specs.Settled.{stations_by_name, talker_of_stream, way_along, way_from}
 use Rattle.cqf_admission.specs.Branches.{tree_refusal}
 use Rattle.cqf_program_placing.proofs.WayNames.{name_leads_back}
 use Rattle.cqf_program_sketch.proofs.EndsRead.{AreEnds, EndsOf}
@@ -101,7 +100,18 @@ module _ (network : SketchDomain) (talkers : HasTalkerLinks network) (cycle_time
   pub edge_named : (e : Entrance) → IsEntrance network e → node_named d (edge_name network e) ≡ Some (Bridge (edge_bridge network e))
   edge_named e inside = name_leads_back d good (Bridge (edge_bridge network e)) (bridge_inside e inside)
 
+  pub open_named : (e : Entrance) → IsEntrance network e → node_named (open_domain network) (edge_name network e) ≡ Some (Bridge (edge_bridge network e))
+  open_named e inside = edge_named e inside
+
+  -- a stream from there needs no talker's link
+  pub no_link : (e : Entrance) (to : List (List ℕ)) → IsEntrance network e →
+      talker_of_stream network (open_domain network) (Between (edge_name network e) to) ≡ None
+  no_link e to inside = ap (λ n. option_and_then (λ x. x.talker) (entrance_at network n)) (open_named e inside)
+
   -- ---- the paths that were placed
+
+  way_same : (x y : SettledWay) → ◌≡◌ {A = Result SettledWay PlanFault} (Ok x) (Ok y) → x ≡ y
+  way_same x y e = cc
 
   -- a stream that goes between its ends is settled from that bridge to its listeners
   record IsBetween (e : Entrance) (to : List (List ℕ)) (way : SettledWay) : Type 0 where
@@ -118,8 +128,8 @@ module _ (network : SketchDomain) (talkers : HasTalkerLinks network) (cycle_time
       let (stations, named, more) = and_then-Ok (stations_by_name od to) _ way rest in
       let parts = refuse-Ok (first_apart od entrance.bridge to) plan_fault.NoWay (Ok (BetweenNodes entrance.bridge stations)) way more in
       let there : entrance_at network (node_named od (edge_name network e)) ≡ Some entrance = ok_or-Ok from plan_fault.NoTalker entrance entered in
-      let same = sym (ap (entrance_at network) (edge_named e inside)) ∙ there in
-      let bridge : edge_bridge network e ≡ entrance.bridge = ap (λ (o : Option placing_entrance.Entrance). option_map_or (λ (x : placing_entrance.Entrance). x.bridge) o 0) same in
+      let same : entrance_at network (Some (Bridge (edge_bridge network e))) ≡ Some entrance = sym (ap (entrance_at network) (open_named e inside)) ∙ there in
+      let bridge : edge_bridge network e ≡ entrance.bridge = cc in
       record { stations = stations; named = named; is = way_same way (BetweenNodes (edge_bridge network e) stations) (sym parts.1 ∙ ap (λ (b : ℕ). Ok (BetweenNodes b stations)) (sym bridge)) }
 
   settled_along : (given : List (List (List ℕ))) (way : SettledWay) → settled_way network (open_domain network) (Along given) ≡ Ok way → way ≡ AlongBranches given
@@ -205,8 +215,8 @@ module _ (network : SketchDomain) (talkers : HasTalkerLinks network) (cycle_time
           let nothing : list_any test xs ≡ false = sym (position_any test xs) ∙ ap is_some none in
           absurd (both_ways (list_any test xs) nothing some)
 
-  no_station : (station : ℕ) (x : placing_entrance.Entrance) → by_the_only network station ≡ Err NoTalker → entrance_at network (Some (Station station)) ≡ Some x → ⊥
-  no_station station x h at = by (if_so (nat_lt 1 (count_by (leaves_station station) network.talkers))) (position (leaves_station station) network.talkers) refl h
+  no_station : (station : ℕ) → by_the_only network station ≡ Err NoTalker → is_some (entrance_at network (Some (Station station))) ≡ true → ⊥
+  no_station station h at = by (if_so (nat_lt 1 (count_by (leaves_station station) network.talkers))) (position (leaves_station station) network.talkers) refl h
     where
       by : (o : Option (Unit {0})) (p : Option ℕ) → position (leaves_station station) network.talkers ≡ p →
           refuse o (λ _. TwoAccessLinks) (and_then (ok_or p NoTalker) (λ place. Ok (ByAccess place))) ≡ Err NoTalker → ⊥
@@ -214,17 +224,17 @@ module _ (network : SketchDomain) (talkers : HasTalkerLinks network) (cycle_time
       by None (Some k) is h = absurd cc
       by None None is h =
           let none = none_found (leaves_station station) network.talkers is in
-          let nothing : entrance_at network (Some (Station station)) ≡ None = ap (option_map entrance_behind) none in
+          let nothing = ap (λ o. is_some (option_map entrance_behind o)) none in
           let both = sym nothing ∙ at in
           absurd cc
 
-  no_node : (node : List ℕ) (x : placing_entrance.Entrance) → at_node network (place_of node network.bridges) (place_of node network.stations) None ≡ Err NoTalker →
-      entrance_at network (node_named (open_domain network) node) ≡ Some x → ⊥
-  no_node node x h at = by (place_of node network.bridges) (place_of node network.stations) h at
+  no_node : (node : List ℕ) → at_node network (place_of node network.bridges) (place_of node network.stations) None ≡ Err NoTalker →
+      is_some (entrance_at network (node_named (open_domain network) node)) ≡ true → ⊥
+  no_node node h at = by (place_of node network.bridges) (place_of node network.stations) h at
     where
-      by : (o p : Option ℕ) → at_node network o p None ≡ Err NoTalker → entrance_at network (node_or o p) ≡ Some x → ⊥
+      by : (o p : Option ℕ) → at_node network o p None ≡ Err NoTalker → is_some (entrance_at network (node_or o p)) ≡ true → ⊥
       by (Some b) p h at = absurd cc
-      by None (Some s) h at = no_station s x h at
+      by None (Some s) h at = no_station s h at
       by None None h at = absurd cc
 
   -- a talker that is found nowhere isn't settled
@@ -243,8 +253,9 @@ module _ (network : SketchDomain) (talkers : HasTalkerLinks network) (cycle_time
       ap (at_node network (place_of talker.node network.bridges) (place_of talker.node network.stations)) (sym bridge) ∙ missing ∙ ap Err same in
       let entrance = entrance_at network (node_named (open_domain network) from) in
       let (x, entered, rest) = and_then-Ok (ok_or entrance plan_fault.NoTalker) _ way settles in
-      no_node talker.node x none
-      (ap (λ (n : List ℕ). entrance_at network (node_named (open_domain network) n)) node ∙ ok_or-Ok entrance plan_fault.NoTalker x entered)
+      no_node talker.node none
+      (ap (λ (n : List ℕ). is_some (entrance_at network (node_named (open_domain network) n))) node
+      ∙ ap is_some (ok_or-Ok entrance plan_fault.NoTalker x entered))
     where
       none_bridge : (o : Option (List ℕ)) →
           ◌≡◌ {A = Result (Option Entrance) EdgeFault} (if true && is_none o then Ok None else Err (fault.Talker s.name NoTalker)) (Ok None) → o ≡ None

@@ -202,7 +202,9 @@ same_asked cycle_time streams (flow ∷ flows) [] many each come = absurd cc
 same_asked cycle_time [] (flow ∷ flows) (one ∷ there) many each come = absurd cc
 same_asked cycle_time (stream ∷ streams) (flow ∷ flows) (one ∷ there) many each come =
     let first = come 0 stream flow one refl refl refl in
-    let rest = same_asked cycle_time streams flows there cc cc (λ k. come (suc k)) in
+    let many_rest : length there ≡ length flows = cc in
+    let each_rest : length flows ≡ length streams = cc in
+    let rest = same_asked cycle_time streams flows there many_rest each_rest (λ k. come (suc k)) in
     (λ i. asked_by (first.request i) ∷ rest i)
 
 -- an element at an index

@@ -86,14 +86,17 @@ entrances_many network (stream ∷ streams) entrances e =
 handed_many : (all : List StreamText) (entrances : List (Option Entrance)) → length entrances ≡ length all → length (handed_at_each all entrances) ≡ length all
 handed_many [] entrances e = refl
 handed_many (stream ∷ streams) [] e = e
-handed_many (stream ∷ streams) (entrance ∷ entrances) e = ap suc (handed_many streams entrances cc)
+handed_many (stream ∷ streams) (entrance ∷ entrances) e = let entering : length entrances ≡ length streams = cc in ap suc (handed_many streams entrances entering)
 
 behind_many : (network : SketchDomain) (entrances : List (Option Entrance)) (ps : List (Option Passage)) (all : List StreamText) →
     length entrances ≡ length all → length ps ≡ length all → length (streams_behind network entrances ps all) ≡ length all
 behind_many network entrances ps [] e f = refl
 behind_many network [] ps (stream ∷ streams) e f = e
 behind_many network (entrance ∷ entrances) [] (stream ∷ streams) e f = f
-behind_many network (entrance ∷ entrances) (p ∷ ps) (stream ∷ streams) e f = ap suc (behind_many network entrances ps streams cc cc)
+behind_many network (entrance ∷ entrances) (p ∷ ps) (stream ∷ streams) e f =
+    let entering : length entrances ≡ length streams = cc in
+    let passing : length ps ≡ length streams = cc in
+    ap suc (behind_many network entrances ps streams entering passing)
 
 settled_many : (network : SketchDomain) (d : Domain) (before : List (List ℕ)) (all : List StreamText) (settled : List SettledStream) →
     settled_behind network d before all ≡ Ok settled → length settled ≡ length all

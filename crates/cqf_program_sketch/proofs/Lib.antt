@@ -19,4 +19,5 @@ mod Entered
 mod ComesBack
 mod ReadBack
 mod Shallow
+mod Strict
 mod ToldPlans

@@ -23,7 +23,6 @@ use Rattle.cqf_units.specs.Timing.{cost_of}
 use Rattle.cqf_edge.specs.Entrances.{begins_with, end_at, ends_with}
 use Rattle.cqf_program_plans.specs.EndNames.{name_of_end}
 use Rattle.cqf_program_placing.specs.declared.faults.PlanFault.{PlanFault}
-use Rattle.cqf_program_placing.specs.declared.turns.Turns.{Turns}
 use Rattle.cqf_program_placing.specs.Placing.{ArePlacedFrom, IsAnswered, IsPlacedBy, IsPlacing, IsRouted, PlacedOr, Placed, Unplaced, names_along, reserved_on, turns_on}
 use Rattle.cqf_program_placing.specs.Turns.{every_in}
 use Rattle.cqf_program_placing.specs.Settled.{Along, Between, SettledStream, SettledWay, station_by_name, stations_by_name}
@@ -44,10 +43,13 @@ abbrev pub ArePathsOf : Domain → SettledWay → List Branch → Type 0
 ArePathsOf d (Along given) paths = paths ≡ given
 ArePathsOf d (Between bridge stations) paths = AreWayNames d bridge stations paths
 
-routed_paths : (d : Domain) (rows : List Row) (turns : Turns) (cost : ℕ) (way : SettledWay) (paths : List Branch) → IsRouted d rows turns cost way (Ok paths) →
-    ArePathsOf d way paths
-routed_paths d rows turns cost (Along given) paths h = cc
-routed_paths d rows turns cost (Between bridge stations) paths h =
+same_paths : (paths given : List Branch) → ◌≡◌ {A = Result (List Branch) PlanFault} (Ok paths) (Ok given) → paths ≡ given
+same_paths paths given h = cc
+
+routed_paths : (d : Domain) (rows : List Row) (stream : SettledStream) (cost : ℕ) (way : SettledWay) (paths : List Branch) →
+    IsRouted d rows (turns_on d.cycle_time stream) cost way (Ok paths) → ArePathsOf d way paths
+routed_paths d rows stream cost (Along given) paths h = same_paths paths given h
+routed_paths d rows stream cost (Between bridge stations) paths h =
     let found = h.found in
     record {
       ways = found.ways;
@@ -56,21 +58,21 @@ routed_paths d rows turns cost (Between bridge stations) paths h =
       are = found.are;
     }
 
-answered_paths : (d : Domain) (entries : List Recorded) (stream : SettledStream) (octets : ℕ) (turns : Turns) (routed : Result (List Branch) PlanFault)
-    (asked : Asked) (after : List Recorded) → IsRouted d (held_in d entries (seals entries)) turns (cost_of octets) stream.way routed →
-    IsAnswered d entries stream.name octets turns routed (Placed asked) after → ArePathsOf d stream.way asked.paths
-answered_paths d entries stream octets turns (Err found) asked after routes h = never_placed asked found h.0
-answered_paths d entries stream octets turns (Ok paths) asked after routes h =
-    let there : Asked = asked_with stream.name octets (every_in turns) h.phase paths in
+answered_paths : (d : Domain) (entries : List Recorded) (stream : SettledStream) (octets : ℕ) (routed : Result (List Branch) PlanFault) (asked : Asked)
+    (after : List Recorded) → IsRouted d (held_in d entries (seals entries)) (turns_on d.cycle_time stream) (cost_of octets) stream.way routed →
+    IsAnswered d entries stream.name octets (turns_on d.cycle_time stream) routed (Placed asked) after → ArePathsOf d stream.way asked.paths
+answered_paths d entries stream octets (Err found) asked after routes h = never_placed asked found h.0
+answered_paths d entries stream octets (Ok paths) asked after routes h =
+    let there : Asked = asked_with stream.name octets (every_in (turns_on d.cycle_time stream)) h.phase paths in
     let found = answered_placed d there asked (refusal_of d (held_in d entries (seals entries)) there) h.answer in
     subst (λ (a : Asked). ArePathsOf d stream.way a.paths) (sym found.1)
-    (routed_paths d (held_in d entries (seals entries)) turns (cost_of octets) stream.way paths routes)
+    (routed_paths d (held_in d entries (seals entries)) stream (cost_of octets) stream.way paths routes)
 
 pub placed_paths : (d : Domain) (entries : List Recorded) (stream : SettledStream) (reserves : Result ℕ PlanFault) (asked : Asked) (after : List Recorded) →
     IsPlacedBy d entries stream reserves (Placed asked) after → ArePathsOf d stream.way asked.paths
 placed_paths d entries stream (Err found) asked after h = never_placed asked found h.0
 placed_paths d entries stream (Ok octets) asked after h =
-    answered_paths d entries stream octets (turns_on d.cycle_time stream) h.routed asked after h.is_routed h.is_answered
+    answered_paths d entries stream octets h.routed asked after h.is_routed h.is_answered
 
 -- ---- names
 
@@ -85,6 +87,12 @@ station_is d name s e = by (place_of name d.bridges) (place_of name d.stations) 
         let found = position-Some (λ (other : List ℕ). is_text other name) d.stations k [] at in
         ap (λ (n : ℕ). get_or d.stations n []) (sym same) ∙ is_text_same (get_or d.stations k []) name found.1
     by None None at h = absurd cc
+
+first_of : {A : Type 0} {x y : A} {xs ys : List A} → (x ∷ xs) ≡ (y ∷ ys) → x ≡ y
+first_of e = cc
+
+rest_of : {A : Type 0} {x y : A} {xs ys : List A} → (x ∷ xs) ≡ (y ∷ ys) → xs ≡ ys
+rest_of e = cc
 
 module _ (d : Domain) (good : IsDomain d) where
   -- a path ends in the name of its last node
@@ -107,25 +115,20 @@ module _ (d : Domain) (good : IsDomain d) where
   all_end od bridge [] [] [] b s named many lead = refl
   all_end od bridge [] [] (way ∷ ways) b s named many lead = absurd cc
   all_end od bridge [] (x ∷ stations) ways b s named many lead = absurd cc
-  all_end od bridge (name ∷ names) stations ways b s named many lead =
-      let both = and_first-Ok (station_by_name od name) (stations_by_name od names) stations named in
-      by stations ways (both.one) (both.more) both.first_is both.others_are both.all many lead
-    where
-      by : (stations : List ℕ) (ways : List (List ℕ)) (one : ℕ) (more : List ℕ) → station_by_name od name ≡ Ok one → stations_by_name od names ≡ Ok more →
-          stations ≡ one ∷ more → length ways ≡ length stations →
-          ((k station : ℕ) (way : List ℕ) → slice_get stations k ≡ Some station → slice_get ways k ≡ Some way →
-          led_along (led_to d.links) (Bridge bridge) way ≡ Some (Station station)) →
-          end_at (name ∷ names) (map (names_along d bridge) ways) ≡ true
-      by stations [] one more first others all many lead = absurd cc
-      by stations (way ∷ ways) one more first others all many lead =
-          let here : slice_get stations 0 ≡ Some one = ap (λ (xs : List ℕ). slice_get xs 0) all in
-          let there : (k : ℕ) → slice_get stations (suc k) ≡ slice_get more k = λ k. ap (λ (xs : List ℕ). slice_get xs (suc k)) all in
-          let at_od = station_named_by od name one first in
-          let at_d : node_named d name ≡ Some (Station one) =
-          sym (λ i. node_or (place_of name (b i)) (place_of name (s i))) ∙ at_od in
-          and_from (ends_with name (names_along d bridge way)) (end_at names (map (names_along d bridge) ways))
-          (ends_there (Bridge bridge) way one (name_of_bridge d bridge) name refl (station_is d name one at_d) (lead 0 one way here refl))
-          (all_end od bridge names more ways b s others cc (λ k station w at found. lead (suc k) station w (there k ∙ at) found))
+  all_end od bridge (name ∷ names) [] ways b s named many lead =
+      let both = and_first-Ok (station_by_name od name) (stations_by_name od names) [] named in
+      let all = both.all in absurd cc
+  all_end od bridge (name ∷ names) (station ∷ stations) [] b s named many lead = absurd cc
+  all_end od bridge (name ∷ names) (station ∷ stations) (way ∷ ways) b s named many lead =
+      let both = and_first-Ok (station_by_name od name) (stations_by_name od names) (station ∷ stations) named in
+      let one : both.one ≡ station = sym (first_of both.all) in
+      let more : both.more ≡ stations = sym (rest_of both.all) in
+      let at_od = station_named_by od name station (both.first_is ∙ ap Ok one) in
+      let at_d : node_named d name ≡ Some (Station station) = sym (λ i. node_or (place_of name (b i)) (place_of name (s i))) ∙ at_od in
+      let as_many : length ways ≡ length stations = cc in
+      and_from (ends_with name (names_along d bridge way)) (end_at names (map (names_along d bridge) ways))
+      (ends_there (Bridge bridge) way station (name_of_bridge d bridge) name refl (station_is d name station at_d) (lead 0 station way refl refl))
+      (all_end od bridge names stations ways b s (both.others_are ∙ ap Ok more) as_many (λ k. lead (suc k)))
 
   -- and begins with the name of its bridge
   pub all_begin : (bridge : ℕ) (name : List ℕ) (ways : List (List ℕ)) → name_of_bridge d bridge ≡ name →

@@ -1,5 +1,5 @@
 -- The text of a plan is read as the plan.
-use Rattle.std.proofs.Common.{◌≡◌, ◌∙◌, ◌+◌, ◌*◌, ◌<◌, ◌≤◌, ℕ, zero, suc, All, Bool, true, false, List, [], ◌∷◌, Option, Some, None, Result, Ok, Err, IfSome, ap, arith, length, map, nat_lt, refl, subst, subst₂, sym}
+use Rattle.std.proofs.Common.{◌≡◌, ◌∙◌, ◌+◌, ◌-◌, ◌*◌, ◌<◌, ◌≤◌, ℕ, zero, suc, All, Bool, true, false, List, [], ◌∷◌, Option, Some, None, Result, Ok, Err, IfSome, ap, arith, length, map, nat_lt, refl, subst, subst₂, sym}
 use Rattle.std.specs.Prelude.{cond, find, if◌then◌else◌, option_map, slice_get, unwrap_or}
 use Rattle.std.specs.Option.{ForSome}
 use Rattle.std.proofs.Math.Nat.{mul-le-mul}
@@ -23,14 +23,14 @@ use Rattle.cqf_edge.specs.declared.edge.Passage.{Passage}
 use Rattle.cqf_edge.specs.declared.entrances.Entrance.{Entrance}
 use Rattle.cqf_edge.specs.declared.uses.AccessBound.{AccessBound}
 use Rattle.cqf_edge.specs.declared.uses.Handed.{Handed}
-use Rattle.cqf_edge.specs.Edge.{times_on}
+use Rattle.cqf_edge.specs.Edge.{left_behind, times_on}
 use Rattle.cqf_edge.specs.EdgeFlows.{EdgeFlowsText, at_edges, edge_flows, edges_with, flow_behind, flows_behind, handed_of, handed_of_all, passage_of}
 use Rattle.cqf_edge.specs.EdgeStreams.{handed_at, handed_at_each}
 use Rattle.cqf_edge.specs.Uses.{bounds_of, full_station}
 use Rattle.cqf_plants.specs.declared.filling.FilledStream.{FilledStream}
 use Rattle.cqf_plants.specs.NetworkLaws.{AreChoices, IsChoice, chosen_flow, chosen_network_flow, chosen_stream, each_chosen, with_cycle}
 use Rattle.cqf_program_scenario.specs.Networks.{domain_of}
-use Rattle.cqf_program_plans.specs.Latency.Text.{is_not_sure, latencies_of}
+use Rattle.cqf_program_plans.specs.Latency.Text.{deadline_of, is_not_sure, latencies_of, times_of}
 use Rattle.cqf_program_plans.specs.declared.latency.latencies.Latency.{Latency}
 use Rattle.cqf_program_plans.specs.Compile.Output.{admitted_from}
 use Rattle.cqf_admission.specs.Asking.{asked_by}
@@ -42,11 +42,12 @@ use Rattle.cqf_program_placing.specs.Settled.{SettledStream, open_domain}
 use Rattle.cqf_program_sketch.specs.PlanLaws.{IsSoundPlan, ReservesEnough, deadlines_of}
 use Rattle.cqf_program_sketch.specs.ReadPlans.{ComeAsPlaced, ComesAsPlaced, ComesIn, IsGoodPlan}
 use Rattle.cqf_program_sketch.specs.Steps.{IsTurned}
-use Rattle.cqf_program_sketch.proofs.ComesBack.{choice_kept, comes_back, erased_back, handed_back, none_handed}
+use Rattle.cqf_program_sketch.proofs.ComesBack.{choice_kept, comes_back, erased_back, handed_back, none_handed, some_left}
 use Rattle.cqf_program_sketch.proofs.Erased.{all_erased, bounds_alike}
 use Rattle.cqf_program_sketch.proofs.Ones.{IsOne, One}
 use Rattle.cqf_program_sketch.proofs.Rounds.{needs_no_more}
 use Rattle.cqf_program_sketch.proofs.SoundPlans.{none_lacks}
+use Rattle.cqf_program_sketch.proofs.Strict.{IsLeft}
 
 -- ---- streams that come as they were placed are as good
 
@@ -306,6 +307,43 @@ module _ (network : SketchDomain) (talkers : HasTalkerLinks network) (cycle_time
         handed = plain_handed ones none each i;
         full = sym open_to i;
       })
+
+  -- ---- their deadlines
+
+  left_by : (q : Option Passage) (flow : FlowText) → ((x : ℕ) → (flow_behind q flow).0.1 ≡ Some x → 1 ≤ x) →
+      IsLeft flow.0.1 (flow_behind q flow).0.1 (option_map times_on q)
+  left_by None flow some = refl
+  left_by (Some q) flow some = by flow.0.1 some
+    where
+      by : (written : Option ℕ) → ((x : ℕ) → option_map (left_behind (times_on q)) written ≡ Some x → 1 ≤ x) →
+          IsLeft written (option_map (left_behind (times_on q)) written) (Some (times_on q))
+      by None some = refl
+      by (Some deadline) some = (refl, some (deadline - (times_on q).most) refl)
+
+  one_left : (o : One) → 0 < cycle_time → Is o → IsTurned o.flow → (x : ℕ) → (at_edge o).0.1 ≡ Some x → 1 ≤ x
+  one_left o some is turned x has =
+      some_left network talkers cycle_time good bounds o is x (sym (one_comes o some is turned).deadline ∙ has)
+
+  -- those of all streams, as they are read
+  abbrev pub AllLeft : List AccessBound → List One → ℕ → Type 0
+  AllLeft bs ones n =
+      let ps = map (passage_of network bs) (map hands_of ones) in
+      IsLeft (deadline_of (map (λ (one : NetworkFlowText). one.flow.0.1) (map read_of ones)) n)
+      (deadline_of (deadlines_of (flows_behind ps (map read_of ones))) n) (times_of (map (option_map times_on) ps) n)
+
+  left_there : (ones : List One) → 0 < cycle_time → All Is ones → All IsTurned (flows_of ones) → (n : ℕ) → AllLeft bounds ones n
+  left_there [] some each turned n = refl
+  left_there (o ∷ ones) some each turned zero =
+      left_by (passage_of network bounds (hands_of o)) (read_of o).flow
+      (one_left o some (All-head Is o ones each) (All-head IsTurned o.flow (flows_of ones) turned))
+  left_there (o ∷ ones) some each turned (suc n) =
+      left_there ones some (All-tail Is o ones each) (All-tail IsTurned o.flow (flows_of ones) turned) n
+
+  pub all_left : (ones : List One) → 0 < cycle_time → All Is ones → All IsTurned (flows_of ones) →
+      bounds ≡ bounds_of network (handed_at_each (streams_of ones) (entrances_of_ones ones)) → (n : ℕ) →
+      IsLeft (deadline_of (all_at_edge ones).deadlines n) (deadline_of (deadlines_of (all_at_edge ones).flows) n) (times_of (all_at_edge ones).times n)
+  all_left ones some each turned is n =
+      subst (λ (bs : List AccessBound). AllLeft bs ones n) (sym (bounds_found ones each is)) (left_there ones some each turned n)
 
 -- ---- the domain
 

@@ -9,8 +9,11 @@ pub comes_round : (at taken round : ℕ) → 0 < round → ((at + round - taken 
 comes_round at taken round some =
     let below : taken % round < round = mod-lt taken some in
     let whole : at + round - taken % round + taken % round ≡ at + round = omega (arith, below) in
-    mod-add-mod (at + round - taken % round) taken round
-    ∙ sym (add-mod-mod (at + round - taken % round) taken round)
+    let later : ((at + round - taken % round) % round + taken) % round ≡ (at + round - taken % round + taken) % round =
+    mod-add-mod (at + round - taken % round) round taken in
+    let within : (at + round - taken % round + taken) % round ≡ (at + round - taken % round + taken % round) % round =
+    sym (add-mod-mod (at + round - taken % round) taken round) in
+    later ∙ within
     ∙ ap (λ n. n % round) whole
     ∙ add-mod_right at round
 

@@ -107,13 +107,13 @@ member_shallow key no_members d n all is = absurd cc
 member_shallow key (member other that more) d n all is =
     let here : depth that ≤ n = omega arith in
     let behind : members_depth more ≤ n = omega arith in
-    by (slice_cmp nat_cmp key other) here behind is
+    by (slice_cmp nat_cmp key other) here (λ later. member_shallow key more d n behind later) is
   where
-    by : (o : Ordering) → depth that ≤ n → members_depth more ≤ n →
+    by : (o : Ordering) → depth that ≤ n → (get_member key more ≡ Some d → depth d ≤ n) →
         match_ordering o (get_member key more) (Some that) (get_member key more) ≡ Some d → depth d ≤ n
-    by Less here behind is = member_shallow key more d n behind is
-    by Equal here behind is = let same : that ≡ d = cc in subst (λ (x : Data). depth x ≤ n) same here
-    by Greater here behind is = member_shallow key more d n behind is
+    by Less here rest is = rest is
+    by Equal here rest is = let same : that ≡ d = cc in subst (λ (x : Data). depth x ≤ n) same here
+    by Greater here rest is = rest is
 
 -- the elements of an array
 elements_shallow : (key : List ℕ) (members : Members) (n : ℕ) → members_depth members ≤ suc n → items_depth (array_at key members) ≤ n

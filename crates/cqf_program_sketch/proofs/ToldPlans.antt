@@ -1,5 +1,5 @@
 -- Each text that `plan` writes is read as its plan.
-use Rattle.std.proofs.Common.{◌≡◌, ◌∙◌, ◌<◌, ◌≤◌, ◌++◌, ◌∷◌, [], ℕ, suc, zero, All, Bool, Contains, true, false, IfSome, List, Option, Some, None, Result, Ok, Err, ap, arith, length, map, nat_lt, refl, subst, subst₂, sym}
+use Rattle.std.proofs.Common.{◌≡◌, ◌∙◌, ◌<◌, ◌≤◌, ◌++◌, ◌∷◌, [], ℕ, suc, zero, All, Bool, Contains, find, true, false, IfSome, List, Option, Some, None, Result, Ok, Err, ap, arith, length, map, nat_lt, refl, subst, subst₂, sym}
 use Rattle.std.specs.Prelude.{if◌then◌else◌, option_map, slice_get}
 use Rattle.std.proofs.lemmas.Bool.{both_ways, lt-ltb}
 use Rattle.std.proofs.lemmas.List.Elements.{All-contains, Contains-append_right}
@@ -9,6 +9,7 @@ use Rattle.cqf_lists.proofs.Members.{contains_here}
 use Rattle.cqf_laws_history.specs.StateLaws.{SealsAreCounted}
 use Rattle.cqf_model.specs.declared.limits.Limits.{Limits}
 use Rattle.cqf_model.specs.Domain.{Domain}
+use Rattle.cqf_model.specs.History.{Recorded, held_in}
 use Rattle.cqf_topology.specs.DomainText.{IsDomain}
 use Rattle.cqf_traffic.specs.FlowsText.{FlowText, flows_of_text}
 use Rattle.cqf_sketch.specs.declared.domain.TalkerLink.{TalkerLink}
@@ -30,13 +31,19 @@ use Rattle.cqf_plants.specs.Networks.{IsFilledText, filled_network, table_of}
 use Rattle.cqf_plants.specs.Plants.{unpaced}
 use Rattle.cqf_output.specs.Stops.{or_line}
 use Rattle.cqf_program_plans.specs.Edges.{edge_line, edges_of_part, full_line, has_access, open_edges_of_part}
-use Rattle.cqf_program_plans.specs.Reserving.{flows_line}
+use Rattle.cqf_program_plans.specs.Compile.Output.{admitted_from}
+use Rattle.cqf_program_plans.specs.Latency.Input.{plan_from, plan_with}
+use Rattle.cqf_program_plans.specs.Latency.Output.{latency_from_talkers, latency_told}
+use Rattle.cqf_program_plans.specs.Latency.Text.{is_not_sure, latencies_from, latencies_of, not_sure_line, text_of_latency}
+use Rattle.cqf_program_plans.specs.Reserving.{first_lack, flows_line, lack_line, planned_octets}
+use Rattle.cqf_admission.specs.Asking.{asked_by}
+use Rattle.cqf_program_offers.specs.OffersOutput.{asked_in}
 use Rattle.cqf_program_scenario.specs.Networks.{domain_of}
 use Rattle.cqf_program_placing.specs.Placing.{ArePlacedFrom}
 use Rattle.cqf_program_placing.specs.Settled.{SettledStream, open_domain, settled_behind, settled_of}
 use Rattle.cqf_program_sketch.specs.Choosing.{IsPlanned}
 use Rattle.cqf_program_sketch.specs.Judging.{first_late, first_unplaced, flows_placed, latencies_placed}
-use Rattle.cqf_program_sketch.specs.PlanLaws.{IsSoundPlan}
+use Rattle.cqf_program_sketch.specs.PlanLaws.{IsSoundPlan, deadlines_of}
 use Rattle.cqf_program_sketch.specs.PlanOutput.{AreChoicesOf, IsPlanText, Sketched, sketch_input}
 use Rattle.cqf_program_sketch.specs.ReadPlans.{ComeAsPlaced, IsGoodPlan, IsReadPlan, IsShallow, ReadsAs, ToldPlansReadBack}
 use Rattle.cqf_program_sketch.specs.Steps.{AreTurned, IsTurned}
@@ -44,10 +51,11 @@ use Rattle.cqf_program_sketch.proofs.AllPlaced.{neither}
 use Rattle.cqf_program_sketch.proofs.EndsRead.{streams_end}
 use Rattle.cqf_program_sketch.proofs.Inputs.{AreEntered, IsInput, entered, input_parts}
 use Rattle.cqf_program_sketch.proofs.Ones.{AreOnes, IsOne, One, ones_by}
-use Rattle.cqf_program_sketch.proofs.ReadBack.{all_at_edge, all_come, all_good, all_kept, all_read, all_turned, at_edge, domain_found, edges_found, entrances_of_ones, flows_found, flows_of}
+use Rattle.cqf_program_sketch.proofs.ReadBack.{all_at_edge, all_come, all_good, all_kept, all_left, all_read, all_turned, at_edge, domain_found, edges_found, entrances_of_ones, flows_found, flows_of}
 use Rattle.cqf_program_sketch.proofs.ReadBack.{none_found_full, plain_edges, read_of, streams_of}
 use Rattle.cqf_program_sketch.proofs.ReadSketches.{read_is_sketch}
 use Rattle.cqf_program_sketch.proofs.Shallow.{network_shallow}
+use Rattle.cqf_program_sketch.proofs.Strict.{all_from_talkers, map_twice, none_unsure}
 use Rattle.cqf_program_sketch.proofs.SoundPlans.{told_plan_is_admitted}
 
 -- what is read of each is part of what is read of it with its talker
@@ -98,6 +106,23 @@ found_part network text found edge read flows at none plain =
             else and_then (or_line flows_line (flows_of_text text)) (λ flows. Ok (at_edges flows))) ≡ Ok edge
         by true h = by_access
         by false h = without (no_links network.talkers h)
+
+-- ---- its latencies
+
+-- a good plan is strictly in time from its talkers
+strict_told : (network : SketchDomain) (edge : EdgeFlowsText) (entries : List Recorded) →
+    first_lack (domain_of network).cycle_time 1 (map planned_octets edge.flows) ≡ None → admitted_from (domain_of network) [] 1 (map asked_in edge.flows) ≡ Ok entries →
+    find is_not_sure (latencies_from (domain_of network) (held_in (domain_of network) entries 0) edge.deadlines edge.times) ≡ None →
+    and_then (plan_from network edge) (latency_from_talkers true)
+    ≡ Ok (text_of_latency (latencies_from (domain_of network) (held_in (domain_of network) entries 0) edge.deadlines edge.times))
+strict_told network edge entries none_lacks admitted sure =
+    let requests = map (λ (flow : FlowText). flow.0.0) edge.flows in
+    let latencies = latencies_from (domain_of network) (held_in (domain_of network) entries 0) edge.deadlines edge.times in
+    let asked = map_twice asked_by (λ (flow : FlowText). flow.0.0) edge.flows in
+    let there : admitted_from (domain_of network) [] 1 (map asked_by requests) ≡ Ok entries = ap (admitted_from (domain_of network) [] 1) asked ∙ admitted in
+    ap (λ o. and_then (and_then (refuse o lack_line (Ok requests)) (λ r. Ok (plan_with network edge r))) (latency_from_talkers true)) none_lacks
+    ∙ ap (λ r. and_then r (λ e. latency_told true (latencies_from (domain_of network) (held_in (domain_of network) e 0) edge.deadlines edge.times))) there
+    ∙ ap (λ o. refuse (option_map not_sure_line o) (λ (first : List ℕ). first) (Ok (text_of_latency latencies))) sure
 
 -- ---- the plan
 
@@ -250,18 +275,42 @@ module _ (read_back : FilledNetworksReadBack) (counted : SealsAreCounted) (limit
       ap (λ (fs : List NetworkFlowText). at_edges (map (λ (one : NetworkFlowText). one.flow) fs)) found_is
       ∙ plain_edges network is_sketch.has_talkers cycle_time good bounds ones nothing all.each none_full)
 
+  -- by the domain that is read
+  same_read : domain_of (with_cycle cycle_time network) ≡ plan.domain
+  same_read = domain_found network cycle_time planned.open_to ∙ sym same_domain
+
+  good_read : IsGoodPlan plan.domain edge.flows
+  good_read = subst (λ (x : Domain). IsGoodPlan x edge.flows) (sym same_domain) good_plan
+
+  sure : find is_not_sure (latencies_from plan.domain (held_in plan.domain good_read.entries 0) edge.deadlines edge.times) ≡ None
+  sure =
+      all_from_talkers plan.domain (held_in plan.domain good_read.entries 0) edge.deadlines (deadlines_of edge.flows) edge.times
+      (all_left network is_sketch.has_talkers cycle_time good bounds ones some_cycle all.each turned same_bounds)
+      (none_unsure (latencies_of plan.domain (held_in plan.domain good_read.entries 0) (deadlines_of edge.flows)) good_read.in_time)
+
+  strict : and_then (plan_from (with_cycle cycle_time network) edge) (latency_from_talkers true)
+      ≡ Ok (text_of_latency (latencies_from plan.domain (held_in plan.domain good_read.entries 0) edge.deadlines edge.times))
+  strict =
+      let back = sym same_read in
+      strict_told (with_cycle cycle_time network) edge good_read.entries
+      (subst (λ (x : Domain). first_lack x.cycle_time 1 (map planned_octets edge.flows) ≡ None) back good_read.none_lacks)
+      (subst (λ (x : Domain). admitted_from x [] 1 (map asked_in edge.flows) ≡ Ok good_read.entries) back good_read.admitted)
+      (subst (λ (x : Domain). find is_not_sure (latencies_from x (held_in x good_read.entries 0) edge.deadlines edge.times) ≡ None) back sure)
+      ∙ ap (λ (x : Domain). Ok (text_of_latency (latencies_from x (held_in x good_read.entries 0) edge.deadlines edge.times))) same_read
+
   told_plan_reads_back : IsReadPlan limits sketched.streams plan.domain plan.flows text
   told_plan_reads_back = record {
     network = with_cycle cycle_time network;
     found = each_chosen chosen_network_flow plan.filled parts.wanted;
     reads = reads_as limits network parts.wanted cycle_time plan.filled text is_read;
-    domain_is = domain_found network cycle_time planned.open_to ∙ sym same_domain;
+    domain_is = same_read;
     edge = edge;
     at_edges = at_edges_is;
     none_full = none_full;
     part_is = part_is;
     come = subst₂ (λ (x : Domain) (fs : List FlowText). ComeAsPlaced x.cycle_time sketched.streams fs edge.flows) (sym same_domain) (sym same_flows) come;
-    good = subst (λ (x : Domain). IsGoodPlan x edge.flows) (sym same_domain) good_plan;
+    good = good_read;
+    strict = strict;
   }
 
 pub told_plans_read_back : FilledNetworksReadBack → SealsAreCounted → ToldPlansReadBack

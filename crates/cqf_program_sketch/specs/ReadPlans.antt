@@ -2,6 +2,7 @@
 use Rattle.std.specs.Prelude.{ℕ, ◌≡◌, ◌+◌, ◌*◌, ◌%◌, ◌≤◌, List, [], All, Contains, IfSome, Option, Some, None, Ok, false, length, map, slice_get, true}
 use Rattle.std.specs.Option.{ForSome}
 use Rattle.toml.specs.Data.{Members, members_depth}
+use Rattle.cqf_lists.specs.Results.{and_then}
 use Rattle.cqf_model.specs.declared.limits.Limits.{Limits}
 use Rattle.cqf_laws_timing.specs.Traffic.{offers_named}
 use Rattle.cqf_model.specs.declared.frames.Offer.{Offer}
@@ -24,7 +25,9 @@ use Rattle.cqf_program_scenario.specs.Networks.{domain_of}
 use Rattle.cqf_program_plans.specs.declared.latency.latencies.Latency.{Latency}
 use Rattle.cqf_program_plans.specs.Compile.Output.{admitted_from}
 use Rattle.cqf_program_plans.specs.Edges.{open_edges_of_part}
-use Rattle.cqf_program_plans.specs.Latency.Text.{is_not_sure, latencies_of}
+use Rattle.cqf_program_plans.specs.Latency.Input.{plan_from}
+use Rattle.cqf_program_plans.specs.Latency.Output.{latency_from_talkers}
+use Rattle.cqf_program_plans.specs.Latency.Text.{is_not_sure, latencies_from, latencies_of, text_of_latency}
 use Rattle.cqf_program_plans.specs.Reserving.{first_lack, planned_octets}
 use Rattle.cqf_program_offers.specs.OffersOutput.{asked_in, sender_of}
 use Rattle.cqf_program_placing.specs.Placing.{is_chosen_on}
@@ -85,7 +88,7 @@ pub record IsGoodPlan (d : Domain) (flows : List FlowText) : Type 0 where
   pub in_time : All (λ (latency : Latency). is_not_sure latency ≡ false) (latencies_of d (held_in d entries 0) (deadlines_of flows))
 
 -- every command reads a text as a plan: as the network with this domain, and as streams that come to their edge bridges as they were placed. No
--- access link is full, and at their edge bridges the streams are a good plan
+-- access link is full, and at their edge bridges the streams are a good plan. `latency --strict` says so, from the hand-over at the talkers
 pub record IsReadPlan (limits : Limits) (streams : List SettledStream) (d : Domain) (flows : List FlowText) (text : List ℕ) : Type 0 where
   pub network : SketchDomain
   pub found : List NetworkFlowText
@@ -97,6 +100,8 @@ pub record IsReadPlan (limits : Limits) (streams : List SettledStream) (d : Doma
   pub part_is : open_edges_of_part network text ≡ Ok edge
   pub come : ComeAsPlaced d.cycle_time streams flows edge.flows
   pub good : IsGoodPlan d edge.flows
+  pub strict : and_then (plan_from network edge) (latency_from_talkers true)
+      ≡ Ok (text_of_latency (latencies_from d (held_in d good.entries 0) edge.deadlines edge.times))
 
 -- each text that `plan` writes is read so, if the tables of its file aren't nested deeper than the reader allows. Candidates for the cycle time
 -- that are given have to be in their range, and at least one and at most 1,000
