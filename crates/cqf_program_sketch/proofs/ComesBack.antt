@@ -1,4 +1,4 @@
--- A stream of a plan that is read comes to its edge bridge as it was placed.
+-- A stream of a plan that is read arrives at its edge bridge as it was placed.
 use Rattle.std.proofs.Common.{◌≡◌, ◌∙◌, ◌+◌, ◌-◌, ◌*◌, ◌%◌, ◌<◌, ◌≤◌, ℕ, Bool, true, false, List, [], ◌∷◌, Option, Some, None, IfSome, IsSome, Result, Ok, Err, ap, arith, length, map, refl, subst, sym}
 use Rattle.std.proofs.Math.Nat.{mul-le-mul}
 use Rattle.std.specs.Prelude.{if◌then◌else◌, nat_lt, option_map, unwrap_or}
@@ -77,7 +77,7 @@ module _ (network : SketchDomain) (cycle_time : ℕ) where
   agrees_same paths (AtBridge b) = refl
   agrees_same paths (ByAccess place) = refl
 
--- ---- streams behind their edge bridges
+-- ---- streams from their edge bridges on
 
 module _ (network : SketchDomain) where
   behind_name : (e : Option Entrance) (p : Option Passage) (s : StreamText) → (stream_behind network e p s).name ≡ s.name

@@ -1,5 +1,5 @@
 -- A stream that goes between its ends has both of them.
-use Rattle.std.proofs.Common.{◌≡◌, ℕ, All, Bool, true, false, List, Option, Some, None, Result, Ok, Err, ok_or, refl, subst}
+use Rattle.std.proofs.Common.{◌≡◌, ℕ, [], All, Bool, true, false, List, Option, Some, None, Result, Ok, Err, ok_or, refl, subst}
 use Rattle.std.specs.Prelude.{if◌then◌else◌}
 use Rattle.std.specs.Result.{result_map_both}
 use Rattle.toml.specs.Data.{Data, Items, Members, as_array, as_str, as_table}
@@ -7,7 +7,8 @@ use Rattle.cqf_lists.specs.Results.{and_then}
 use Rattle.cqf_topology.specs.declared.keys.Key.TheVariants as key
 use Rattle.cqf_topology.specs.declared.toml_faults.TomlFault.{TomlFault}
 use Rattle.cqf_topology.specs.declared.toml_faults.TomlFault.TheVariants as toml_fault
-use Rattle.cqf_topology.specs.Fields.{are_tables, read_at}
+use Rattle.cqf_topology.specs.Fields.{are_tables, read_at, whole_document}
+use Rattle.cqf_topology.specs.StreamsText.{streams_keys}
 use Rattle.cqf_topology.specs.PlannedText.{deadline_from}
 use Rattle.cqf_topology.proofs.Refusals.{and_then-Ok, each_from-All, refuse-Ok}
 use Rattle.cqf_traffic.specs.declared.faults.FlowsFault.{FlowsFault}
@@ -79,8 +80,8 @@ element_ends : (d : Data) (stream : StreamText) → and_then (ok_or (as_table d)
 element_ends d =
     after HasEnds (ok_or (as_table d) (flows_fault.Streams (toml_fault.BadValue key.Streams))) stream_from (λ table _ stream h. stream_ends table stream h)
 
-AllHaveEnds : List StreamText → Type 0
-AllHaveEnds = λ streams. All HasEnds streams
+abbrev AllHaveEnds : List StreamText → Type 0
+AllHaveEnds streams = All HasEnds streams
 
 array_ends : (items : Items) (streams : List StreamText) → streams_of_array items ≡ Ok streams → AllHaveEnds streams
 array_ends items streams h = by (are_tables items) h
@@ -95,5 +96,6 @@ document_ends table =
 
 -- so do those of a text
 pub streams_end : (text : List ℕ) (streams : List StreamText) → sketch_streams_of_text text ≡ Ok streams → All HasEnds streams
-streams_end text =
-    after AllHaveEnds _ _ (λ table _ streams h. document_ends table streams (refuse-Ok (first_lack_of table) (λ fault. fault) (streams_in table) streams h).1)
+streams_end text streams e =
+    let (table, whole, read) = and_then-Ok (or_streams (whole_document streams_keys key.Streams [] text)) _ streams e in
+    document_ends table streams (refuse-Ok (first_lack_of table) (λ (fault : FlowsFault). fault) (streams_in table) streams read).1

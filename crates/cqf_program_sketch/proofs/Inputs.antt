@@ -37,7 +37,7 @@ said-Ok line (Err fault) x e = absurd cc
 ok_again : {A E F : Type 0} (x y : A) → ◌≡◌ {A = Result A E} (Ok x) (Ok y) → ◌≡◌ {A = Result A F} (Ok x) (Ok y)
 ok_again {A} {E} {F} x y e = let same : x ≡ y = cc in ap (λ (z : A). Ok z) same
 
--- the steps of reading, each of which succeeded
+-- the steps of reading, which all succeeded
 pub record IsInput (limits : Limits) (given : Option (List ℕ)) (sketched : Sketched) : Type 0 where
   pub wanted : List StreamText
   pub edge : EdgeStreamsText

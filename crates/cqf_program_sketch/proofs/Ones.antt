@@ -153,6 +153,7 @@ module _ (network : SketchDomain) (bounds : List AccessBound) (od d : Domain) wh
         taken = taken 0 s flow refl refl;
         choice = chosen 0 s flow (option_map times_on (passage o)) f refl refl refl refl;
       } in
+      let many_rest : length fs ≡ length (flows_placed d.cycle_time ss more) = cc in
       more_ones o wanted es ss (flows_placed d.cycle_time ss more) fs is
       (ones_by (before ++ next.name ∷ []) wanted es ss more fs places.0 end (All-tail HasEnds stream wanted ends) (first.others_are ∙ ap Ok (sym es_are))
-      (second.others_are ∙ ap Ok (sym ss_are)) places.2 none cc (λ k. taken (suc k)) (λ k. chosen (suc k)))
+      (second.others_are ∙ ap Ok (sym ss_are)) places.2 none many_rest (λ k. taken (suc k)) (λ k. chosen (suc k)))

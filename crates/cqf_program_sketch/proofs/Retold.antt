@@ -1,4 +1,4 @@
--- A stream whose frames are handed to an access link, as it is read in the text of a plan: it comes to its edge bridge as it was placed.
+-- A stream whose frames are handed to an access link, as it is read in the text of a plan: it arrives at its edge bridge as it was placed.
 use Rattle.std.proofs.Common.{◌≡◌, ◌∙◌, ◌+◌, ◌-◌, ◌*◌, ◌%◌, ◌<◌, ◌≤◌, ℕ, List, Option, Some, None, ap, arith, refl, subst, sym}
 use Rattle.std.specs.Prelude.{min, option_map, slice_get, unwrap_or}
 use Rattle.std.specs.Option.{option_and_then, option_map_or}

@@ -4,7 +4,7 @@ use Rattle.std.proofs.Math.Nat.{add-mod-mod, add-mod_right, div-mul-le_self, div
 use Rattle.std.proofs.lemmas.Bool.{cases_lt}
 use Rattle.cqf_laws_timing.specs.Traffic.{Traffic, needed}
 
--- an instant that is as long before another one, by rounds, as it takes from there, comes to the same place of a round
+-- from an instant that is before another one by as long as it takes from there, and some rounds, it takes until the same place of a round
 pub comes_round : (at taken round : ℕ) → 0 < round → ((at + round - taken % round) % round + taken) % round ≡ at % round
 comes_round at taken round some =
     let below : taken % round < round = mod-lt taken some in

@@ -50,8 +50,8 @@ pub record ReadsAs (limits : Limits) (text : List ℕ) (network : SketchDomain) 
   pub paced_are : paced_of_text text ≡ Ok (map (λ (one : NetworkFlowText). one.flow.0.0) found)
   pub requests_are : streams_of_text text ≡ Ok (map (λ (one : NetworkFlowText). unpaced one.flow.0.0) found)
 
--- traffic of a stream whose cycles were chosen, as it is read and comes to the edge bridge, is the traffic that was placed: its grid begins at the
--- same place of a round of its cycles, and its jitter is no more
+-- the traffic at the edge bridge of a stream that is read and whose cycles were chosen is the traffic that was placed, but its grid begins at the
+-- same place of any round of its cycles, and its jitter may be less
 pub record ComesInRound (round : ℕ) (placed there : TrafficText) : Type 0 where
   pub interval : there.interval ≡ placed.interval
   pub frames : there.frames ≡ placed.frames
@@ -64,7 +64,7 @@ ComesIn round None there = there ≡ None
 ComesIn round (Some placed) None = ⊥
 ComesIn round (Some placed) (Some there) = ComesInRound round placed there
 
--- a stream that is read comes to its edge bridge as it was placed: with the same name, octets, cycles and paths, and with the same rest of its
+-- a stream that is read arrives at its edge bridge as it was placed: with the same name, octets, cycles and paths, and with the same rest of its
 -- deadline. If its cycles weren't chosen, its traffic is the same too
 pub record ComesAsPlaced (cycle_time : ℕ) (stream : SettledStream) (flow there : FlowText) : Type 0 where
   pub request : there.0.0 ≡ flow.0.0
@@ -87,7 +87,7 @@ pub record IsGoodPlan (d : Domain) (flows : List FlowText) : Type 0 where
   pub none_lacks : first_lack d.cycle_time 1 (map planned_octets flows) ≡ None
   pub in_time : All (λ (latency : Latency). is_not_sure latency ≡ false) (latencies_of d (held_in d entries 0) (deadlines_of flows))
 
--- every command reads a text as a plan: as the network with this domain, and as streams that come to their edge bridges as they were placed. No
+-- every command reads a text as a plan: as the network with this domain, and as streams that arrive at their edge bridges as they were placed. No
 -- access link is full, and at their edge bridges the streams are a good plan. `latency --strict` says so, from the hand-over at the talkers
 pub record IsReadPlan (limits : Limits) (streams : List SettledStream) (d : Domain) (flows : List FlowText) (text : List ℕ) : Type 0 where
   pub network : SketchDomain
@@ -111,7 +111,7 @@ ToldPlansReadBack =
     sketch_input limits given input ≡ Ok sketched → IsShallow sketched.domain_text → IsShallow sketched.streams_text → (plan : IsPlanText sketched text) →
     IsReadPlan limits sketched.streams plan.domain plan.flows text
 
--- the offers of a plan's stream whose phase was chosen, as it comes to its edge bridge, are in the cycles in which the stream reserves, for every
+-- the offers at its edge bridge of a plan's stream whose phase was chosen are in the cycles in which the stream reserves, for every
 -- seed and without one. This holds by the talker's clock, and by the edge bridge's, which may differ from it by as much as the domain's `sync`
 abbrev pub ChosenStreamsComeInTurns : Type 0
 ChosenStreamsComeInTurns =
