@@ -11,8 +11,7 @@ use Rattle.cqf_traffic.specs.FlowsText.{FlowText}
 use Rattle.cqf_traffic.specs.TrafficText.{TrafficText, promise_of}
 use Rattle.cqf_program_plans.specs.Compile.Output.{admitted_from}
 use Rattle.cqf_program_plans.specs.declared.latency.latencies.Latency.{Latency}
-use Rattle.cqf_program_plans.specs.Latency.Output.{latency_of_plan}
-use Rattle.cqf_program_plans.specs.Latency.Text.{is_not_sure, latencies_of, latency_text}
+use Rattle.cqf_program_plans.specs.Latency.Text.{is_not_sure, latencies_of}
 use Rattle.cqf_program_plans.specs.Reserving.{first_lack, planned_octets}
 use Rattle.cqf_program_offers.specs.OffersOutput.{asked_in}
 use Rattle.cqf_program_placing.specs.Placing.{PlacedStreams, is_chosen_on, turns_on}
@@ -54,7 +53,7 @@ abbrev pub ReservesEnough : ℕ → FlowText → Type 0
 ReservesEnough cycle_time flow = ForSome flow.1 (λ (t : TrafficText). needed cycle_time (promise_of t) ≤ flow.0.0.octets)
 
 -- a plan of all of these streams, in their order. Each is admitted before cycle 0, and reserves what its talker needs in a cycle, so none
--- is refused for less. No frame of theirs may miss its deadline, and `latency --strict` says so
+-- is refused for less. No frame of theirs may miss what is left of its deadline at its edge bridge
 pub record IsSoundPlan (streams : List SettledStream) (d : Domain) (flows : List FlowText) : Type 0 where
   pub taken_over : AreTakenOver d.cycle_time d.sync streams flows
   pub entries : List Recorded
@@ -62,7 +61,6 @@ pub record IsSoundPlan (streams : List SettledStream) (d : Domain) (flows : List
   pub enough : All (ReservesEnough d.cycle_time) flows
   pub none_lacks : first_lack d.cycle_time 1 (map planned_octets flows) ≡ None
   pub in_time : All (λ (latency : Latency). is_not_sure latency ≡ false) (latencies_of d (held_in d entries 0) (deadlines_of flows))
-  pub strict : latency_of_plan true d (map asked_in flows) (deadlines_of flows) ≡ Ok (latency_text d (held_in d entries 0) (deadlines_of flows))
 
 -- each plan of a network file is sound
 abbrev pub ToldPlanIsAdmitted : Type 0

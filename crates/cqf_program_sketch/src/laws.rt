@@ -11,7 +11,7 @@ use cqf_traffic::offers_come_in_turns;
 /// A plan that is written has all streams of its network file, in their order, each with its name, its deadline, the cycles in which it is
 /// to be offered and what its talker promises. It has all of their traffic, but a stream whose phase is chosen begins in the first of its
 /// cycles. All streams are admitted before cycle 0, each reserves what its talker needs in a cycle, and none may have a frame that misses
-/// its deadline: `latency --strict` succeeds.
+/// what is left of its deadline at its edge bridge.
 pub fn told_plan_is_admitted()
     ensures { ToldPlanIsAdmitted }
 {
@@ -39,7 +39,7 @@ pub fn sketches_are_placed_where_there_is_room()
 /// Every command reads the text of a written plan as the network with the chosen cycle time, and as streams that come to their edge bridges as
 /// they were placed: with the same octets, cycles and paths, and with the same rest of their deadlines. The grid of a stream whose cycles were
 /// chosen begins at the same place of a round of these cycles, and its jitter is no more. So all streams that are read are admitted before
-/// cycle 0, each reserves what its talker needs in a cycle, and none may have a frame that misses its deadline.
+/// cycle 0, each reserves what its talker needs in a cycle, and none may have a frame that misses its deadline: `latency --strict` succeeds.
 pub fn told_plans_read_back()
     ensures { ToldPlansReadBack }
 {
