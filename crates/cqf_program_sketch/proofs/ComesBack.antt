@@ -1,14 +1,13 @@
 -- A stream of a plan that is read arrives at its edge bridge as it was placed.
-use Rattle.std.proofs.Common.{◌≡◌, ◌∙◌, ◌+◌, ◌-◌, ◌*◌, ◌%◌, ◌<◌, ◌≤◌, ℕ, Bool, true, false, List, [], ◌∷◌, Option, Some, None, IfSome, IsSome, Result, Ok, Err, ap, arith, length, map, refl, subst, sym}
+use Rattle.std.proofs.Common.{◌≡◌, ◌∙◌, ◌+◌, ◌-◌, ◌*◌, ◌%◌, ◌<◌, ◌≤◌, ℕ, Bool, true, false, List, [], Option, Some, None, IfSome, IsSome, Result, Ok, Err, ap, arith, length, refl, subst, sym}
 use Rattle.std.proofs.Math.Nat.{mul-le-mul}
 use Rattle.std.specs.Prelude.{if◌then◌else◌, nat_lt, option_map, unwrap_or}
-use Rattle.std.specs.Option.{option_and_then, option_map_or}
+use Rattle.std.specs.Option.{option_map_or}
 use Rattle.std.specs.Result.{result_map_both}
 use Rattle.std.proofs.lemmas.Bool.{ltb-true}
 use Rattle.std.proofs.lemmas.Option.{same_Some}
 use Rattle.cqf_lists.specs.Results.{and_then}
 use Rattle.cqf_units.specs.Name.{is_name}
-use Rattle.cqf_model.specs.Domain.{Domain, node_named}
 use Rattle.cqf_model.specs.Limits.{most_every, most_reserved}
 use Rattle.cqf_laws_timing.specs.Traffic.{needed}
 use Rattle.cqf_topology.specs.DomainText.{IsDomain, place_of}
@@ -33,19 +32,18 @@ use Rattle.cqf_edge.specs.declared.uses.Handed.{Handed}
 use Rattle.cqf_edge.specs.Edge.{closer_word, grid_word, left_behind, steps_on, times_on, word_from, word_on}
 use Rattle.cqf_edge.specs.EdgeFlows.{flow_behind, handed_by, handed_of, handed_with, passage_of}
 use Rattle.cqf_edge.specs.EdgeStreams.{deadline_behind, entrance_with, handed_at, stream_behind, told_now, traffic_behind, way_behind, word_at}
-use Rattle.cqf_edge.specs.Entrances.{IsEntrance, agrees_with, at_node, by_station, by_that_to, entrance_of, edge_name, listeners_agree}
+use Rattle.cqf_edge.specs.Entrances.{IsEntrance, agrees_with, at_node, by_station, by_that_to, entrance_of, listeners_agree}
 use Rattle.cqf_edge.specs.Uses.{handed_over}
-use Rattle.cqf_plants.specs.NetworkLaws.{IsChoice, beginning_at, chosen_flow, chosen_network_flow, chosen_pacing, chosen_stream, chosen_traffic, chosen_way, every_of, paths_of, phase_of}
+use Rattle.cqf_plants.specs.NetworkLaws.{IsChoice, chosen_flow, chosen_network_flow, chosen_pacing, chosen_stream, chosen_traffic, chosen_way, every_of, paths_of, phase_of}
 use Rattle.cqf_plants.specs.NetworkLaws.{with_cycle}
-use Rattle.cqf_program_placing.specs.declared.faults.PlanFault.{PlanFault}
 use Rattle.cqf_program_placing.specs.declared.faults.PlanFault.TheVariants as plan_fault
-use Rattle.cqf_program_placing.specs.Placing.{is_chosen_on, reserved_by, reserved_on, turns_on}
-use Rattle.cqf_program_placing.specs.Settled.{SettledStream, entrance_at, open_domain, longest_of, settled_way, taken_on, talker_of_stream}
+use Rattle.cqf_program_placing.specs.Placing.{is_chosen_on, reserved_by, turns_on}
+use Rattle.cqf_program_placing.specs.Settled.{open_domain, longest_of, settled_way, taken_on, talker_of_stream}
 use Rattle.cqf_program_placing.specs.Settled.{deadline_behind as deadline_after}
 use Rattle.cqf_program_placing.specs.Turns.{MayBeFirst, every_in, is_in_step, turns_by}
 use Rattle.cqf_program_placing.proofs.PlaceLemmas.{reserved_few, reserved_there}
 use Rattle.cqf_program_placing.proofs.Stepping.{first_is_early}
-use Rattle.cqf_program_sketch.specs.PlanOutput.{offset_before, offset_told, taken_by}
+use Rattle.cqf_program_sketch.specs.PlanOutput.{offset_before, taken_by}
 use Rattle.cqf_program_sketch.specs.ReadPlans.{ComesAsPlaced, ComesIn}
 use Rattle.cqf_program_sketch.proofs.EndsRead.{EndsOf}
 use Rattle.cqf_program_sketch.proofs.Entered.{entered_by, entrance_inside, enters, no_link, paths_agree, paths_behind, paths_read}

@@ -1,7 +1,6 @@
 -- A stream that goes between its ends has both of them.
 use Rattle.std.proofs.Common.{◌≡◌, ℕ, [], All, Bool, true, false, List, Option, Some, None, Result, Ok, Err, ok_or, refl, subst}
 use Rattle.std.specs.Prelude.{if◌then◌else◌}
-use Rattle.std.specs.Result.{result_map_both}
 use Rattle.toml.specs.Data.{Data, Items, Members, as_array, as_str, as_table}
 use Rattle.cqf_lists.specs.Results.{and_then}
 use Rattle.cqf_topology.specs.declared.keys.Key.TheVariants as key

@@ -1,9 +1,8 @@
 -- A stream of a plan that is read enters where it entered when it was planned.
-use Rattle.std.proofs.Common.{◌≡◌, ◌∙◌, ◌+◌, ◌<◌, ◌==◌, ℕ, zero, suc, Bool, true, false, List, [], ◌∷◌, Option, Some, None, Result, Ok, Err, ap, arith, count_by, length, map, nat_lt, ok_or, position, refl, subst, sym}
+use Rattle.std.proofs.Common.{◌≡◌, ◌∙◌, ◌<◌, ℕ, zero, suc, Bool, true, false, List, [], ◌∷◌, Option, Some, None, Result, Ok, Err, ap, arith, count_by, length, nat_lt, ok_or, position, refl, subst, sym}
 use Rattle.std.specs.Prelude.{◌&&◌, find, if◌then◌else◌, is_none, is_some, not, option_map, slice_get}
 use Rattle.std.specs.List.{list_all, list_any}
 use Rattle.std.specs.Option.{option_and_then, option_map_or}
-use Rattle.std.specs.Result.{result_map_both}
 use Rattle.std.proofs.lemmas.Bool.{both_ways}
 use Rattle.std.proofs.lemmas.List.Elements.{All-contains}
 use Rattle.std.proofs.lemmas.List.Quantifiers.{position-Some}
@@ -11,8 +10,6 @@ use Rattle.std.proofs.lemmas.Option.{same_Some}
 use Rattle.cqf_lists.specs.Results.{and_then, refuse}
 use Rattle.cqf_lists.proofs.Any.{position_any}
 use Rattle.cqf_lists.proofs.Members.{contains_at, find_member, member_any}
-use Rattle.cqf_units.specs.Name.{is_name}
-use Rattle.cqf_model.specs.declared.topology.Node.{Node}
 use Rattle.cqf_model.specs.declared.topology.Node.TheVariants.{Bridge, Station}
 use Rattle.cqf_model.specs.Domain.{Domain, node_named, node_or}
 use Rattle.cqf_topology.specs.DomainText.{IsDomain, if_so, place_of}
@@ -28,17 +25,17 @@ use Rattle.cqf_edge.specs.declared.faults.EdgeFault.{EdgeFault}
 use Rattle.cqf_edge.specs.declared.faults.EdgeFault.TheVariants as fault
 use Rattle.cqf_edge.specs.declared.faults.TalkerFault.{TalkerFault}
 use Rattle.cqf_edge.specs.declared.faults.TalkerFault.TheVariants.{NoTalker, TwoAccessLinks, OtherEdge, OtherListeners}
-use Rattle.cqf_edge.specs.EdgeStreams.{entrance_by, entrance_of_stream, entrance_with, is_between, or_later, told_now, way_behind}
-use Rattle.cqf_edge.specs.Entrances.{IsEntrance, agrees_with, at_bridge, at_node, begins_with, by_station, by_that_to, by_the_only, edge_bridge, edge_name, end_at, entrance_of}
+use Rattle.cqf_edge.specs.EdgeStreams.{entrance_by, entrance_with, is_between, or_later, told_now, way_behind}
+use Rattle.cqf_edge.specs.Entrances.{IsEntrance, agrees_with, at_node, begins_with, by_station, by_that_to, by_the_only, edge_bridge, edge_name, end_at, entrance_of}
 use Rattle.cqf_edge.specs.Entrances.{joins, leaves_station, listeners_agree}
 use Rattle.cqf_plants.specs.NetworkLaws.{chosen_way, paths_of}
 use Rattle.cqf_program_placing.specs.declared.faults.PlanFault.{PlanFault}
 use Rattle.cqf_program_placing.specs.declared.faults.PlanFault.TheVariants as plan_fault
 use Rattle.cqf_program_placing.specs.Settled.{Between as BetweenNodes, Along as AlongBranches, SettledWay, entrance_at, entrance_behind, first_apart, open_domain, settled_way}
-use Rattle.cqf_program_placing.specs.Settled.{stations_by_name, talker_of_stream, way_along, way_from}
+use Rattle.cqf_program_placing.specs.Settled.{stations_by_name, talker_of_stream}
 use Rattle.cqf_admission.specs.Branches.{tree_refusal}
 use Rattle.cqf_program_placing.proofs.WayNames.{name_leads_back}
-use Rattle.cqf_program_sketch.proofs.EndsRead.{AreEnds, EndsOf}
+use Rattle.cqf_program_sketch.proofs.EndsRead.{EndsOf}
 use Rattle.cqf_program_sketch.proofs.PlacedWays.{ArePathsOf, AreWayNames, all_begin, all_end}
 
 -- ---- an entrance is in the network

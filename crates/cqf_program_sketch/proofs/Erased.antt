@@ -1,14 +1,12 @@
 -- How long frames wait for one another on access links doesn't depend on when their talkers' offers begin.
 use Rattle.std.proofs.Common.{◌≡◌, ◌∙◌, ◌+◌, ◌++◌, ◌==◌, ℕ, Bool, true, false, List, [], ◌∷◌, Option, Some, None, ap, if◌then◌else◌, is_none, map, refl, sym}
-use Rattle.std.specs.Prelude.{flat_map, option_map, slice_get}
-use Rattle.std.specs.Option.{option_and_then, option_map_or}
-use Rattle.cqf_laws_timing.specs.Traffic.{Traffic}
+use Rattle.std.specs.Prelude.{option_map}
+use Rattle.std.specs.Option.{option_map_or}
 use Rattle.cqf_traffic.specs.TrafficText.{TrafficText, promise_of}
 use Rattle.cqf_sketch.specs.declared.domain.TalkerLink.{TalkerLink}
 use Rattle.cqf_sketch.specs.SketchDomain.{SketchDomain}
-use Rattle.cqf_edge.specs.declared.uses.AccessBound.{AccessBound}
 use Rattle.cqf_edge.specs.declared.uses.Handed.{Handed}
-use Rattle.cqf_edge.specs.Uses.{bound_for, bound_of, bounds_from, bounds_of, handed_to, is_handed_to, larger, other_beside, promise_in, promises_in, unpromised}
+use Rattle.cqf_edge.specs.Uses.{bound_for, bound_of, bounds_from, bounds_of, handed_to, larger, other_beside, promises_in, unpromised}
 use Rattle.cqf_plants.specs.NetworkLaws.{beginning_at}
 
 -- what is handed over, apart from when it begins

@@ -1,18 +1,16 @@
 -- What is known of a network that was read to be planned.
-use Rattle.std.proofs.Common.{◌≡◌, ◌∙◌, ◌++◌, ℕ, suc, List, [], ◌∷◌, Option, Some, None, Result, Ok, Err, ap, length, map, refl, subst, sym}
+use Rattle.std.proofs.Common.{◌≡◌, ◌∙◌, ◌++◌, ℕ, suc, List, [], ◌∷◌, Option, None, Result, Ok, Err, ap, length, map, refl, subst, sym}
 use Rattle.std.specs.Prelude.{option_map}
 use Rattle.std.proofs.lemmas.List.{length-map}
-use Rattle.cqf_lists.specs.Results.{and_then, refuse}
+use Rattle.cqf_lists.specs.Results.{refuse}
 use Rattle.cqf_model.specs.declared.limits.Limits.{Limits}
 use Rattle.cqf_model.specs.Domain.{Domain}
 use Rattle.cqf_text.specs.Parts.{parts_of}
 use Rattle.cqf_topology.proofs.Refusals.{and_then-Ok, refuse-Ok}
-use Rattle.cqf_sketch.specs.SketchDomain.{SketchDomain, open_cycle, sketch_domain_of_text}
+use Rattle.cqf_sketch.specs.SketchDomain.{SketchDomain, sketch_domain_of_text}
 use Rattle.cqf_sketch.specs.StreamsText.{StreamText, sketch_streams_of_text}
-use Rattle.cqf_edge.specs.declared.edge.AccessTimes.{AccessTimes}
 use Rattle.cqf_edge.specs.declared.edge.Passage.{Passage}
 use Rattle.cqf_edge.specs.declared.entrances.Entrance.{Entrance}
-use Rattle.cqf_edge.specs.declared.uses.Handed.{Handed}
 use Rattle.cqf_edge.specs.Edge.{times_on}
 use Rattle.cqf_edge.specs.EdgeFlows.{passage_of}
 use Rattle.cqf_edge.specs.EdgeStreams.{EdgeStreamsText, edge_streams, entrance_of_stream, entrances_of, handed_at_each, streams_behind, streams_from}

@@ -1,9 +1,9 @@
 -- The streams of a plan one by one: each with where it enters, how it is settled, what was placed of it, and what is written of it.
-use Rattle.std.proofs.Common.{◌≡◌, ◌∙◌, ◌++◌, ℕ, zero, suc, All, List, [], ◌∷◌, Option, Some, None, Result, Ok, Err, ap, length, map, refl, subst, sym, true}
+use Rattle.std.proofs.Common.{◌≡◌, ◌∙◌, ◌++◌, ℕ, suc, All, List, [], ◌∷◌, Option, Some, None, Ok, ap, length, map, refl, sym}
 use Rattle.std.specs.Prelude.{option_map, slice_get}
 use Rattle.std.proofs.lemmas.List.Elements.{All-cons, All-nil, All-head, All-tail}
 use Rattle.cqf_model.specs.Domain.{Domain}
-use Rattle.cqf_model.specs.History.{Asked, Recorded}
+use Rattle.cqf_model.specs.History.{Recorded}
 use Rattle.cqf_traffic.specs.FlowsText.{FlowText}
 use Rattle.cqf_sketch.specs.SketchDomain.{SketchDomain}
 use Rattle.cqf_sketch.specs.StreamsText.{StreamText}

@@ -1,12 +1,10 @@
 -- The paths of a stream that is placed begin where it enters, and end at its listeners.
-use Rattle.std.proofs.Common.{◌≡◌, ◌∙◌, ◌++◌, ◌<◌, ◌&&◌, ◌==◌, ℕ, zero, suc, Bool, true, false, List, [], ◌∷◌, Option, Some, None, Result, Ok, Err, ap, get_or, length, map, ok_or, position, refl, subst, sym}
-use Rattle.std.specs.Prelude.{find, not, option_map, slice_get}
+use Rattle.std.proofs.Common.{◌≡◌, ◌∙◌, ℕ, suc, true, List, [], ◌∷◌, Option, Some, None, Result, Ok, Err, ap, get_or, length, map, refl, subst, sym}
+use Rattle.std.specs.Prelude.{slice_get}
 use Rattle.std.specs.List.{list_all}
-use Rattle.std.specs.Option.{option_and_then, option_map_or}
 use Rattle.std.proofs.lemmas.Bool.{and_from}
 use Rattle.std.proofs.lemmas.List.Quantifiers.{position-Some}
-use Rattle.std.proofs.lemmas.Option.{get_or_from_slice_get, same_Some}
-use Rattle.cqf_lists.specs.Results.{and_then, refuse}
+use Rattle.std.proofs.lemmas.Option.{same_Some}
 use Rattle.cqf_model.specs.declared.topology.Node.{Node}
 use Rattle.cqf_model.specs.declared.topology.Node.TheVariants.{Bridge, Station}
 use Rattle.cqf_model.specs.declared.topology.Row.{Row}
@@ -16,18 +14,17 @@ use Rattle.cqf_model.proofs.Texts.{is_text_itself, is_text_same}
 use Rattle.cqf_admission.specs.Asking.{asked_with}
 use Rattle.cqf_topology.specs.DomainText.{IsDomain, place_of}
 use Rattle.cqf_topology.specs.NodeNames.{name_of_bridge, name_of_node}
-use Rattle.cqf_topology.proofs.Refusals.{and_then-Ok, ok_or-Ok, refuse-Ok}
 use Rattle.cqf_sketch.specs.Steps.{led_along}
 use Rattle.cqf_sketch.specs.Ways.{led_to}
 use Rattle.cqf_units.specs.Timing.{cost_of}
 use Rattle.cqf_edge.specs.Entrances.{begins_with, end_at, ends_with}
 use Rattle.cqf_program_plans.specs.EndNames.{name_of_end}
 use Rattle.cqf_program_placing.specs.declared.faults.PlanFault.{PlanFault}
-use Rattle.cqf_program_placing.specs.Placing.{ArePlacedFrom, IsAnswered, IsPlacedBy, IsPlacing, IsRouted, PlacedOr, Placed, Unplaced, names_along, reserved_on, turns_on}
+use Rattle.cqf_program_placing.specs.Placing.{IsAnswered, IsPlacedBy, IsRouted, Placed, names_along, turns_on}
 use Rattle.cqf_program_placing.specs.Turns.{every_in}
 use Rattle.cqf_program_placing.specs.Settled.{Along, Between, SettledStream, SettledWay, station_by_name, stations_by_name}
 use Rattle.cqf_program_placing.proofs.SettledLemmas.{and_first-Ok, station_named_by}
-use Rattle.cqf_program_placing.proofs.WayNames.{end_name, first_step, name_leads_back}
+use Rattle.cqf_program_placing.proofs.WayNames.{end_name, first_step}
 use Rattle.cqf_program_sketch.proofs.AllPlaced.{answered_placed, never_placed}
 
 -- the names along ways from a bridge to stations, one for each

@@ -1,16 +1,14 @@
 -- The text of a plan is read as the plan.
-use Rattle.std.proofs.Common.{◌≡◌, ◌∙◌, ◌+◌, ◌-◌, ◌*◌, ◌<◌, ◌≤◌, ℕ, zero, suc, All, Bool, true, false, List, [], ◌∷◌, Option, Some, None, Result, Ok, Err, IfSome, ap, arith, length, map, nat_lt, refl, subst, subst₂, sym}
-use Rattle.std.specs.Prelude.{cond, find, if◌then◌else◌, option_map, slice_get, unwrap_or}
+use Rattle.std.proofs.Common.{◌≡◌, ◌∙◌, ◌-◌, ◌*◌, ◌<◌, ◌≤◌, ℕ, zero, suc, All, Bool, true, false, List, [], ◌∷◌, Option, Some, None, Ok, ap, arith, map, nat_lt, refl, subst, subst₂, sym}
+use Rattle.std.specs.Prelude.{cond, option_map, slice_get, unwrap_or}
 use Rattle.std.specs.Option.{ForSome}
 use Rattle.std.proofs.Math.Nat.{mul-le-mul}
 use Rattle.std.proofs.lemmas.Bool.{lt-ltb}
 use Rattle.std.proofs.lemmas.List.{length-map}
 use Rattle.std.proofs.lemmas.List.Elements.{All-cons, All-head, All-nil, All-tail}
 use Rattle.std.proofs.lemmas.Option.{same_Some}
-use Rattle.cqf_lists.specs.Results.{and_then, refuse}
-use Rattle.cqf_model.specs.Domain.{Domain}
-use Rattle.cqf_model.specs.History.{Asked, held_in}
-use Rattle.cqf_model.specs.Limits.{most_every}
+use Rattle.cqf_lists.specs.Results.{and_then}
+use Rattle.cqf_model.specs.History.{held_in}
 use Rattle.cqf_topology.specs.Fields.{and_first}
 use Rattle.cqf_topology.specs.DomainText.{IsDomain}
 use Rattle.cqf_laws_timing.specs.Traffic.{needed}
@@ -24,7 +22,7 @@ use Rattle.cqf_edge.specs.declared.entrances.Entrance.{Entrance}
 use Rattle.cqf_edge.specs.declared.uses.AccessBound.{AccessBound}
 use Rattle.cqf_edge.specs.declared.uses.Handed.{Handed}
 use Rattle.cqf_edge.specs.Edge.{left_behind, times_on}
-use Rattle.cqf_edge.specs.EdgeFlows.{EdgeFlowsText, at_edges, edge_flows, edges_with, flow_behind, flows_behind, handed_of, handed_of_all, passage_of}
+use Rattle.cqf_edge.specs.EdgeFlows.{EdgeFlowsText, at_edges, edge_flows, edges_with, flow_behind, flows_behind, handed_of_all, passage_of}
 use Rattle.cqf_edge.specs.EdgeStreams.{handed_at, handed_at_each}
 use Rattle.cqf_edge.specs.Uses.{bounds_of, full_station}
 use Rattle.cqf_plants.specs.declared.filling.FilledStream.{FilledStream}

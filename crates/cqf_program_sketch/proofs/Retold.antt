@@ -1,19 +1,16 @@
 -- A stream whose frames are handed to an access link, as it is read in the text of a plan: it arrives at its edge bridge as it was placed.
-use Rattle.std.proofs.Common.{◌≡◌, ◌∙◌, ◌+◌, ◌-◌, ◌*◌, ◌%◌, ◌<◌, ◌≤◌, ℕ, List, Option, Some, None, ap, arith, refl, subst, sym}
-use Rattle.std.specs.Prelude.{min, option_map, slice_get, unwrap_or}
+use Rattle.std.proofs.Common.{◌≡◌, ◌+◌, ◌*◌, ◌<◌, ◌≤◌, ℕ, List, Option, Some, None, ap, arith, refl, sym}
+use Rattle.std.specs.Prelude.{min, option_map, slice_get}
 use Rattle.std.specs.Option.{option_and_then, option_map_or}
 use Rattle.cqf_traffic.specs.TrafficText.{TrafficText, promise_of}
 use Rattle.cqf_sketch.specs.declared.domain.TalkerLink.{TalkerLink}
 use Rattle.cqf_sketch.specs.SketchDomain.{SketchDomain}
-use Rattle.cqf_access.specs.Arriving.{longest_wait, way_of}
-use Rattle.cqf_edge.specs.declared.edge.AccessTimes.{AccessTimes}
+use Rattle.cqf_access.specs.Arriving.{longest_wait}
 use Rattle.cqf_edge.specs.declared.edge.Passage.{Passage}
-use Rattle.cqf_edge.specs.declared.entrances.Entrance.{Entrance}
-use Rattle.cqf_edge.specs.declared.entrances.Entrance.TheVariants.{AtBridge, ByAccess}
 use Rattle.cqf_edge.specs.declared.uses.AccessBound.{AccessBound}
 use Rattle.cqf_edge.specs.declared.uses.Handed.{Handed}
-use Rattle.cqf_edge.specs.Edge.{closer_word, grid_word, left_behind, link_by, longest_way, shortest_way, steps_on, times_on, word_from, word_on}
-use Rattle.cqf_edge.specs.EdgeFlows.{handed_by, passage_of}
+use Rattle.cqf_edge.specs.Edge.{closer_word, grid_word, link_by, longest_way, shortest_way, times_on, word_from, word_on}
+use Rattle.cqf_edge.specs.EdgeFlows.{passage_of}
 use Rattle.cqf_edge.specs.Entrances.{link_at}
 use Rattle.cqf_edge.specs.Uses.{handed_over, longest_frame, shortest_frame, time_in}
 use Rattle.cqf_plants.specs.NetworkLaws.{beginning_at, chosen_traffic}

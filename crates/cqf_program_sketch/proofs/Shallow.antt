@@ -1,10 +1,10 @@
 -- The table of a plan's text isn't nested deeper than those of its file.
-use Rattle.std.proofs.Common.{◌≡◌, ◌≤◌, ℕ, zero, suc, pos, Bool, true, false, List, [], ◌∷◌, Option, Some, None, Ordering, Less, Equal, Greater, arith, map, max, nat_cmp, refl, subst}
+use Rattle.std.proofs.Common.{◌≡◌, ◌≤◌, ℕ, zero, suc, pos, Bool, true, false, List, [], ◌∷◌, Option, Some, None, Ordering, Less, Equal, Greater, arith, map, nat_cmp, refl, subst}
 use Rattle.std.specs.Ordering.{match_ordering}
 use Rattle.std.specs.Cmp.Lexicographic.{slice_cmp}
-use Rattle.std.specs.Option.{option_and_then, option_map_or}
+use Rattle.std.specs.Option.{option_and_then}
 use Rattle.std.specs.Prelude.{if◌then◌else◌}
-use Rattle.toml.specs.Data.{Data, Items, no_items, item, Members, no_members, member, array, as_array, as_table, boolean, datetime, depth, float, get_member, integer}
+use Rattle.toml.specs.Data.{Data, Items, no_items, item, Members, no_members, member, array, as_array, boolean, datetime, depth, float, get_member, integer}
 use Rattle.toml.specs.Data.{items_depth, members_depth, string, table}
 use Rattle.toml.specs.View.{items_of}
 use Rattle.cqf_topology.specs.declared.keys.Key.TheVariants.{Cycle, Every, Octets, Path, Paths, Phase, Streams}
@@ -15,8 +15,8 @@ use Rattle.cqf_traffic.specs.declared.keys.TrafficKey.TheVariants.{Offset}
 use Rattle.cqf_traffic.specs.Keys.{key_text as traffic_key_text}
 use Rattle.cqf_plants.specs.declared.filling.FilledStream.{FilledStream}
 use Rattle.cqf_plants.specs.DomainMembers.{put, texts_data}
-use Rattle.cqf_plants.specs.Networks.{array_at, array_or_none, filled_item, filled_network, filled_stream, filled_streams, has_branches, put_turns, streams_of}
-use Rattle.cqf_plants.specs.Networks.{turns_by, with_octets, with_turns, with_way}
+use Rattle.cqf_plants.specs.Networks.{array_at, array_or_none, filled_item, filled_network, filled_stream, filled_streams, has_branches, streams_of}
+use Rattle.cqf_plants.specs.Networks.{turns_by, with_octets, with_way}
 use Rattle.cqf_plants.specs.StreamMembers.{branches_data, put_branches}
 
 -- a value that is put into a table
@@ -66,7 +66,7 @@ way_shallow filled members n some all = by (has_branches members)
     by false = branches_put (paced_text filled.request).paths members n some all
 
 turns_shallow : (request : PacedRequest) (offset : Option ℕ) (members : Members) (n : ℕ) → members_depth members ≤ n → members_depth (turns_by request offset members) ≤ n
-turns_shallow request None members n all = all
+turns_shallow request None _ n all = all
 turns_shallow request (Some offset) members n all =
     let first = number_put (key_text Every) request.every members n all in
     let second = number_put (key_text Phase) request.phase (put (key_text Every) (integer (pos request.every)) members) n first in

@@ -6,7 +6,7 @@ use Rattle.std.proofs.lemmas.Simd.{map-map}
 use Rattle.cqf_laws_history.specs.StateLaws.{SealsAreCounted}
 use Rattle.cqf_laws_timing.specs.Streams.{AreGranted}
 use Rattle.cqf_model.specs.Domain.{Domain}
-use Rattle.cqf_model.specs.History.{Asked, Recorded, held_in}
+use Rattle.cqf_model.specs.History.{Asked, held_in}
 use Rattle.cqf_sketch.specs.SketchDomain.{SketchDomain}
 use Rattle.cqf_traffic.specs.FlowsText.{FlowText}
 use Rattle.cqf_traffic.specs.TrafficText.{TrafficText, promise_of}

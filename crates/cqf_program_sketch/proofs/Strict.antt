@@ -1,16 +1,14 @@
 -- `latency --strict` succeeds on a plan that is read: what is in time from the edge bridges is in time from the talkers.
-use Rattle.std.proofs.Common.{◌≡◌, ◌∙◌, ◌+◌, ◌-◌, ◌≤◌, ◌<◌, ◌++◌, ℕ, zero, suc, All, Bool, true, false, List, [], ◌∷◌, Option, Some, None, Result, Ok, Err, ap, arith, find, if◌then◌else◌, length, map, nat_le, nat_lt, refl, subst, sym}
-use Rattle.std.specs.Prelude.{cond, flat_map, option_map, slice_index_or}
+use Rattle.std.proofs.Common.{◌≡◌, ◌∙◌, ◌+◌, ◌-◌, ◌≤◌, ◌++◌, ℕ, All, Bool, true, false, List, [], ◌∷◌, Option, Some, None, ap, arith, find, map, nat_le, nat_lt, refl, subst}
+use Rattle.std.specs.Prelude.{cond, flat_map}
 use Rattle.std.proofs.lemmas.Bool.{le-leb, leb-true}
 use Rattle.std.proofs.lemmas.List.Elements.{All-head, All-tail}
-use Rattle.cqf_lists.specs.Results.{and_then, refuse}
 use Rattle.cqf_model.specs.declared.topology.Hop.{Hop}
 use Rattle.cqf_model.specs.declared.topology.Row.{Row}
 use Rattle.cqf_model.specs.Domain.{Domain}
 use Rattle.cqf_model.specs.History.{most_beside}
-use Rattle.cqf_laws_timing.specs.Verdicts.{Sure, InTime, Late, MayBeLate, sure_of}
+use Rattle.cqf_laws_timing.specs.Verdicts.{InTime, Late, MayBeLate, sure_of}
 use Rattle.cqf_edge.specs.declared.edge.AccessTimes.{AccessTimes}
-use Rattle.cqf_edge.specs.Edge.{left_behind}
 use Rattle.cqf_program_plans.specs.declared.latency.latencies.Latency.{Latency}
 use Rattle.cqf_program_plans.specs.Latency.Text.{deadline_of, is_not_sure, latencies_from, latencies_of, latencies_of_row, latency_behind, latency_to, listeners_of, may_miss}
 use Rattle.cqf_program_plans.specs.Latency.Text.{said_of_latency, times_of}

@@ -1,9 +1,8 @@
 -- Each text that `plan` writes is read as its plan.
-use Rattle.std.proofs.Common.{◌≡◌, ◌∙◌, ◌<◌, ◌≤◌, ◌++◌, ◌∷◌, [], ℕ, suc, zero, All, Bool, Contains, find, true, false, IfSome, List, Option, Some, None, Result, Ok, Err, ap, arith, length, map, nat_lt, refl, subst, subst₂, sym}
-use Rattle.std.specs.Prelude.{if◌then◌else◌, option_map, slice_get}
+use Rattle.std.proofs.Common.{◌≡◌, ◌∙◌, ◌<◌, ◌∷◌, [], ℕ, All, Bool, Contains, find, true, false, IfSome, List, Option, None, Ok, ap, arith, length, map, nat_lt, refl, subst, subst₂, sym}
+use Rattle.std.specs.Prelude.{if◌then◌else◌, option_map}
 use Rattle.std.proofs.lemmas.Bool.{both_ways, lt-ltb}
 use Rattle.std.proofs.lemmas.List.Elements.{All-contains, Contains-append_right}
-use Rattle.toml.specs.Data.{Members, members_depth}
 use Rattle.cqf_lists.specs.Results.{and_then, refuse}
 use Rattle.cqf_lists.proofs.Members.{contains_here}
 use Rattle.cqf_laws_history.specs.StateLaws.{SealsAreCounted}
@@ -14,20 +13,19 @@ use Rattle.cqf_topology.specs.DomainText.{IsDomain}
 use Rattle.cqf_traffic.specs.FlowsText.{FlowText, flows_of_text}
 use Rattle.cqf_sketch.specs.declared.domain.TalkerLink.{TalkerLink}
 use Rattle.cqf_sketch.specs.NetworkFlows.{NetworkFlowText, network_flows_of_text}
-use Rattle.cqf_sketch.specs.SketchDomain.{AreCandidates, IsCycleTime, IsOpenCycle, IsSketch, SketchDomain, domain_at, longest_guard}
+use Rattle.cqf_sketch.specs.SketchDomain.{AreCandidates, IsCycleTime, IsOpenCycle, IsSketch, SketchDomain, domain_at}
 use Rattle.cqf_sketch.specs.StreamsText.{StreamText}
 use Rattle.cqf_edge.specs.declared.edge.AccessTimes.{AccessTimes}
 use Rattle.cqf_edge.specs.declared.edge.Passage.{Passage}
-use Rattle.cqf_edge.specs.declared.entrances.Entrance.{Entrance}
 use Rattle.cqf_edge.specs.declared.uses.AccessBound.{AccessBound}
 use Rattle.cqf_edge.specs.declared.uses.Handed.{Handed}
 use Rattle.cqf_edge.specs.Edge.{times_on}
-use Rattle.cqf_edge.specs.EdgeFlows.{EdgeFlowsText, at_edges, edge_flows, edges_with, flow_behind, flows_behind, passage_of}
+use Rattle.cqf_edge.specs.EdgeFlows.{EdgeFlowsText, at_edges, edge_flows, passage_of}
 use Rattle.cqf_edge.specs.EdgeStreams.{EdgeStreamsText, handed_at_each, streams_behind}
-use Rattle.cqf_edge.specs.Uses.{bounds_of, full_station}
+use Rattle.cqf_edge.specs.Uses.{bounds_of}
 use Rattle.cqf_plants.specs.declared.filling.FilledStream.{FilledStream}
 use Rattle.cqf_plants.specs.NetworkLaws.{AreChoices, FilledNetworksReadBack, IsReadAsChosen, chosen_network_flow, each_chosen, with_cycle}
-use Rattle.cqf_plants.specs.Networks.{IsFilledText, filled_network, table_of}
+use Rattle.cqf_plants.specs.Networks.{IsFilledText}
 use Rattle.cqf_plants.specs.Plants.{unpaced}
 use Rattle.cqf_output.specs.Stops.{or_line}
 use Rattle.cqf_program_plans.specs.Edges.{edge_line, edges_of_part, full_line, has_access, open_edges_of_part}
@@ -46,11 +44,11 @@ use Rattle.cqf_program_sketch.specs.Judging.{first_late, first_unplaced, flows_p
 use Rattle.cqf_program_sketch.specs.PlanLaws.{IsSoundPlan, deadlines_of}
 use Rattle.cqf_program_sketch.specs.PlanOutput.{AreChoicesOf, IsPlanText, Sketched, sketch_input}
 use Rattle.cqf_program_sketch.specs.ReadPlans.{ComeAsPlaced, IsGoodPlan, IsReadPlan, IsShallow, ReadsAs, ToldPlansReadBack}
-use Rattle.cqf_program_sketch.specs.Steps.{AreTurned, IsTurned}
+use Rattle.cqf_program_sketch.specs.Steps.{IsTurned}
 use Rattle.cqf_program_sketch.proofs.AllPlaced.{neither}
 use Rattle.cqf_program_sketch.proofs.EndsRead.{streams_end}
 use Rattle.cqf_program_sketch.proofs.Inputs.{AreEntered, IsInput, entered, input_parts}
-use Rattle.cqf_program_sketch.proofs.Ones.{AreOnes, IsOne, One, ones_by}
+use Rattle.cqf_program_sketch.proofs.Ones.{AreOnes, One, ones_by}
 use Rattle.cqf_program_sketch.proofs.ReadBack.{all_at_edge, all_come, all_good, all_kept, all_left, all_read, all_turned, at_edge, domain_found, edges_found, entrances_of_ones, flows_found, flows_of}
 use Rattle.cqf_program_sketch.proofs.ReadBack.{none_found_full, plain_edges, read_of, streams_of}
 use Rattle.cqf_program_sketch.proofs.ReadSketches.{read_is_sketch}

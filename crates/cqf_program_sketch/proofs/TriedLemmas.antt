@@ -5,7 +5,7 @@ use Rattle.cqf_model.specs.Domain.{Domain}
 use Rattle.cqf_model.specs.History.{Asked, Recorded}
 use Rattle.cqf_program_placing.specs.Placing.{ArePlacedFrom, BeginsEarly, IsPlacing, PlacedOr, Placed, Unplaced, reserved_on, turns_on}
 use Rattle.cqf_program_placing.specs.Settled.{IsPlaceable, SettledStream, is_paced}
-use Rattle.cqf_program_placing.specs.Turns.{IsGoodEvery, every_in}
+use Rattle.cqf_program_placing.specs.Turns.{IsGoodEvery}
 use Rattle.cqf_program_placing.proofs.Stepping.{every_is_good_in, first_is_early, turns_good}
 use Rattle.cqf_program_sketch.specs.Judging.{first_unplaced, flow_of, flows_placed}
 use Rattle.cqf_program_sketch.specs.Steps.{AreTurned, IsTurned}
