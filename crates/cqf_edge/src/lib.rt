@@ -24,9 +24,10 @@ mod laws;
 mod streams;
 mod uses;
 
-pub use edge::AccessTimes;
+pub use edge::{AccessTimes, Passage};
+pub use entrances::Entrance;
 pub use faults::{EdgeFault, TalkerFault};
 pub use flows::{EdgeFlows, edge_flows, flows_at_edges};
 pub use laws::{read_streams_are_written, streams_come_by_links};
 pub use streams::{EdgeStreams, edge_streams};
-pub use uses::Handed;
+pub use uses::{AccessBound, Handed};
