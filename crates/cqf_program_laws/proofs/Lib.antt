@@ -6,7 +6,7 @@ pub mod PlannedRows
 pub mod InPlan
 pub mod Promised
 pub mod Loosely
-pub mod Sketched
+pub mod FromTalkers
 mod Firsts
 mod Admitted
 mod Balance
@@ -17,6 +17,7 @@ mod EachRow
 mod Bounded
 mod FewCalls
 mod Readers
+mod ReadNetworks
 mod MayRun
 mod Tellable
 mod PlanTexts
