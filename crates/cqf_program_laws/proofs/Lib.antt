@@ -21,5 +21,6 @@ mod ReadNetworks
 mod MayRun
 mod Tellable
 mod PlanTexts
+mod JudgedFrom
 mod Outputs
 mod Repeated

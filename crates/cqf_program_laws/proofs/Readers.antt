@@ -229,25 +229,58 @@ network_flows_are_flows text found h =
 
 -- ---- streams of a part, at their edge bridges
 
-abbrev open_edge : EdgeFlowsText → Result EdgeFlowsText (List ℕ)
+abbrev pub open_edge : EdgeFlowsText → Result EdgeFlowsText (List ℕ)
 open_edge edge = refuse edge.full full_line (Ok edge)
 
 abbrev without_traffic : EdgeFlowsText → Result (List PlannedText) (List ℕ)
 without_traffic edge = Ok (map (λ (flow : FlowText). flow.0) edge.flows)
 
 -- where no access link is full, they are these
-is_open : (edge found : EdgeFlowsText) → open_edge edge ≡ Ok found → edge ≡ found
-is_open edge found h = same_ok edge found (refuse-Ok edge.full full_line (Ok edge) found h).1
+is_open : (edge found : EdgeFlowsText) → open_edge edge ≡ Ok found → (edge.full ≡ None) × (edge ≡ found)
+is_open edge found h = let parts = refuse-Ok edge.full full_line (Ok edge) found h in (parts.0, same_ok edge found parts.1)
 
 -- where no station has an access link, they are those of the text
+pub record AreOfText (text : List ℕ) (edge : EdgeFlowsText) : Type 0 where
+  pub flows : List FlowText
+  pub are_read : flows_of_text text ≡ Ok flows
+  pub same : at_edges flows ≡ edge
+
+pub open_without : (text : List ℕ) (edge : EdgeFlowsText) → and_then (edges_without text) open_edge ≡ Ok edge → AreOfText text edge
+open_without text edge h =
+    let e = stepped {B = EdgeFlowsText} (edges_without text) open_edge edge h in
+    let g = stepped {B = EdgeFlowsText} (or_line flows_line (flows_of_text text)) (λ (flows : List FlowText). Ok (at_edges flows)) e.0 e.1 in
+    record {
+      flows = g.0;
+      are_read = lined flows_line (flows_of_text text) g.0 g.1;
+      same = same_ok (at_edges g.0) e.0 g.2 ∙ (is_open e.0 edge e.2).1;
+    }
+
+-- where some has, they are what comes of what is handed over
+pub record AreByAccess (network : SketchDomain) (text : List ℕ) (edge : EdgeFlowsText) : Type 0 where
+  pub found : List NetworkFlowText
+  pub are_read : network_flows_of_text text ≡ Ok found
+  pub at_edges : edge_flows network found ≡ Ok edge
+  pub none_full : edge.full ≡ None
+
+pub open_by_access : (network : SketchDomain) (text : List ℕ) (edge : EdgeFlowsText) → and_then (edges_by_access network text) open_edge ≡ Ok edge →
+    AreByAccess network text edge
+open_by_access network text edge h =
+    let o = stepped {B = EdgeFlowsText} (edges_by_access network text) open_edge edge h in
+    let n = stepped {B = EdgeFlowsText} (or_line flows_line (network_flows_of_text text))
+    (λ (flows : List NetworkFlowText). or_line edge_line (edge_flows network flows)) o.0 o.1 in
+    let open_is = is_open o.0 edge o.2 in
+    record {
+      found = n.0;
+      are_read = lined flows_line (network_flows_of_text text) n.0 n.1;
+      at_edges = lined edge_line (edge_flows network n.0) o.0 n.2 ∙ ap (λ (x : EdgeFlowsText). Ok x) open_is.1;
+      none_full = subst (λ (x : EdgeFlowsText). x.full ≡ None) open_is.1 open_is.0;
+    }
+
 edges_read_without : (text : List ℕ) (edge : EdgeFlowsText) → and_then (edges_without text) open_edge ≡ Ok edge →
     or_line streams_line (planned_of_text text) ≡ Ok (map (λ (flow : FlowText). flow.0) edge.flows)
 edges_read_without text edge h =
-    let e = stepped {B = EdgeFlowsText} (edges_without text) open_edge edge h in
-    let g = stepped {B = EdgeFlowsText} (or_line flows_line (flows_of_text text)) (λ (flows : List FlowText). Ok (at_edges flows)) e.0 e.1 in
-    let read = flows_are_planned text g.0 (lined flows_line (flows_of_text text) g.0 g.1) in
-    let same : at_edges g.0 ≡ edge = same_ok (at_edges g.0) e.0 g.2 ∙ is_open e.0 edge e.2 in
-    ap (or_line streams_line) read ∙ ap without_traffic same
+    let are = open_without text edge h in
+    ap (or_line streams_line) (flows_are_planned text are.flows are.are_read) ∙ ap without_traffic are.same
 
 pub edges_are_planned : EdgesArePlanned
 edges_are_planned network text edge h = by (has_access network) h
@@ -259,7 +292,7 @@ edges_are_planned network text edge h = by (has_access network) h
     by false read = edges_read_without text edge read
 
 -- what is handed over, one for each stream
-handed_each : (network : SketchDomain) (all : List NetworkFlowText) (handed : List (Option Handed)) → handed_of_all network all ≡ Ok handed →
+pub handed_each : (network : SketchDomain) (all : List NetworkFlowText) (handed : List (Option Handed)) → handed_of_all network all ≡ Ok handed →
     length handed ≡ length all
 handed_each network [] handed h =
     let none : [] ≡ handed = same_ok {A = List (Option Handed)} [] handed h in ap length (sym none)
@@ -303,16 +336,13 @@ edges_are_paced : (network : SketchDomain) (text : List ℕ) (streams : List Pla
     paced_of_text text ≡ Ok (map (λ (planned : PlannedText). planned.0) streams)
 edges_are_paced network text streams h =
     let e = stepped {B = List PlannedText} (and_then (edges_by_access network text) open_edge) without_traffic streams h in
-    let o = stepped {B = EdgeFlowsText} (edges_by_access network text) open_edge e.0 e.1 in
-    let n = stepped {B = EdgeFlowsText} (or_line flows_line (network_flows_of_text text))
-    (λ (flows : List NetworkFlowText). or_line edge_line (edge_flows network flows)) o.0 o.1 in
-    let read = network_flows_are_flows text n.0 (lined flows_line (network_flows_of_text text) n.0 n.1) in
-    let edge = lined edge_line (edge_flows network n.0) o.0 n.2 in
-    let paced = planned_streams_are_paced text (map (λ (flow : FlowText). flow.0) (flows_in_file n.0)) (flows_are_planned text (flows_in_file n.0) read) in
-    let same : asks_of o.0.flows ≡ map (λ (planned : PlannedText). planned.0) streams =
-    ap (λ (x : EdgeFlowsText). asks_of x.flows) (is_open o.0 e.0 o.2)
-    ∙ ap (map (λ (planned : PlannedText). planned.0)) (same_ok (map (λ (flow : FlowText). flow.0) e.0.flows) streams e.2) in
-    paced ∙ ap (λ (requests : List PacedText). Ok requests) (sym (same_requests network n.0 o.0 edge) ∙ same)
+    let are = open_by_access network text e.0 e.1 in
+    let flows = flows_in_file are.found in
+    let read = flows_are_planned text flows (network_flows_are_flows text are.found are.are_read) in
+    let bare : map (λ (flow : FlowText). flow.0) e.0.flows ≡ streams = same_ok (map (λ (flow : FlowText). flow.0) e.0.flows) streams e.2 in
+    planned_streams_are_paced text (map (λ (flow : FlowText). flow.0) flows) read
+    ∙ ap (λ (requests : List PacedText). Ok requests)
+    (sym (same_requests network are.found e.0 are.at_edges) ∙ ap (map (λ (planned : PlannedText). planned.0)) bare)
 
 pub planned_parts_are_paced : PlannedPartsArePaced
 planned_parts_are_paced network text streams h = by (has_access network) h

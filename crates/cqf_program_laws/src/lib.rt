@@ -184,6 +184,7 @@ pub fn deliveries_are_as_written()
     ensures deliveries { DeliveriesAreAsWritten }
     ensures threads { ThreadsAreAsWritten }
 {
+    cqf_edge::streams_come_by_links();
     readers_agree();
     told_verdicts_hold();
 }
