@@ -10,7 +10,7 @@ use Rattle.cqf_text.specs.Parts.{parts_of}
 use Rattle.cqf_sketch.specs.declared.faults.SketchFault.{SketchFault}
 use Rattle.cqf_sketch.specs.Faults.{sketch_fault_text}
 use Rattle.cqf_sketch.specs.SketchDomain.{SketchDomain, sketch_domain_of_text}
-use Rattle.cqf_sketch.specs.StreamsText.{StreamText, sketch_streams_of_text}
+use Rattle.cqf_sketch.specs.StreamsText.{sketch_streams_of_text}
 use Rattle.cqf_traffic.specs.FlowsText.{FlowText}
 use Rattle.cqf_traffic.specs.TrafficText.{TrafficText}
 use Rattle.cqf_topology.specs.PacedText.{paced_text}
@@ -47,12 +47,11 @@ unsettled_line (unsettled.BadName place) = stream_line place refused.BadName
 unsettled_line (unsettled.Stream name found) = fault_line (codes "plan") (name ++ (codes ": " ++ plan_fault_text found))
 unsettled_line unsettled.Memory = []
 
--- a network that is to be planned: its domain; its streams settled, as they come to their edge bridges; as their text has them; how long their
--- frames take to their edge bridges; and the texts of both
+-- a network that is to be planned: its domain; its streams settled, as they come to their edge bridges; how long their frames take to their edge
+-- bridges; and the texts of both
 pub record Sketched : Type 0 where
   pub domain : SketchDomain
   pub streams : List SettledStream
-  pub wanted : List StreamText
   pub times : List (Option AccessTimes)
   pub domain_text : List ℕ
   pub streams_text : List ℕ
@@ -76,7 +75,7 @@ sketch_input limits given input = and_then (two_parts (parts_of input)) (λ part
     and_then (or_line flows_line (sketch_streams_of_text parts.1)) (λ wanted.
     and_then (or_line unentered_line (edge_streams network wanted)) (λ edge.
     and_then (settled_edges network edge) (λ settled.
-    Ok (record { domain = network; streams = settled; wanted = wanted; times = edge.times; domain_text = parts.0; streams_text = parts.1 }))))))
+    Ok (record { domain = network; streams = settled; times = edge.times; domain_text = parts.0; streams_text = parts.1 }))))))
 
 -- when a talker's offers begin whose stream's grid begins at an instant at its edge bridge, in one of so many cycles, where its frames take so
 -- long to that bridge at least: the least number that is so, up to so many cycles

@@ -6,12 +6,12 @@ ghost use Rattle.cqf_output.specs.Stops.{EndsWith, IsRefused, or_line};
 ghost use Rattle.cqf_sketch.specs.SketchDomain.{AreCandidates, sketch_domain_of_text};
 ghost use Rattle.cqf_sketch.specs.StreamsText.{sketch_streams_of_text, stream_text};
 ghost use Rattle.cqf_program_placing.specs.Placing.{BeginsEarly, outcome_value};
-ghost use Rattle.cqf_plants.specs.Plants.{IsToldPlant};
 ghost use Rattle.cqf_program_sketch.specs.Choosing.{IsBad, line_of_best};
 ghost use Rattle.cqf_program_sketch.specs.Judging.{flows_placed};
 ghost use Rattle.cqf_program_sketch.specs.PlanOutput.{IsCandidatesText, IsPlanOf, IsPlanRefusal, IsPlanText, IsToldOf, IsToldRefusal};
 ghost use Rattle.cqf_program_sketch.specs.PlanOutput.{sketch_input, sketch_line, unsettled_line};
-ghost use Rattle.cqf_program_sketch.specs.Steps.{AreSettled};
+ghost use Rattle.cqf_program_sketch.specs.Steps.{AreSettled, AreTurned};
+ghost use Rattle.cqf_program_sketch.specs.Writing.{IsTriedText, IsWritable, sketched_of};
 
 use crate::candidates::Candidate;
 use crate::choosing::{Choice, choose};
@@ -195,11 +195,13 @@ fn table_of(alloc: Global, sketch: &SketchDomain, streams: &[Settled]) -> Result
     Ok(text)
 }
 
-/// The text of the network with a cycle time on which its streams are placed.
+/// Returns the text of the network with a cycle time on which all of its streams are placed.
 fn network_text(alloc: Global, given: &PlanInput<'_>, tried: &Tried) -> Result<Vec<u8>, Memory>
     requires each { length tried.now.outcomes.items ≡ length given.now.streams.items }
     requires early { All BeginsEarly (map outcome_value tried.now.outcomes.items) }
-    ensures { IfOk result (λ text. IsTriedText given.now tried.now text.items) }
+    requires turned { AreTurned (map settled_value given.now.streams.items) (flows_placed tried.now.domain.cycle_time (map settled_value given.now.streams.items) (map outcome_value tried.now.outcomes.items)) }
+    requires written { IsWritable (sketched_of given.now) }
+    ensures { IfOk result (λ text. IsTriedText (sketched_of given.now) tried.now text.items) }
 {
     let cycle_time = tried.domain.cycle_time();
     let streams = given.streams.as_slice();
@@ -228,7 +230,8 @@ fn unplanned_stop(alloc: Global, count: usize, best: &Candidate) -> Stop
 /// # Errors
 /// With status 1 and the line that says why none of its candidates is good; with status 3 if an allocation fails.
 fn plan_of(alloc: Global, given: &PlanInput<'_>) -> Result<Vec<u8>, Stop>
-    requires { AreSettled given.now.domain (map settled_value given.now.streams.items) }
+    requires settled { AreSettled given.now.domain (map settled_value given.now.streams.items) }
+    requires written { IsWritable (sketched_of given.now) }
     ensures ok { IfOk result (λ text. IsPlanText (sketched_of given.now) text.items) }
     ensures err { IfErr result (IsToldRefusal false (sketched_of given.now)) }
 {
@@ -249,7 +252,8 @@ fn plan_of(alloc: Global, given: &PlanInput<'_>) -> Result<Vec<u8>, Stop>
 /// # Errors
 /// As [`plan_of`]; for the table, only with status 3 if an allocation fails.
 fn told_of(alloc: Global, table: bool, given: &PlanInput<'_>) -> Result<Vec<u8>, Stop>
-    requires { AreSettled given.now.domain (map settled_value given.now.streams.items) }
+    requires settled { AreSettled given.now.domain (map settled_value given.now.streams.items) }
+    requires written { IsWritable (sketched_of given.now) }
     ensures ok { IfOk result (λ text. IsToldOf table (sketched_of given.now) (Ok text.items)) }
     ensures err { IfErr result (IsToldRefusal table (sketched_of given.now)) }
 {
