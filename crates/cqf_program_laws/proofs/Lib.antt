@@ -19,7 +19,6 @@ mod FewCalls
 mod Readers
 mod ReadNetworks
 mod MayRun
-mod Tellable
 mod PlanTexts
 mod JudgedFrom
 mod Outputs

@@ -1,8 +1,7 @@
 -- What a plan, the output of `latency` and that of `summary` say about a run, by bytes.
-use Rattle.std.proofs.Common.{◌≡◌, ◌≤◌, ◌∙◌, ◌∷◌, [], ℕ, Bool, true, false, List, Option, Some, None, Ok, ap, arith, length, lt-ltb, map, refl, subst, sym}
-use Rattle.std.specs.Prelude.{if◌then◌else◌, slice_get}
-use Rattle.std.proofs.lemmas.Option.{slice_get_within}
-use Rattle.cqf_lists.specs.Results.{and_then, refuse}
+use Rattle.std.proofs.Common.{◌≡◌, ◌≤◌, ◌∙◌, ◌∷◌, [], ℕ, Bool, List, Option, None, Ok, ap, map, refl, subst, sym}
+use Rattle.std.specs.Prelude.{if◌then◌else◌}
+use Rattle.cqf_lists.specs.Results.{and_then}
 use Rattle.cqf_model.specs.declared.limits.Limits.{Limits}
 use Rattle.cqf_model.specs.Book.{Contents}
 use Rattle.cqf_model.specs.Domain.{Domain, IsAccepted}
@@ -16,17 +15,15 @@ use Rattle.cqf_topology.specs.PacedText.{PacedText}
 use Rattle.cqf_topology.specs.PlannedText.{PlannedText}
 use Rattle.cqf_topology.proofs.Refusals.{refuse-Ok}
 use Rattle.cqf_traffic.specs.FlowsText.{FlowText}
-use Rattle.cqf_sketch.specs.declared.domain.TalkerLink.{TalkerLink}
-use Rattle.cqf_sketch.specs.NetworkFlows.{NetworkFlowText, network_flows_of_text}
 use Rattle.cqf_sketch.specs.SketchDomain.{SketchDomain}
-use Rattle.cqf_edge.specs.EdgeFlows.{EdgeFlowsText, edge_flows}
+use Rattle.cqf_edge.specs.EdgeFlows.{EdgeFlowsText}
 use Rattle.cqf_edge.specs.EdgeLaws.{StreamsComeByLinks}
 use Rattle.cqf_admission.specs.Asking.{asked_by}
 use Rattle.cqf_program_scenario.specs.Networks.{domain_of, domain_of_part, network_of_part}
 use Rattle.cqf_program_scenario.specs.Parts.{RunTexts, run_parts, two_parts}
 use Rattle.cqf_program_scenario.specs.Scenario.{Scenario, scenario_input, scenario_of}
 use Rattle.cqf_program_plans.specs.Compile.Output.{admitted_from}
-use Rattle.cqf_program_plans.specs.Edges.{edges_by_access, edges_without, has_access, open_edges_of_part}
+use Rattle.cqf_program_plans.specs.Edges.{open_edges_of_part}
 use Rattle.cqf_program_plans.specs.Latency.Input.{asked_in, latency_input, latency_of_input, plan_from, plan_with, streams_for}
 use Rattle.cqf_program_plans.specs.Latency.Output.{PlanFromTalkers, latency_from_talkers, latency_told}
 use Rattle.cqf_program_plans.specs.Latency.Text.{first_line_of, latencies_from, text_of_latency}
@@ -41,12 +38,11 @@ use Rattle.cqf_program_laws.specs.OutputLaws.{ThreadsAreAsWritten, ThreadsKeepTo
 use Rattle.cqf_program_laws.specs.PlanLaws.{IsKeptPlan, PlanKeepsItsWord, PlansKeepTheirWordOnThreads, PlansKeepTheirWordToScripts}
 use Rattle.cqf_program_laws.specs.ReaderLaws.{EdgesArePlanned, IsRunnable, PlannedScenariosAreScenarios, ReadersAgreeOnParts, ScenariosMayBeRun}
 use Rattle.cqf_program_laws.specs.SummaryLaws.{EachOfferCountsOnce, IsReadRun, LatenciesAreBounded, RowsAddUp}
-use Rattle.cqf_program_laws.specs.TalkerLaws.{NetworkKeepsItsWord, WordsHoldFromTalkers}
-use Rattle.cqf_program_laws.specs.ToldPlans.{HasKeptPlan, ReadsAsKeptPlan, ToldPlansRun}
+use Rattle.cqf_program_laws.specs.TalkerLaws.{WordsHoldFromTalkers}
+use Rattle.cqf_program_laws.specs.ToldPlans.{HasKeptPlan, ToldPlansRun}
 use Rattle.cqf_program_laws.specs.VerdictLaws.{AreAsJudged, VerdictsHoldOfAccounts, VerdictsHoldOfScripts, latencies_told}
 use Rattle.cqf_program_laws.proofs.JudgedFrom.{are_left, as_judged_from}
 use Rattle.cqf_program_laws.proofs.MayRun.{parts_of_scenario}
-use Rattle.cqf_program_laws.proofs.Readers.{open_by_access, open_edge}
 use Rattle.cqf_program_laws.proofs.Scripts.{stepped}
 
 -- streams without their traffic
@@ -82,30 +78,7 @@ module _ (agree : ReadersAgreeOnParts) (may_run : ScenariosMayBeRun) (limits : L
 
 -- ---- plans
 
--- where a station has an access link, streams that are read with their talkers come to their edge bridges
-entered : (network : SketchDomain) (text : List ℕ) (found : List NetworkFlowText) (edge : EdgeFlowsText) → network_flows_of_text text ≡ Ok found →
-    (b : Bool) → b ≡ true → and_then (if b then edges_by_access network text else edges_without text) open_edge ≡ Ok edge →
-    (edge_flows network found ≡ Ok edge) × (edge.full ≡ None)
-entered network text found edge read true some h =
-    let are = open_by_access network text edge h in
-    let same : are.found ≡ found = same_ok are.found found (sym are.are_read ∙ read) in
-    (subst (λ (xs : List NetworkFlowText). edge_flows network xs ≡ Ok edge) same are.at_edges, are.none_full)
-entered network text found edge read false some h = absurd (cc)
-
-some_access : (network : SketchDomain) (place : ℕ) (link : TalkerLink) → slice_get network.talkers place ≡ Some link → has_access network ≡ true
-some_access network place link is =
-    let within = slice_get_within network.talkers place link is in
-    lt-ltb 0 (length network.talkers) (omega (arith, within))
-
--- so what the plan of a text promises at edge bridges, it promises from the hand-over
-from_talkers : WordsHoldFromTalkers → (limits : Limits) (text : List ℕ) (network : SketchDomain) (found : List NetworkFlowText) (edge : EdgeFlowsText)
-    (run : Run) (cycles : ℕ) (book : Contents) → ReadsAsKeptPlan limits text network found edge → IsAccepted run.domain →
-    PlanKeepsItsWord run edge.flows cycles book → NetworkKeepsItsWord network found edge run cycles book
-from_talkers words limits text network found edge run cycles book is accepted keeps one flow row x o offers handed =
-    let some = some_access network handed.handed.place handed.link handed.by_access.is_link in
-    let come = entered network text found edge is.are_streams (has_access network) some is.at_edges in
-    words network found edge run cycles book come.0 come.1 accepted keeps one flow row x o offers handed
-
+-- what the plan of a text promises at edge bridges, it promises from the hand-over
 text_keeps : WordsHoldFromTalkers → (limits : Limits) (given : Option (List ℕ)) (network text : List ℕ) (has : HasKeptPlan limits given network text)
     (run : Run) (cycles : ℕ) (book : Contents) → IsAccepted run.domain → PlanKeepsItsWord run has.edge.flows cycles book →
     TextKeepsItsWord limits text run cycles book
@@ -115,9 +88,10 @@ text_keeps words limits given network text has run cycles book accepted keeps = 
   found = has.found;
   are_streams = has.is_read.are_streams;
   edge = has.edge;
-  at_edges = has.is_read.at_edges;
+  part_is = has.is_read.part_is;
+  at_edges = has.is_read.kept.at_edges;
   from_edges = keeps;
-  from_talkers = from_talkers words limits text has.network has.found has.edge run cycles book has.is_read accepted keeps;
+  from_talkers = words has.network has.found has.edge run cycles book has.is_read.kept.at_edges has.is_read.kept.none_full accepted keeps;
 }
 
 -- a scenario over a plan's text
@@ -128,13 +102,13 @@ plan_over : EdgesArePlanned → ReadersAgreeOnParts → ScenariosMayBeRun → (l
 plan_over edges agree may_run limits given network text cycles input s has begins holds =
     let p = has.is_read in
     let over = run_over agree may_run limits cycles text text input begins has.network (bare has.edge) s p.is_network
-    (edges has.network text has.edge p.at_edges) holds in
-    (over, subst (λ (d : Domain). IsKeptPlan d has.edge.flows) (sym over.domain_is) p.kept)
+    (edges has.network text has.edge p.part_is) holds in
+    (over, subst (λ (d : Domain). IsKeptPlan d has.edge.flows) (sym over.domain_is) p.kept.kept)
 
 pub runs_keep_told_plans : EdgesArePlanned → ReadersAgreeOnParts → ScenariosMayBeRun → ToldPlansRun → WordsHoldFromTalkers → PlansKeepTheirWordToScripts →
     RunsKeepToldPlans
-runs_keep_told_plans edges agree may_run runs words keep limits given network text cycles input output candidates plan begins short told =
-    let has = runs limits given network text candidates plan in
+runs_keep_told_plans edges agree may_run runs words keep limits given network text cycles input output candidates shallow plan begins short told =
+    let has = runs limits given network text candidates shallow plan in
     let s = told.scenario in
     let both = plan_over edges agree may_run limits given network text cycles input s has begins told.holds in
     let over = both.0 in
@@ -143,8 +117,8 @@ runs_keep_told_plans edges agree may_run runs words keep limits given network te
 
 pub threads_keep_told_plans : EdgesArePlanned → ReadersAgreeOnParts → ScenariosMayBeRun → ToldPlansRun → WordsHoldFromTalkers →
     PlansKeepTheirWordOnThreads → ThreadsKeepToldPlans
-threads_keep_told_plans edges agree may_run runs words keep limits given network text cycles input output candidates plan begins told =
-    let has = runs limits given network text candidates plan in
+threads_keep_told_plans edges agree may_run runs words keep limits given network text cycles input output candidates shallow plan begins told =
+    let has = runs limits given network text candidates shallow plan in
     let s = told.scenario in
     let both = plan_over edges agree may_run limits given network text cycles input s has begins told.holds in
     let over = both.0 in

@@ -15,7 +15,7 @@ use Rattle.cqf_sketch.specs.NetworkFlows.{NetworkFlowText, network_flows_of_text
 use Rattle.cqf_sketch.specs.SketchDomain.{AreCandidates, SketchDomain}
 use Rattle.cqf_traffic.specs.FlowsText.{FlowText}
 use Rattle.cqf_edge.specs.declared.edge.AccessTimes.{AccessTimes}
-use Rattle.cqf_edge.specs.EdgeFlows.{EdgeFlowsText}
+use Rattle.cqf_edge.specs.EdgeFlows.{EdgeFlowsText, edge_flows}
 use Rattle.cqf_program_scenario.specs.Networks.{domain_of, network_of_part}
 use Rattle.cqf_program_scenario.specs.Parts.{RunTexts, run_parts, two_parts}
 use Rattle.cqf_program_plans.specs.declared.latency.latencies.Latency.{Latency}
@@ -42,6 +42,7 @@ use Rattle.cqf_program_threads.specs.ThreadsOutput.{IsThreadsOutput}
 use Rattle.cqf_program_laws.specs.PlanLaws.{PlanKeepsItsWord}
 use Rattle.cqf_program_laws.specs.SummaryLaws.{AreWithinBounds, CountsEachOnce, IsRowOf}
 use Rattle.cqf_program_laws.specs.TalkerLaws.{NetworkKeepsItsWord}
+use Rattle.cqf_program_laws.specs.ToldPlans.{AreShallow}
 use Rattle.cqf_program_laws.specs.VerdictLaws.{IsDeliveryTo}
 
 -- the input of a run begins with these texts of a domain and of streams
@@ -61,7 +62,8 @@ pub record TextKeepsItsWord (limits : Limits) (text : List ℕ) (run : Run) (cyc
   pub found : List NetworkFlowText
   pub are_streams : network_flows_of_text text ≡ Ok found
   pub edge : EdgeFlowsText
-  pub at_edges : open_edges_of_part network text ≡ Ok edge
+  pub part_is : open_edges_of_part network text ≡ Ok edge
+  pub at_edges : edge_flows network found ≡ Ok edge
   pub from_edges : PlanKeepsItsWord run edge.flows cycles book
   pub from_talkers : NetworkKeepsItsWord network found edge run cycles book
 
@@ -69,14 +71,14 @@ pub record TextKeepsItsWord (limits : Limits) (text : List ℕ) (run : Run) (cyc
 abbrev pub RunsKeepToldPlans : Type 0
 RunsKeepToldPlans =
     (limits : Limits) (given : Option (List ℕ)) (network text : List ℕ) (cycles : ℕ) (input output : List ℕ) → IfSome given AreCandidates →
-    IsPlanOf limits false given network (Ok text) → BeginsWith text text input → cycles ≤ most_cycles → (told : IsRunOutput limits cycles input output) →
+    AreShallow network → IsPlanOf limits false given network (Ok text) → BeginsWith text text input → cycles ≤ most_cycles → (told : IsRunOutput limits cycles input output) →
     TextKeepsItsWord limits text (run_of_scenario cycles told.scenario) cycles told.book
 
 -- and in each output of `run --threads`
 abbrev pub ThreadsKeepToldPlans : Type 0
 ThreadsKeepToldPlans =
     (limits : Limits) (given : Option (List ℕ)) (network text : List ℕ) (cycles : ℕ) (input output : List ℕ) → IfSome given AreCandidates →
-    IsPlanOf limits false given network (Ok text) → BeginsWith text text input → (told : IsThreadsOutput limits cycles input output) →
+    AreShallow network → IsPlanOf limits false given network (Ok text) → BeginsWith text text input → (told : IsThreadsOutput limits cycles input output) →
     TextKeepsItsWord limits text (run_of_history told.scenario.domain told.entries told.scenario.offers told.scenario.background cycles) cycles told.book
 
 -- ---- verdicts

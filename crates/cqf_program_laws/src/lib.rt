@@ -155,16 +155,16 @@ pub fn readers_agree()
 /// Each text that `plan` writes is read by every command as a network of which nothing is open, within the same limits. Its domain is well-formed, and
 /// no access link is full. Its streams are those that were placed, with the same deadlines at their edge bridges. They are all admitted before cycle 0,
 /// each reserves as much as its talker needs in a cycle, and none may miss its deadline. So the laws about plans that keep their word need only that
-/// `plan` wrote the text, and that cycle times which it was given are in their range.
+/// `plan` wrote the text, that cycle times which it was given are in their range, and that its file's tables are nested no deeper than 80.
 pub fn told_plans_run()
     ensures { ToldPlansRun }
 {
-    cqf_plants::filled_networks_read_back();
-    cqf_program_sketch::told_plan_is_admitted();
+    cqf_program_sketch::told_plans_read_back();
 }
 
 /// A plan keeps its word in each output of `run` and of `run --threads` whose input begins with a text, for its domain and its streams, that `plan`
-/// wrote within the same limits. Cycle times that `plan` was given are in their range; nothing else is required of the plan or of the scenario.
+/// wrote within the same limits. Cycle times that `plan` was given are in their range, and its file's tables are nested no deeper than 80; nothing else
+/// is required of the plan or of the scenario.
 /// Each frame that the plan promises is covered, and whole at each of its stream's listeners in time, if the run is long enough: from its offer at its
 /// edge bridge, and from its hand-over to an access link. A run has at most 100,000 cycles.
 pub fn outputs_keep_told_plans()
