@@ -90,7 +90,7 @@ module _ (waits : FramesAreWholeWithin) (closer : EdgeConformsCloser) (come : St
   abbrev delays : Delays
   delays = delays_of h.link
 
-  -- the stream as it comes to its edge bridge
+  -- the stream at its edge bridge
   by_link : ComesByLink network edge h.stream one h.handed
   by_link = come network found edge h.stream one h.handed at_edges h.by_access.there h.by_access.hands
 

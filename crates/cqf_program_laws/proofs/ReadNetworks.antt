@@ -1,4 +1,4 @@
--- A network that is read, of which no cycle time is open, satisfies `IsSketch`, and its domain is well-formed.
+-- A network that is read with its cycle time chosen satisfies `IsSketch`, and its domain is well-formed.
 use Rattle.std.proofs.Common.{◌≡◌, ◌∙◌, [], ℕ, List, Ok, ap, subst, sym}
 use Rattle.cqf_model.specs.declared.limits.Limits.{Limits}
 use Rattle.cqf_model.specs.Domain.{Domain}

@@ -1,4 +1,4 @@
--- A plan keeps its word from the hand-over at the talker, whatever its station's other streams, other stations and administrators do.
+-- A plan keeps its word from the hand-over at the talker. What its station's other streams, other stations and administrators do changes nothing.
 use Rattle.std.specs.Prelude.{ℕ, ◌≡◌, ◌⊎◌, ◌≤◌, List, Option, Some, None, Ok, Contains, map, option_map, slice_get, true}
 use Rattle.cqf_model.specs.Book.{Contents}
 use Rattle.cqf_model.specs.declared.frames.Background.{Background}
@@ -47,7 +47,7 @@ use Rattle.cqf_program_laws.specs.PlanLaws.{ComesAsPromised, IsHeardLoosely, IsK
 
 -- ---- what a station does
 
--- a stream of a network's file that is handed to an access link: as the file has it, as it comes to its edge bridge, what is handed over, and the link
+-- a stream of a network's file that is handed to an access link: in the file, at its edge bridge, what is handed over, and the link
 pub record IsByAccess (network : SketchDomain) (found : List NetworkFlowText) (edge : EdgeFlowsText) (stream : ℕ) (one : NetworkFlowText) (flow : FlowText)
     (handed : Handed) (link : TalkerLink) : Type 0 where
   pub there : slice_get found stream ≡ Some one
@@ -120,7 +120,7 @@ WordsHoldFromTalkers =
     edge_flows network found ≡ Ok edge → edge.full ≡ None → IsAccepted run.domain → PlanKeepsItsWord run edge.flows cycles book →
     NetworkKeepsItsWord network found edge run cycles book
 
--- the streams of a network's file, of which no access link is full, and of which all keep the plan's word at their edge bridges
+-- the streams of a network's file, if no access link is full and all streams keep the plan's word at their edge bridges
 pub record IsKeptNetwork (network : SketchDomain) (found : List NetworkFlowText) (edge : EdgeFlowsText) : Type 0 where
   pub at_edges : edge_flows network found ≡ Ok edge
   pub none_full : edge.full ≡ None

@@ -17,8 +17,8 @@ use Rattle.cqf_program_sketch.specs.ReadPlans.{ComeAsPlaced, IsShallow}
 use Rattle.cqf_program_laws.specs.PlanLaws.{IsKeptPlan}
 use Rattle.cqf_program_laws.specs.TalkerLaws.{IsKeptNetwork}
 
--- a text that every command reads as a network of which nothing is open, with these streams at their edge bridges. Its domain is well-formed, and has
--- the given limits; no access link is full, and all streams keep the plan's word
+-- a text that every command reads as a network with nothing left to choose, and with these streams at their edge bridges. Its domain is well-formed and
+-- has the given limits; no access link is full, and all streams keep the plan's word
 pub record ReadsAsKeptPlan (limits : Limits) (text : List ℕ) (network : SketchDomain) (found : List NetworkFlowText) (edge : EdgeFlowsText) : Type 0 where
   pub is_network : network_of_part limits text ≡ Ok network
   pub domain : IsDomain (domain_of network)

@@ -59,10 +59,10 @@ pub fn told_verdicts_hold()
 /// listeners within its deadline after its offer, if the run is long enough. The same holds in each script over the plan, on one thread and
 /// on threads.
 ///
-/// A network of which no access link is full keeps its word from the hand-over, if the streams as they come to their edge bridges make such a plan.
+/// If no access link is full, and the streams make such a plan at their edge bridges, the network keeps its word from the hand-over.
 /// Take a station that hands frames of its streams to an access link as the file promises. The link sends them one after the other, in any order, and is
 /// never idle while one waits. Beside them at most one frame at a time of no promise is under way, which is no larger than the file allows. Each frame
-/// of a stream that comes to its edge bridge in a cycle of the stream while that is live is covered. It is whole at each listener within the deadline
+/// that is whole at its edge bridge in a cycle of its stream, while that is live, is covered. It is whole at each listener within the deadline
 /// that the file says after it was handed over, if the run is long enough. So it doesn't matter what the station's other streams, other stations and
 /// administrators do.
 pub fn told_plans_keep_their_word()
@@ -152,8 +152,8 @@ pub fn readers_agree()
     ensures may_run { ScenariosMayBeRun }
 {}
 
-/// Each text that `plan` writes is read by every command as a network of which nothing is open, within the same limits. Its domain is well-formed, and
-/// no access link is full. Its streams are those that were placed, with the same deadlines at their edge bridges. They are all admitted before cycle 0,
+/// Each text that `plan` writes is read by every command as a network with nothing left to choose, within the same limits. Its domain is well-formed,
+/// and no access link is full. Its streams are those that were placed, with the same deadlines at their edge bridges. They are all admitted before cycle 0,
 /// each reserves as much as its talker needs in a cycle, and none may miss its deadline. So the laws about plans that keep their word need only that
 /// `plan` wrote the text, that cycle times which it was given are in their range, and that its file's tables are nested no deeper than 80.
 pub fn told_plans_run()
