@@ -1,8 +1,8 @@
 -- What `latency` says of frames from their hand-over holds if it holds of them from their edge bridges.
 use Rattle.std.proofs.Common.{◌≡◌, ◌∙◌, ◌+◌, ◌-◌, ◌<◌, ◌≤◌, ◌∷◌, [], ℕ, zero, suc, Bool, true, false, Contains, List, Option, Some, None, Ok}
-use Rattle.std.proofs.Common.{ap, arith, length, map, refl, subst, subst₂, sym}
+use Rattle.std.proofs.Common.{ap, arith, length, lt-ltb, map, refl, subst, sym}
 use Rattle.std.specs.Prelude.{if◌then◌else◌, nat_le, nat_lt, option_and_then, option_map, slice_get}
-use Rattle.std.proofs.lemmas.Bool.{le-leb, lt-ltb}
+use Rattle.std.proofs.lemmas.Bool.{le-leb}
 use Rattle.std.proofs.lemmas.Bool.Decides.{nat_tests}
 use Rattle.std.proofs.lemmas.List.{length-map}
 use Rattle.std.proofs.lemmas.List.Elements.{All-contains}
@@ -218,6 +218,9 @@ from_hand_over : (first last least most at offered whole : ℕ) → 0 < least �
 from_hand_over first last least most at offered whole some early late shorter longer =
     (omega (arith, some, early, shorter), omega (arith, some, late, shorter, longer))
 
+between : (least taken most : ℕ) → least ≤ taken → taken ≤ most → least ≤ most
+between least taken most first last = omega (arith, first, last)
+
 -- what is left of a deadline that is late from the hand-over is late
 left_late : (first last least most deadline : ℕ) → 0 < least → least ≤ most → first ≤ last → deadline < most + last → deadline < least + first →
     (deadline - last < most) × (deadline - last < least)
@@ -271,7 +274,7 @@ judged_by_access times l delivery journey goes ordered some judged = record {
   late = λ verdict come.
       let whole = is_whole delivery journey goes come in
       let b = judged.within journey whole.0 goes whole.1 in
-      judged.late (late_there l.deadline (omega (arith, b.0, b.1)) verdict) come;
+      judged.late (late_there l.deadline (between l.least (whole.0.0 - delivery.at.0) l.most b.0 b.1) verdict) come;
 }
   where
     in_time_there : (deadline : Option ℕ) →

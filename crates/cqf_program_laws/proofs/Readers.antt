@@ -295,10 +295,11 @@ edges_are_planned network text edge h = by (has_access network) h
 pub handed_each : (network : SketchDomain) (all : List NetworkFlowText) (handed : List (Option Handed)) → handed_of_all network all ≡ Ok handed →
     length handed ≡ length all
 handed_each network [] handed h =
-    let none : [] ≡ handed = same_ok {A = List (Option Handed)} [] handed h in ap length (sym none)
+    let none : [] ≡ handed = same_ok {A = List (Option Handed)} [] handed h in
+    ap (λ (xs : List (Option Handed)). length xs) (sym none)
 handed_each network (one ∷ all) handed h =
     let p = parted (handed_of network one) (handed_of_all network all) handed h in
-    ap length p.4 ∙ ap (λ n. suc n) (handed_each network all p.1 p.3)
+    ap (λ (xs : List (Option Handed)). length xs) p.4 ∙ ap (λ (n : ℕ). suc n) (handed_each network all p.1 p.3)
 
 -- a stream's request is the same at its edge bridge
 abbrev asks_of : List FlowText → List PacedText

@@ -36,8 +36,8 @@ pub fn scripts_admit_only()
     cqf_laws_history::state_follows_history();
 }
 
-/// If `latency` says `in-time` for a stream and a listener, no delivery of a frame of that stream to that listener is late; if it says
-/// `late`, each delivery that has arrived is late. This holds in the book of each history that admits streams of the plan alone, as those
+/// If the verdict on the latency from a stream's edge bridge to a listener is `in-time`, no delivery of a frame of that stream to that listener is late; if
+/// it is `late`, each delivery that has arrived is late. This holds in the book of each history that admits streams of the plan alone, as those
 /// of a script over them do, on one thread and on threads, with any withdrawals, offers and background frames.
 pub fn told_verdicts_hold()
     ensures deliveries { VerdictsHoldOfDeliveries }
