@@ -77,7 +77,7 @@ is_within at handed times left written whole least is late takes some within wis
 -- ---- a frame that is handed over
 
 -- traffic by its promise
-promised_by : (o : Option TrafficText) (p : Traffic) → option_map promise_of o ≡ Some p → (t : TrafficText) × (o ≡ Some t) × (promise_of t ≡ p)
+pub promised_by : (o : Option TrafficText) (p : Traffic) → option_map promise_of o ≡ Some p → (t : TrafficText) × (o ≡ Some t) × (promise_of t ≡ p)
 promised_by None p h = absurd (cc)
 promised_by (Some t) p h = (t, refl, same_Some (promise_of t) p h)
 
@@ -91,10 +91,10 @@ module _ (waits : FramesAreWholeWithin) (closer : EdgeConformsCloser) (come : St
   delays = delays_of h.link
 
   -- the stream at its edge bridge
-  by_link : ComesByLink network edge h.stream one h.handed
+  pub by_link : ComesByLink network edge h.stream one h.handed
   by_link = come network found edge h.stream one h.handed at_edges h.by_access.there h.by_access.hands
 
-  abbrev times : AccessTimes
+  abbrev pub times : AccessTimes
   times = by_link.times
 
   same_link : by_link.link ≡ h.link
@@ -108,10 +108,10 @@ module _ (waits : FramesAreWholeWithin) (closer : EdgeConformsCloser) (come : St
   left = subst (λ (f : FlowText). f.0.1 ≡ option_map (left_behind times) one.flow.0.1) same_flow by_link.left
 
   -- what its talker promises, and its word there
-  abbrev promise : (t : TrafficText) × (one.flow.1 ≡ Some t) × (promise_of t ≡ h.s.promise)
+  abbrev pub promise : (t : TrafficText) × (one.flow.1 ≡ Some t) × (promise_of t ≡ h.s.promise)
   promise = promised_by one.flow.1 h.s.promise h.over.promise
 
-  keeps : KeepsWord edge h.handed h.link flow.1 times promise.0
+  pub keeps : KeepsWord edge h.handed h.link flow.1 times promise.0
   keeps =
       subst₂ (λ (l : TalkerLink) (f : FlowText). KeepsWord edge h.handed l f.1 times promise.0) same_link same_flow
       (by_link.word none_full promise.0 promise.1)

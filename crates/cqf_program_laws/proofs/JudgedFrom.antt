@@ -4,9 +4,8 @@ use Rattle.std.proofs.Common.{ap, arith, length, lt-ltb, map, refl, subst, sym}
 use Rattle.std.specs.Prelude.{if◌then◌else◌, nat_le, nat_lt, option_and_then, option_map, slice_get}
 use Rattle.std.proofs.lemmas.Bool.{le-leb}
 use Rattle.std.proofs.lemmas.Bool.Decides.{nat_tests}
-use Rattle.std.proofs.lemmas.List.{length-map}
 use Rattle.std.proofs.lemmas.List.Elements.{All-contains}
-use Rattle.std.proofs.lemmas.Option.{same_Some, slice_get-map, slice_get_within}
+use Rattle.std.proofs.lemmas.Option.{same_Some, slice_get_within}
 use Rattle.cqf_lists.specs.Results.{and_then}
 use Rattle.cqf_lists.proofs.Members.{contains_at, contains_flat, contains_from_filter, contains_from_map, contains_map}
 use Rattle.cqf_units.specs.declared.timing.Nanos.{Nanos}
@@ -24,11 +23,10 @@ use Rattle.cqf_sketch.specs.NetworkFlows.{NetworkFlowText}
 use Rattle.cqf_sketch.specs.SketchDomain.{IsSketch, IsTalkerLink, SketchDomain}
 use Rattle.cqf_access.specs.Access.{AccessLink}
 use Rattle.cqf_access.specs.Arriving.{way_of}
+use Rattle.cqf_access.specs.Bounding.{link_of}
 use Rattle.cqf_edge.specs.declared.edge.AccessTimes.{AccessTimes}
-use Rattle.cqf_edge.specs.declared.edge.Passage.{Passage}
-use Rattle.cqf_edge.specs.declared.uses.AccessBound.{AccessBound}
 use Rattle.cqf_edge.specs.declared.uses.Handed.{Handed}
-use Rattle.cqf_edge.specs.Edge.{left_behind, link_by, longest_wait_on, longest_way, shortest_way, times_on}
+use Rattle.cqf_edge.specs.Edge.{left_behind, times_on}
 use Rattle.cqf_edge.specs.EdgeFlows.{EdgeFlowsText, edge_flows, edges_with, flow_behind, flows_behind, handed_of_all, passage_of}
 use Rattle.cqf_edge.specs.EdgeLaws.{StreamsComeByLinks}
 use Rattle.cqf_edge.specs.Entrances.{link_at}
@@ -44,7 +42,7 @@ use Rattle.cqf_program_plans.proofs.CompileLemmas.{same_ok}
 use Rattle.cqf_program_runs.specs.declared.deliveries.delivery.Delivery.{Delivery}
 use Rattle.cqf_program_runs.specs.declared.deliveries.delivery.Fate.TheVariants as fate
 use Rattle.cqf_program_runs.specs.declared.deliveries.delivery.Journey.{Journey}
-use Rattle.cqf_program_runs.specs.declared.deliveries.delivery.Passage.{Passage as PassageOf}
+use Rattle.cqf_program_runs.specs.declared.deliveries.delivery.Passage.{Passage}
 use Rattle.cqf_program_runs.specs.declared.deliveries.delivery.Passage.TheVariants as passage
 use Rattle.cqf_program_runs.specs.Deliveries.ArrivalLaws.{has_come}
 use Rattle.cqf_program_runs.specs.Deliveries.{end_of_journey, end_of_passage, fate_of}
@@ -53,7 +51,7 @@ use Rattle.cqf_program_laws.specs.VerdictLaws.{AreAsJudged, IsAsJudged, IsDelive
 use Rattle.cqf_program_laws.proofs.FromTalkers.{least_is_some}
 use Rattle.cqf_program_laws.proofs.Judged.{said_in_time, said_late}
 use Rattle.cqf_program_laws.proofs.ReadNetworks.{network_is_read}
-use Rattle.cqf_program_laws.proofs.Readers.{handed_each, open_by_access, open_edge, open_without}
+use Rattle.cqf_program_laws.proofs.Readers.{handed_each, open_by_access, open_edge, open_without, optional}
 use Rattle.cqf_program_laws.proofs.Scripts.{stepped}
 
 -- ---- deadlines and times, by the numbers of streams
@@ -83,66 +81,54 @@ no_times [] n times is = absurd (cc)
 no_times (flow ∷ flows) zero times is = absurd (cc)
 no_times (flow ∷ flows) (suc n) times is = no_times flows n times is
 
--- where streams go by passages
-one_left : (p : Option Passage) (flow : FlowText) → (flow_behind p flow).0.1 ≡ left_by (option_map times_on p) flow.0.1
-one_left None flow = refl
-one_left (Some p) flow = refl
+-- where some are
+each_left : (network : SketchDomain) (whole handed : List (Option Handed)) (all : List NetworkFlowText) (n : ℕ) → length handed ≡ length all →
+    deadline_of (edge_deadlines (flows_behind (map (passage_of network (bounds_of network whole)) handed) all)) n
+    ≡ left_by (times_of (map (option_map times_on) (map (passage_of network (bounds_of network whole)) handed)) n)
+    (deadline_of (map (λ (found : NetworkFlowText). found.flow.0.1) all) n)
+each_left network whole [] [] n same = refl
+each_left network whole [] (one ∷ all) n same = absurd (omega (arith, same))
+each_left network whole (h ∷ handed) [] n same = absurd (omega (arith, same))
+each_left network whole (h ∷ handed) (one ∷ all) zero same =
+    optional (λ p. (flow_behind p one.flow).0.1 ≡ left_by (option_map times_on p) one.flow.0.1) (passage_of network (bounds_of network whole) h) refl
+    (λ p. refl)
+each_left network whole (h ∷ handed) (one ∷ all) (suc n) same = each_left network whole handed all n (omega (arith, same))
 
-each_left : (ps : List (Option Passage)) (all : List NetworkFlowText) (n : ℕ) → length ps ≡ length all →
-    deadline_of (edge_deadlines (flows_behind ps all)) n
-    ≡ left_by (times_of (map (option_map times_on) ps) n) (deadline_of (map (λ (found : NetworkFlowText). found.flow.0.1) all) n)
-each_left [] [] n same = refl
-each_left [] (one ∷ all) n same = absurd (omega (arith, same))
-each_left (p ∷ ps) [] n same = absurd (omega (arith, same))
-each_left (p ∷ ps) (one ∷ all) zero same = one_left p one.flow
-each_left (p ∷ ps) (one ∷ all) (suc n) same = each_left ps all n (omega (arith, same))
+-- times are of a link of the network, and of what is handed over
+times_at : (network : SketchDomain) (whole handed : List (Option Handed)) (n : ℕ) (times : AccessTimes) →
+    times_of (map (option_map times_on) (map (passage_of network (bounds_of network whole)) handed)) n ≡ Some times →
+    (one : Option Handed) × (slice_get handed n ≡ Some one) × (option_map times_on (passage_of network (bounds_of network whole) one) ≡ Some times)
+times_at network whole [] n times is = absurd (cc)
+times_at network whole (h ∷ handed) zero times is = (h, refl, is)
+times_at network whole (h ∷ handed) (suc n) times is = times_at network whole handed n times is
 
-each_ordered : (ps : List (Option Passage)) (n : ℕ) (times : AccessTimes) →
-    ((k : ℕ) (p : Passage) → slice_get ps k ≡ Some (Some p) → (times_on p).least ≤ (times_on p).most) →
-    times_of (map (option_map times_on) ps) n ≡ Some times → times.least ≤ times.most
-each_ordered [] n times each is = absurd (cc)
-each_ordered (None ∷ ps) zero times each is = absurd (cc)
-each_ordered (Some p ∷ ps) zero times each is = subst (λ (t : AccessTimes). t.least ≤ t.most) (same_Some (times_on p) times is) (each 0 p refl)
-each_ordered (p ∷ ps) (suc n) times each is = each_ordered ps n times (λ k q at. each (suc k) q at) is
-
--- a passage is by a link of the network, of what is handed over
-record IsOver (network : SketchDomain) (handed : Option Handed) (p : Passage) : Type 0 where
-  hands : handed ≡ Some p.handed
-  is_link : link_at network p.handed.place ≡ Some p.link
-
-passage_over : (network : SketchDomain) (bounds : List AccessBound) (handed : Option Handed) (p : Passage) → passage_of network bounds handed ≡ Some p →
-    IsOver network handed p
-passage_over network bounds None p h = absurd (cc)
-passage_over network bounds (Some handed) p h = by (link_at network handed.place) (slice_get bounds handed.place) refl h
-  where
-    by : (link : Option TalkerLink) (bound : Option AccessBound) → link_at network handed.place ≡ link →
-        option_and_then (λ (l : TalkerLink). option_map (λ (b : AccessBound). record { link = l; handed = handed; bound = b }) bound) link ≡ Some p →
-        IsOver network (Some handed) p
-    by None bound at is = absurd (cc)
-    by (Some link) None at is = absurd (cc)
-    by (Some link) (Some bound) at is =
-        let made : Passage = record { link = link; handed = handed; bound = bound } in
-        subst (IsOver network (Some handed)) (same_Some made p is) (record { hands = refl; is_link = at })
-
-passage_there : (network : SketchDomain) (bounds : List AccessBound) (handed : List (Option Handed)) (k : ℕ) (p : Passage) →
-    slice_get (map (passage_of network bounds) handed) k ≡ Some (Some p) → (one : Option Handed) × (slice_get handed k ≡ Some one) × IsOver network one p
-passage_there network bounds handed k p is =
-    by (slice_get handed k) refl (sym (slice_get-map (passage_of network bounds) handed k) ∙ is)
-  where
-    by : (found : Option (Option Handed)) → slice_get handed k ≡ found → option_map (passage_of network bounds) found ≡ Some (Some p) →
-        (one : Option Handed) × (slice_get handed k ≡ Some one) × IsOver network one p
-    by None at h = absurd (cc)
-    by (Some one) at h = (one, at, passage_over network bounds one p (same_Some (passage_of network bounds one) (Some p) h))
+-- what is made of two values that are there
+made_of_two : {A B C D : Type 0} (make : A → B → C) (f : C → D) (b : Option B) (a : Option A) (d : D) →
+    option_map f (option_and_then (λ (x : A). option_map (make x) b) a) ≡ Some d → (x : A) × (y : B) × (a ≡ Some x) × (f (make x y) ≡ d)
+made_of_two make f b None d h = absurd (cc)
+made_of_two make f None (Some x) d h = absurd (cc)
+made_of_two make f (Some y) (Some x) d h = (x, y, refl, same_Some (f (make x y)) d h)
 
 -- a frame with no more octets is on its way no longer, with no more delay
 faster : (link : AccessLink) (delay other octets more : ℕ) → delay ≤ other → octets ≤ more → way_of link delay octets ≤ way_of link other more
 faster link delay other octets more less fewer = omega (arith, time_grows (octets + 8) (more + 8) link.octet_time (omega (arith, fewer)), less)
 
-times_ordered : (p : Passage) → p.link.least ≤ p.link.delay → p.handed.shortest ≤ p.handed.octets → (times_on p).least ≤ (times_on p).most
-times_ordered p delays sizes = more (faster (link_by p) p.link.least p.link.delay p.handed.shortest p.handed.octets delays sizes)
-  where
-    more : shortest_way p ≤ longest_way p → shortest_way p ≤ longest_way p + longest_wait_on p
-    more less = omega (arith, less)
+no_less : (least way wait : ℕ) → least ≤ way → least ≤ way + wait
+no_less least way wait less = omega (arith, less)
+
+-- so they are in order, if its delays and its sizes are
+one_ordered : (network : SketchDomain) (whole : List (Option Handed)) (handed : Option Handed) (times : AccessTimes) →
+    option_map times_on (passage_of network (bounds_of network whole) handed) ≡ Some times →
+    ((h : Handed) (link : TalkerLink) → handed ≡ Some h → link_at network h.place ≡ Some link → (link.least ≤ link.delay) × (h.shortest ≤ h.octets)) →
+    times.least ≤ times.most
+one_ordered network whole None times is ordered = absurd (cc)
+one_ordered network whole (Some h) times is ordered =
+    let two = made_of_two _ times_on (slice_get (bounds_of network whole) h.place) (link_at network h.place) times is in
+    let link : TalkerLink = two.0 in
+    let are = ordered h link refl two.2 in
+    subst (λ (t : AccessTimes). t.least ≤ t.most) two.3
+    (no_less (way_of (link_of link.rate None) link.least h.shortest) (way_of (link_of link.rate None) link.delay h.octets) _
+    (faster (link_of link.rate None) link.least link.delay h.shortest h.octets are.0 are.1))
 
 there_is : {X : Type 0} (xs : List X) (k : ℕ) → k < length xs → (x : X) × (slice_get xs k ≡ Some x)
 there_is [] k within = absurd (omega (arith, within))
@@ -154,20 +140,19 @@ left_with : StreamsComeByLinks → (network : SketchDomain) (found : List Networ
     edge_flows network found ≡ Ok edge → AreLeft edge
 left_with come network found edge is_sketch h =
     let e = stepped {B = EdgeFlowsText} (handed_of_all network found) (λ (handed : List (Option Handed)). Ok (edges_with network found handed)) edge h in
-    let bounds = bounds_of network e.0 in
-    let passages = map (passage_of network bounds) e.0 in
     let many = handed_each network found e.0 e.1 in
     let same = same_ok (edges_with network found e.0) edge e.2 in
     subst AreLeft same (record {
-      left = λ n. each_left passages found n (length-map e.0 (passage_of network bounds) ∙ many);
-      ordered = λ n times. each_ordered passages n times (λ k p is.
-          let over = passage_there network bounds e.0 k p is in
-          let hands : slice_get e.0 k ≡ Some (Some p.handed) = over.1 ∙ ap (λ (o : Option Handed). Some o) over.2.hands in
-          let one = there_is found k (omega (arith, slice_get_within e.0 k (Some p.handed) hands, many)) in
-          let by_link = come network found edge k one.0 p.handed h one.1 (ap (λ (x : EdgeFlowsText). slice_get x.handed k) (sym same) ∙ hands) in
-          let link = All-contains (IsTalkerLink network) network.talkers p.link is_sketch.has_talkers.each_there
-          (contains_at network.talkers p.handed.place p.link over.2.is_link) in
-          times_ordered p link.ordered by_link.sizes);
+      left = λ n. each_left network e.0 e.0 found n many;
+      ordered = λ n times is.
+          let there = times_at network e.0 e.0 n times is in
+          one_ordered network e.0 there.0 times there.2 (λ handed link own is_link.
+          let hands : slice_get e.0 n ≡ Some (Some handed) = there.1 ∙ ap (λ (o : Option Handed). Some o) own in
+          let one = there_is found n (omega (arith, slice_get_within e.0 n (Some handed) hands, many)) in
+          let by_link = come network found edge n one.0 handed h one.1 (ap (λ (x : EdgeFlowsText). slice_get x.handed n) (sym same) ∙ hands) in
+          let good = All-contains (IsTalkerLink network) network.talkers link is_sketch.has_talkers.each_there
+          (contains_at network.talkers handed.place link is_link) in
+          (good.ordered, by_link.sizes));
     })
 
 -- and of a part's
@@ -231,7 +216,7 @@ left_late first last least most deadline some ordered times long late =
 is_whole : (delivery : Delivery) (journey : Journey) → delivery.passage ≡ passage.Goes journey → has_come (fate_of delivery) ≡ true →
     (whole : Nanos) × (journey.whole ≡ Some whole)
 is_whole delivery journey goes come =
-    by journey.whole refl (ap (λ (p : PassageOf). has_come (end_of_passage delivery.at.0 p)) (sym goes) ∙ come)
+    by journey.whole refl (ap (λ (p : Passage). has_come (end_of_passage delivery.at.0 p)) (sym goes) ∙ come)
   where
     by : (o : Option Nanos) → journey.whole ≡ o → has_come (end_of_journey delivery.at.0 o journey.deadline) ≡ true →
         (whole : Nanos) × (journey.whole ≡ Some whole)

@@ -2,7 +2,6 @@
 use Rattle.std.proofs.Common.{◌≡◌, ◌∙◌, ◌∷◌, [], ℕ, suc, Bool, true, false, List, Option, Some, None, Result, Ok, Err, ap, arith, map, refl, subst, sym}
 use Rattle.std.specs.Prelude.{if◌then◌else◌, length, ok_or, option_and_then, option_map}
 use Rattle.std.specs.Option.{option_or}
-use Rattle.std.proofs.lemmas.List.{length-map}
 use Rattle.std.proofs.lemmas.Simd.{map-map}
 use Rattle.toml.specs.Data.{Data, Items, Members, as_array, as_table, item, no_items}
 use Rattle.cqf_lists.specs.Results.{and_then, refuse}
@@ -30,7 +29,6 @@ use Rattle.cqf_traffic.specs.TrafficText.{first_owed}
 use Rattle.cqf_sketch.specs.NetworkFlows.{NetworkFlowText, network_flow_from, network_flows_from, network_flows_in, network_flows_of_array, network_flows_of_text}
 use Rattle.cqf_sketch.specs.SketchDomain.{SketchDomain}
 use Rattle.cqf_sketch.specs.StreamsText.{listeners_read, shortest_read, talker_read}
-use Rattle.cqf_edge.specs.declared.edge.Passage.{Passage}
 use Rattle.cqf_edge.specs.declared.uses.Handed.{Handed}
 use Rattle.cqf_edge.specs.EdgeFlows.{EdgeFlowsText, at_edges, edge_flows, edges_with, flow_behind, flows_behind, handed_of, handed_of_all, passage_of}
 use Rattle.cqf_edge.specs.Uses.{bounds_of}
@@ -308,28 +306,27 @@ asks_of flows = map (λ (planned : PlannedText). planned.0) (map (λ (flow : Flo
 abbrev flows_in_file : List NetworkFlowText → List FlowText
 flows_in_file all = map (λ (one : NetworkFlowText). one.flow) all
 
-one_request : (p : Option Passage) (flow : FlowText) → (flow_behind p flow).0.0 ≡ flow.0.0
-one_request None flow = refl
-one_request (Some p) flow = refl
+-- what holds without a value and with each holds of any
+pub optional : {A : Type 0} (P : Option A → Type 0) (o : Option A) → P None → ((x : A) → P (Some x)) → P o
+optional P None without with_one = without
+optional P (Some x) without with_one = with_one x
 
-requests_behind : (ps : List (Option Passage)) (all : List NetworkFlowText) → length ps ≡ length all →
-    asks_of (flows_behind ps all) ≡ asks_of (flows_in_file all)
-requests_behind [] [] same = refl
-requests_behind [] (one ∷ all) same = absurd (omega (arith, same))
-requests_behind (p ∷ ps) [] same = absurd (omega (arith, same))
-requests_behind (p ∷ ps) (one ∷ all) same =
-    let rest = requests_behind ps all (omega (arith, same)) in
-    let first = one_request p one.flow in
+requests_behind : (network : SketchDomain) (whole handed : List (Option Handed)) (all : List NetworkFlowText) → length handed ≡ length all →
+    asks_of (flows_behind (map (passage_of network (bounds_of network whole)) handed) all) ≡ asks_of (flows_in_file all)
+requests_behind network whole [] [] same = refl
+requests_behind network whole [] (one ∷ all) same = absurd (omega (arith, same))
+requests_behind network whole (h ∷ handed) [] same = absurd (omega (arith, same))
+requests_behind network whole (h ∷ handed) (one ∷ all) same =
+    let rest = requests_behind network whole handed all (omega (arith, same)) in
+    let first = optional (λ p. (flow_behind p one.flow).0.0 ≡ one.flow.0.0) (passage_of network (bounds_of network whole) h) refl (λ p. refl) in
     λ i. first i ∷ rest i
 
 pub same_requests : (network : SketchDomain) (found : List NetworkFlowText) (edge : EdgeFlowsText) → edge_flows network found ≡ Ok edge →
     asks_of edge.flows ≡ asks_of (flows_in_file found)
 same_requests network found edge h =
     let e = stepped {B = EdgeFlowsText} (handed_of_all network found) (λ (handed : List (Option Handed)). Ok (edges_with network found handed)) edge h in
-    let passages = map (passage_of network (bounds_of network e.0)) e.0 in
-    let lengths = length-map e.0 (passage_of network (bounds_of network e.0)) ∙ handed_each network found e.0 e.1 in
     subst (λ (x : EdgeFlowsText). asks_of x.flows ≡ asks_of (flows_in_file found)) (same_ok (edges_with network found e.0) edge e.2)
-    (requests_behind passages found lengths)
+    (requests_behind network e.0 e.0 found (handed_each network found e.0 e.1))
 
 -- by access links
 edges_are_paced : (network : SketchDomain) (text : List ℕ) (streams : List PlannedText) →
