@@ -57,7 +57,7 @@ link_there d link node is = by (slice_get d.links link) refl is
     by None at ends = absurd (cc)
     by (Some l) at ends = slice_get_within d.links link l at
 
-least_is_some : (d : Domain) (link depth : ℕ) (node : Node) → IsAccepted d → end_of d link ≡ Some node → 0 < least_of d link depth
+pub least_is_some : (d : Domain) (link depth : ℕ) (node : Node) → IsAccepted d → end_of d link ≡ Some node → 0 < least_of d link depth
 least_is_some d link depth node accepted ends =
     some_time ((depth - 1) * d.cycle_time) (time_of 72 (octet_time_of d link)) (least_delay_of d link) d.sync
     (least_long d link accepted (link_there d link node ends))

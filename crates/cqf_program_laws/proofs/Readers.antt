@@ -15,7 +15,7 @@ use Rattle.cqf_text.specs.Parts.{parts_of}
 use Rattle.cqf_topology.specs.declared.keys.Key.TheVariants.{Streams}
 use Rattle.cqf_topology.specs.declared.toml_faults.TomlFault.{TomlFault}
 use Rattle.cqf_topology.specs.declared.toml_faults.TomlFault.TheVariants.{BadValue, Missing}
-use Rattle.cqf_topology.specs.Fields.{are_tables, document_of, each_from, first_absent, first_absent_within, first_missing, read_at, tables_from}
+use Rattle.cqf_topology.specs.Fields.{and_first, are_tables, document_of, each_from, first_absent, first_absent_within, first_missing, read_at, tables_from}
 use Rattle.cqf_topology.specs.Fields.{tables_of_key, value_at, whole_document}
 use Rattle.cqf_topology.specs.PacedText.{PacedText, paced_from, paced_of_text}
 use Rattle.cqf_topology.specs.PlannedText.{PlannedText, deadline_from, planned_from, planned_of_text}
