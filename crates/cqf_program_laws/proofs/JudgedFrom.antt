@@ -1,5 +1,5 @@
 -- What `latency` says of frames from their hand-over holds if it holds of them from their edge bridges.
-use Rattle.std.proofs.Common.{◌≡◌, ◌∙◌, ◌+◌, ◌-◌, ◌<◌, ◌≤◌, ◌∷◌, [], ℕ, zero, suc, Bool, true, false, Contains, List, Option, Some, None, Ok}
+use Rattle.std.proofs.Common.{◌≡◌, ◌∙◌, ◌+◌, ◌-◌, ◌<◌, ◌≤◌, ◌∷◌, [], ℕ, zero, suc, Bool, true, false, List, Option, Some, None, Ok}
 use Rattle.std.proofs.Common.{ap, arith, length, lt-ltb, map, refl, subst, sym}
 use Rattle.std.specs.Prelude.{if◌then◌else◌, nat_le, nat_lt, option_and_then, option_map, slice_get}
 use Rattle.std.proofs.lemmas.Bool.{le-leb}
@@ -47,7 +47,7 @@ use Rattle.cqf_program_runs.specs.declared.deliveries.delivery.Passage.TheVarian
 use Rattle.cqf_program_runs.specs.Deliveries.ArrivalLaws.{has_come}
 use Rattle.cqf_program_runs.specs.Deliveries.{end_of_journey, end_of_passage, fate_of}
 use Rattle.cqf_program_laws.specs.OutputLaws.{AreAsJudgedFrom, IsAsJudgedFrom}
-use Rattle.cqf_program_laws.specs.VerdictLaws.{AreAsJudged, IsAsJudged, IsDeliveryTo}
+use Rattle.cqf_program_laws.specs.VerdictLaws.{AreAsJudged, IsAsJudged}
 use Rattle.cqf_program_laws.proofs.FromTalkers.{least_is_some}
 use Rattle.cqf_program_laws.proofs.Judged.{said_in_time, said_late}
 use Rattle.cqf_program_laws.proofs.ReadNetworks.{network_is_read}

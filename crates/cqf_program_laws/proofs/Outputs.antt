@@ -9,7 +9,6 @@ use Rattle.cqf_model.specs.History.{Asked, Recorded, held_in}
 use Rattle.cqf_model.specs.HistoryBook.{run_of_history}
 use Rattle.cqf_model.specs.Limits.{most_cycles}
 use Rattle.cqf_model.specs.Run.{Run}
-use Rattle.cqf_text.specs.Parts.{parts_of}
 use Rattle.cqf_topology.specs.DomainText.{IsDomain}
 use Rattle.cqf_topology.specs.PacedText.{PacedText}
 use Rattle.cqf_topology.specs.PlannedText.{PlannedText}
@@ -19,8 +18,8 @@ use Rattle.cqf_sketch.specs.SketchDomain.{SketchDomain}
 use Rattle.cqf_edge.specs.EdgeFlows.{EdgeFlowsText}
 use Rattle.cqf_edge.specs.EdgeLaws.{StreamsComeByLinks}
 use Rattle.cqf_admission.specs.Asking.{asked_by}
-use Rattle.cqf_program_scenario.specs.Networks.{domain_of, domain_of_part, network_of_part}
-use Rattle.cqf_program_scenario.specs.Parts.{RunTexts, run_parts, two_parts}
+use Rattle.cqf_program_scenario.specs.Networks.{domain_of, network_of_part}
+use Rattle.cqf_program_scenario.specs.Parts.{RunTexts}
 use Rattle.cqf_program_scenario.specs.Scenario.{Scenario, scenario_input, scenario_of}
 use Rattle.cqf_program_plans.specs.Compile.Output.{admitted_from}
 use Rattle.cqf_program_plans.specs.Edges.{open_edges_of_part}

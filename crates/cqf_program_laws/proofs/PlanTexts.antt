@@ -4,7 +4,7 @@ use Rattle.cqf_lists.specs.Results.{and_then}
 use Rattle.cqf_model.specs.declared.limits.Limits.{Limits}
 use Rattle.cqf_model.specs.Domain.{Domain}
 use Rattle.cqf_text.specs.Parts.{parts_of}
-use Rattle.cqf_sketch.specs.SketchDomain.{AreCandidates, SketchDomain, network_of_text, sketch_domain_of_text}
+use Rattle.cqf_sketch.specs.SketchDomain.{AreCandidates, SketchDomain, sketch_domain_of_text}
 use Rattle.cqf_sketch.specs.StreamsText.{StreamText, sketch_streams_of_text}
 use Rattle.cqf_edge.specs.EdgeStreams.{EdgeStreamsText, edge_streams}
 use Rattle.cqf_output.specs.Stops.{or_line}
@@ -15,7 +15,7 @@ use Rattle.cqf_program_plans.specs.Reserving.{flows_line}
 use Rattle.cqf_program_plans.proofs.CompileLemmas.{same_ok}
 use Rattle.cqf_program_placing.specs.Settled.{SettledStream}
 use Rattle.cqf_program_sketch.specs.PlanOutput.{IsPlanText, IsPlannedOf, Sketched, settled_edges, sketch_input, sketch_line, unentered_line}
-use Rattle.cqf_program_sketch.specs.ReadPlans.{IsShallow, ToldPlansReadBack}
+use Rattle.cqf_program_sketch.specs.ReadPlans.{ToldPlansReadBack}
 use Rattle.cqf_program_laws.specs.PlanLaws.{IsKeptPlan}
 use Rattle.cqf_program_laws.specs.ToldPlans.{AreShallow, HasKeptPlan, ToldPlansRun}
 use Rattle.cqf_program_laws.proofs.ReadNetworks.{domain_is_read, network_is_read}

@@ -1,5 +1,5 @@
 -- A written plan keeps its word.
-use Rattle.std.proofs.Common.{◌≡◌, ◌∙◌, ◌<◌, ◌≤◌, ◌∷◌, [], ℕ, true, List, Some, inl, inr, arith, ap, sym, subst, refl, Contains, map}
+use Rattle.std.proofs.Common.{◌≡◌, ◌∙◌, ◌<◌, ◌≤◌, ◌∷◌, [], ℕ, List, Some, inl, inr, arith, ap, sym, subst, refl, Contains, map}
 use Rattle.std.specs.Prelude.{slice_get}
 use Rattle.cqf_model.specs.declared.frames.Background.{Background}
 use Rattle.cqf_model.specs.declared.frames.Offer.{Offer}

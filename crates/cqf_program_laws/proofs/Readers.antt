@@ -5,7 +5,6 @@ use Rattle.std.specs.Option.{option_or}
 use Rattle.std.proofs.lemmas.Simd.{map-map}
 use Rattle.toml.specs.Data.{Data, Items, Members, as_array, as_table, item, no_items}
 use Rattle.cqf_lists.specs.Results.{and_then, refuse}
-use Rattle.cqf_model.specs.declared.limits.Limits.{Limits}
 use Rattle.cqf_model.specs.declared.frames.Background.{Background}
 use Rattle.cqf_model.specs.declared.frames.Offer.{Offer}
 use Rattle.cqf_model.specs.Domain.{Domain}
@@ -38,12 +37,12 @@ use Rattle.cqf_output.specs.Stops.{or_line}
 use Rattle.cqf_program_scenario.specs.Lines.{script_line, streams_line}
 use Rattle.cqf_program_scenario.specs.Networks.{domain_of, network_of_part}
 use Rattle.cqf_program_scenario.specs.Parts.{RunTexts, run_parts}
-use Rattle.cqf_program_scenario.specs.Scenario.{Scenario, calls_in, frames_of_part, scenario_behind, scenario_of}
+use Rattle.cqf_program_scenario.specs.Scenario.{Scenario, calls_in, frames_of_part, scenario_of}
 use Rattle.cqf_program_plans.specs.Edges.{edge_line, edges_by_access, edges_without, full_line, has_access, open_edges_of_part}
 use Rattle.cqf_program_plans.specs.Latency.Input.{asked_in}
 use Rattle.cqf_program_plans.specs.Reserving.{flows_line}
 use Rattle.cqf_program_plans.proofs.CompileLemmas.{same_ok}
-use Rattle.cqf_program_runs.specs.Deliveries.PlannedScenario.{planned_of_part, planned_scenario, planned_scenario_of}
+use Rattle.cqf_program_runs.specs.Deliveries.PlannedScenario.{planned_of_part, planned_scenario_of}
 use Rattle.cqf_program_laws.specs.ReaderLaws.{EdgesArePlanned, FlowsArePlanned, NetworkFlowsAreFlows, PlannedPartsArePaced, PlannedScenariosAreScenarios}
 use Rattle.cqf_program_laws.specs.ReaderLaws.{PlannedStreamsArePaced, ReadersAgreeOnParts}
 use Rattle.cqf_program_laws.proofs.Scripts.{Read, lined, parted, read_of_parts, stepped, with_network, with_scenario, with_streams}

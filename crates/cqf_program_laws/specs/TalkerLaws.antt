@@ -1,5 +1,5 @@
 -- A plan keeps its word from the hand-over at the talker. What its station's other streams, other stations and administrators do changes nothing.
-use Rattle.std.specs.Prelude.{ℕ, ◌≡◌, ◌⊎◌, ◌≤◌, List, Option, Some, None, Ok, Contains, map, option_map, slice_get, true}
+use Rattle.std.specs.Prelude.{ℕ, ◌≡◌, ◌⊎◌, ◌≤◌, List, Some, None, Ok, Contains, map, option_map, slice_get, true}
 use Rattle.cqf_model.specs.Book.{Contents}
 use Rattle.cqf_model.specs.declared.frames.Background.{Background}
 use Rattle.cqf_model.specs.declared.frames.Offer.{Offer}

@@ -14,7 +14,6 @@ use Rattle.cqf_program_scenario.specs.Parts.{two_parts}
 use Rattle.cqf_program_sketch.specs.Choosing.{IsPlanned}
 use Rattle.cqf_program_sketch.specs.PlanOutput.{IsPlanOf, Sketched, sketch_input}
 use Rattle.cqf_program_sketch.specs.ReadPlans.{ComeAsPlaced, IsShallow}
-use Rattle.cqf_program_laws.specs.PlanLaws.{IsKeptPlan}
 use Rattle.cqf_program_laws.specs.TalkerLaws.{IsKeptNetwork}
 
 -- a text that every command reads as a network with nothing left to choose, and with these streams at their edge bridges. Its domain is well-formed and
