@@ -23,10 +23,10 @@ pub struct AccessTimes {
 
 /// A stream's passage by its talker's access link: the link, what the stream hands to it, and the link's bound.
 #[derive(Clone, Copy, Debug)]
-pub(crate) struct Passage {
-    pub(crate) link: TalkerLink,
-    pub(crate) handed: Handed,
-    pub(crate) bound: AccessBound,
+pub struct Passage {
+    pub link: TalkerLink,
+    pub handed: Handed,
+    pub bound: AccessBound,
 }
 
 /// Returns the time from the hand-over of a frame that doesn't wait until it is whole, given the link's delay.

@@ -11,7 +11,7 @@ use cqf_units::Name;
 
 /// Where a stream enters: at the bridge of a number, or by the access link at a place among the network's.
 #[derive(Clone, Copy, Debug)]
-pub(crate) enum Entrance {
+pub enum Entrance {
     AtBridge(usize),
     ByAccess(usize),
 }

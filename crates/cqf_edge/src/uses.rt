@@ -35,7 +35,7 @@ pub struct Handed {
 
 /// The bound of an access link: the longest time from the hand-over of a frame until another of its size, in its place, would be over.
 #[derive(Clone, Copy, Debug)]
-pub(crate) enum AccessBound {
+pub enum AccessBound {
     /// Nothing is promised on the link, so no bound is needed.
     Idle,
     /// The least bound.
