@@ -47,7 +47,7 @@ unloaded network cycle_time link = record {
   streams = 0;
 }
 
--- an access link of which one stream more takes a part; and links, of which a stream takes a part of the one at a place, if there is one
+-- an access link, with what one stream more takes; and links, with what a stream takes of the one at a place, if there is one
 abbrev pub loaded_by : ℕ → AccessLoad → AccessLoad
 loaded_by taken load =
     record { from = load.from; to = load.to; rate = load.rate; budget = load.budget; held = load.held + taken; streams = load.streams + 1 }
@@ -57,7 +57,7 @@ added_load [] place taken = []
 added_load (load ∷ loads) zero taken = loaded_by taken load ∷ loads
 added_load (load ∷ loads) (suc place) taken = load ∷ added_load loads place taken
 
--- links of which streams take parts, each of the link to which it is handed
+-- links, with what streams take, each of the link to which it is handed
 abbrev pub loads_with : ℕ → List AccessLoad → List (Option Handed) → List FlowText → List AccessLoad
 loads_with cycle_time loads [] flows = loads
 loads_with cycle_time loads (one ∷ more) [] = loads
