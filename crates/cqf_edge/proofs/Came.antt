@@ -67,7 +67,7 @@ by_places network found hs e =
     let many : length ps ≡ length found = length-map hs (passage_of network (bounds_of network hs)) ∙ e in
     record {
       flows = flows_length ps found many;
-      deadlines = length-map found (λ (one : NetworkFlowText). one.flow.0.1);
+      deadlines = refl;
       times = length-map ps (option_map times_on) ∙ many;
       handed = e;
     }

@@ -35,8 +35,8 @@ use Rattle.cqf_edge.specs.declared.uses.AccessBound.{AccessBound}
 use Rattle.cqf_edge.specs.declared.uses.Handed.{Handed}
 use Rattle.cqf_edge.specs.Edge.{closer_word, link_by, longest_way, times_on, word_from, word_on}
 use Rattle.cqf_edge.specs.EdgeFlows.{EdgeFlowsText, edge_flows, edges_with, flow_behind, flows_behind, handed_by, handed_of, handed_of_all, handed_with, passage_of}
-use Rattle.cqf_edge.specs.EdgeLaws.{ComesByLink, KeepsWord, StreamsComeByLinks}
-use Rattle.cqf_edge.specs.Entrances.{at_node, by_station, by_that_to, entrance_of, joins, leaves_station}
+use Rattle.cqf_edge.specs.EdgeLaws.{BeginsAtEdge, ComesByLink, KeepsWord, OthersBeginAtEdges, StreamsComeByLinks}
+use Rattle.cqf_edge.specs.Entrances.{agrees_with, at_node, by_station, by_that_to, entrance_of, joins, leaves_station, listeners_agree}
 use Rattle.cqf_edge.specs.Uses.{bound_by, bound_for, bound_of, bounds_from, bounds_of, full_station, handed_over, handed_to, is_full, is_handed_to, least_bound, link_with}
 use Rattle.cqf_edge.specs.Uses.{longest_frame, most_bound, other_beside, promise_in, promises_in, shortest_frame, station_at, time_in}
 use Rattle.cqf_edge.proofs.Bounds.{bound_from}
@@ -91,9 +91,9 @@ handed_same x y e = cc
 over_with : (network : SketchDomain) (one : NetworkFlowText) (talker : Talker) (y : Option Handed) → handed_with network one talker ≡ Ok y →
     (h : Handed) → y ≡ Some h → IsOver network one h
 over_with network one talker =
-    after (λ y. (h : Handed) → y ≡ Some h → IsOver network one h) _ _ (λ entrance at.
-    after (λ y. (h : Handed) → y ≡ Some h → IsOver network one h) _ _ (λ _ _.
-    after (λ y. (h : Handed) → y ≡ Some h → IsOver network one h) _ _ (λ _ _ y made h e.
+    after (λ y. (h : Handed) → y ≡ Some h → IsOver network one h) (entrance_of network talker) _ (λ entrance at.
+    after (λ y. (h : Handed) → y ≡ Some h → IsOver network one h) (agrees_with network one.flow.0.0.paths entrance) _ (λ _ _.
+    after (λ y. (h : Handed) → y ≡ Some h → IsOver network one h) (listeners_agree one.flow.0.0.paths one.listeners) _ (λ _ _ y made h e.
     over_by network one entrance h (handed_same _ y made ∙ e) (λ place same.
     node_inside network (place_of talker.node network.bridges) (place_of talker.node network.stations) talker.bridge place (at ∙ ap Ok same)))))
 
@@ -245,6 +245,24 @@ comes_with network found hs k one h read at hands =
           (ap (λ (x : Handed). x.octets) over.is ∙ ap (longest_frame one.flow.0.0.octets) is)
           (none_passes is_full bounds h.place b (unmapped_none (station_at network) (position is_full bounds) none) there);
     }
+
+begins_with : (network : SketchDomain) (found : List NetworkFlowText) (hs : List (Option Handed)) (k : ℕ) (one : NetworkFlowText) →
+    slice_get found k ≡ Some one → slice_get hs k ≡ Some None → BeginsAtEdge (edges_with network found hs) k one
+begins_with network found hs k one at hands =
+    let ps = map (passage_of network (bounds_of network hs)) hs in
+    let passage : slice_get ps k ≡ Some None =
+    slice_get-map (passage_of network (bounds_of network hs)) hs k ∙ ap (option_map (passage_of network (bounds_of network hs))) hands in
+    record {
+      at_edge = flow_there ps found k None one passage at;
+      no_times = slice_get-map (option_map times_on) ps k ∙ ap (option_map (option_map times_on)) passage;
+    }
+
+pub others_begin_at_edges : OthersBeginAtEdges
+others_begin_at_edges network found edge stream one h at hands =
+    let (hs, read, made_of) = and_then-Ok (handed_of_all network found) (λ handed. Ok (edges_with network found handed)) edge h in
+    let same = edge_same network found hs edge made_of in
+    subst (λ (x : EdgeFlowsText). BeginsAtEdge x stream one) same
+    (begins_with network found hs stream one at (ap (λ (x : EdgeFlowsText). slice_get x.handed stream) same ∙ hands))
 
 pub streams_come_by_links : StreamsComeByLinks
 streams_come_by_links network found edge stream one handed h at hands =

@@ -1,15 +1,16 @@
 -- What is read of a text has traffic as it may be written.
-use Rattle.std.proofs.Common.{◌≡◌, ℕ, ◌≤◌, All, Bool, true, false, List, Option, Some, None, Result, Ok, Err, ap, arith, ok_or, refl, subst}
+use Rattle.std.proofs.Common.{◌≡◌, ℕ, ◌≤◌, [], All, Bool, true, false, List, Option, Some, None, Result, Ok, Err, ap, arith, ok_or, refl, subst}
 use Rattle.std.specs.Prelude.{if◌then◌else◌}
 use Rattle.std.specs.Option.{ForSome}
 use Rattle.std.specs.Result.{result_map_both}
 use Rattle.std.proofs.lemmas.Option.{same_Some}
-use Rattle.toml.specs.Data.{Data, Items, Members, as_array, as_integer, as_table}
+use Rattle.toml.specs.Data.{Data, Items, Members, as_array, as_integer, as_str, as_table}
 use Rattle.cqf_lists.specs.Results.{and_then}
 use Rattle.cqf_topology.specs.declared.keys.Key.TheVariants as key
 use Rattle.cqf_topology.specs.declared.toml_faults.TomlFault.TheVariants as toml_fault
-use Rattle.cqf_topology.specs.Fields.{are_tables, number_from, read_at, within_range}
-use Rattle.cqf_topology.specs.PlannedText.{planned_from}
+use Rattle.cqf_topology.specs.Fields.{are_tables, number_from, read_at, whole_document, within_range}
+use Rattle.cqf_topology.specs.PlannedText.{deadline_from, planned_from}
+use Rattle.cqf_topology.specs.StreamsText.{streams_keys}
 use Rattle.cqf_topology.proofs.Refusals.{and_then-Ok, and_then-Some, each_from-All, ok_or-Ok, refuse-Ok, within_range-Some}
 use Rattle.cqf_traffic.specs.declared.faults.FlowsFault.{FlowsFault}
 use Rattle.cqf_traffic.specs.declared.faults.FlowsFault.TheVariants as flows_fault
@@ -19,7 +20,8 @@ use Rattle.cqf_traffic.specs.FlowsText.{FlowText, first_lack_of, flow_from, or_s
 use Rattle.cqf_traffic.specs.Keys.{least_of, most_of}
 use Rattle.cqf_traffic.specs.TrafficText.{TrafficText, has_traffic, number_at, number_by, numbers_from, traffic_from, value_at}
 use Rattle.cqf_sketch.specs.NetworkFlows.{NetworkFlowText, network_flow_from, network_flows_from, network_flows_in, network_flows_of_array, network_flows_of_text}
-use Rattle.cqf_sketch.specs.StreamsText.{StreamText, sketch_streams_of_text, stream_from, streams_from, streams_in, streams_of_array}
+use Rattle.cqf_sketch.specs.StreamsText.{StreamText, branches_if, listeners_read, octets_from, pacing_from, shortest_read, sketch_streams_of_text}
+use Rattle.cqf_sketch.specs.StreamsText.{stream_from, streams_from, streams_in, streams_of_array, talker_read, way_by}
 use Rattle.cqf_sketch.specs.StreamsText.{first_lack_of as wanted_lack}
 use Rattle.cqf_edge.specs.Edge.{IsWritten}
 use Rattle.cqf_edge.specs.EdgeFlows.{IsWrittenFlow}
@@ -77,9 +79,9 @@ pub after : {A B E : Type 0} (P : B → Type 0) (r : Result A E) (next : A → R
 after P (Ok x) next each y h = each x refl y h
 after P (Err e) next each y h = absurd cc
 
--- a stream of which nothing is open
-IsWrittenPair : FlowText → Type 0
-IsWrittenPair = λ flow. ForSome flow.1 IsWritten
+-- a stream of a network that has nothing open
+abbrev IsWrittenPair : FlowText → Type 0
+IsWrittenPair flow = ForSome flow.1 IsWritten
 
 pair_same : (x y : FlowText) → ◌≡◌ {A = Result FlowText FlowsFault} (Ok x) (Ok y) → x ≡ y
 pair_same x y e = cc
@@ -95,10 +97,10 @@ found_same x y e = cc
 
 network_flow_written : (table : Members) (found : NetworkFlowText) → network_flow_from table ≡ Ok found → IsWrittenFlow found
 network_flow_written table =
-    after IsWrittenFlow _ _ (λ flow read.
-    after IsWrittenFlow _ _ (λ talker _.
-    after IsWrittenFlow _ _ (λ listeners _.
-    after IsWrittenFlow _ _ (λ shortest _ found made.
+    after IsWrittenFlow (flow_from table) _ (λ flow read.
+    after IsWrittenFlow (or_streams (talker_read table)) _ (λ talker _.
+    after IsWrittenFlow (or_streams (listeners_read table)) _ (λ listeners _.
+    after IsWrittenFlow (shortest_read flow.1 table) _ (λ shortest _ found made.
     subst IsWrittenFlow (found_same (record { flow = flow; talker = talker; listeners = listeners; shortest = shortest }) found made) (flow_written table flow read)))))
 
 -- an element of an array
@@ -108,8 +110,8 @@ element_written d =
     after IsWrittenFlow (ok_or (as_table d) (flows_fault.Streams (toml_fault.BadValue key.Streams))) network_flow_from (λ table _ found h. network_flow_written table found h)
 
 -- and all of a text
-AreWritten : List NetworkFlowText → Type 0
-AreWritten = λ founds. All IsWrittenFlow founds
+abbrev AreWritten : List NetworkFlowText → Type 0
+AreWritten founds = All IsWrittenFlow founds
 
 array_written : (items : Items) (founds : List NetworkFlowText) → network_flows_of_array items ≡ Ok founds → AreWritten founds
 array_written items founds h = by (are_tables items) h
@@ -124,7 +126,7 @@ document_written table =
 
 pub flows_written : (text : List ℕ) (founds : List NetworkFlowText) → network_flows_of_text text ≡ Ok founds → All IsWrittenFlow founds
 flows_written text =
-    after AreWritten _ _ (λ table _ founds h.
+    after AreWritten (or_streams (whole_document streams_keys key.Streams [] text)) _ (λ table _ founds h.
     document_written table founds (refuse-Ok (first_lack_of table) (λ fault. fault) (network_flows_in table) founds h).1)
 
 -- ---- a stream that is to be planned
@@ -134,16 +136,16 @@ stream_same x y e = cc
 
 stream_written : (table : Members) (stream : StreamText) → stream_from table ≡ Ok stream → IsWrittenStream stream
 stream_written table =
-    after IsWrittenStream _ _ (λ name _.
-    after IsWrittenStream _ _ (λ octets _.
-    after IsWrittenStream _ _ (λ pacing _.
-    after IsWrittenStream _ _ (λ paths _.
-    after IsWrittenStream _ _ (λ talker _.
-    after IsWrittenStream _ _ (λ listeners _.
-    after IsWrittenStream _ _ (λ way _.
-    after IsWrittenStream _ _ (λ deadline _.
-    after IsWrittenStream _ _ (λ traffic read.
-    after IsWrittenStream _ _ (λ shortest _ stream made.
+    after IsWrittenStream (or_streams (read_at key.Name as_str table)) _ (λ name _.
+    after IsWrittenStream (or_streams (octets_from table)) _ (λ octets _.
+    after IsWrittenStream (pacing_from table) _ (λ pacing _.
+    after IsWrittenStream (or_streams (branches_if table)) _ (λ paths _.
+    after IsWrittenStream (or_streams (talker_read table)) _ (λ talker _.
+    after IsWrittenStream (or_streams (listeners_read table)) _ (λ listeners _.
+    after IsWrittenStream (or_streams (way_by paths talker listeners)) _ (λ way _.
+    after IsWrittenStream (or_streams (deadline_from table)) _ (λ deadline _.
+    after IsWrittenStream (traffic_or table) _ (λ traffic read.
+    after IsWrittenStream (shortest_read traffic table) _ (λ shortest _ stream made.
     subst IsWrittenStream (stream_same (record {
       name = name;
       octets = octets;
@@ -161,8 +163,8 @@ wanted_written : (d : Data) (stream : StreamText) → and_then (ok_or (as_table 
 wanted_written d =
     after IsWrittenStream (ok_or (as_table d) (flows_fault.Streams (toml_fault.BadValue key.Streams))) stream_from (λ table _ stream h. stream_written table stream h)
 
-AreWrittenStreams : List StreamText → Type 0
-AreWrittenStreams = λ streams. All IsWrittenStream streams
+abbrev AreWrittenStreams : List StreamText → Type 0
+AreWrittenStreams streams = All IsWrittenStream streams
 
 wanted_array_written : (items : Items) (streams : List StreamText) → streams_of_array items ≡ Ok streams → AreWrittenStreams streams
 wanted_array_written items streams h = by (are_tables items) h
@@ -177,5 +179,5 @@ wanted_document_written table =
 
 pub streams_written : (text : List ℕ) (streams : List StreamText) → sketch_streams_of_text text ≡ Ok streams → All IsWrittenStream streams
 streams_written text =
-    after AreWrittenStreams _ _ (λ table _ streams h.
+    after AreWrittenStreams (or_streams (whole_document streams_keys key.Streams [] text)) _ (λ table _ streams h.
     wanted_document_written table streams (refuse-Ok (wanted_lack table) (λ fault. fault) (streams_in table) streams h).1)

@@ -1,4 +1,4 @@
--- The streams of a network of which nothing is open, as they come to their edge bridges; or the first fault of their talkers.
+-- The streams of a network that has nothing open, at their edge bridges; or the first fault of their talkers.
 use Rattle.std.specs.Prelude.{ℕ, ◌<◌, ◌≤◌, List, [], ◌∷◌, Option, Some, None, Result, Ok, if◌then◌else◌, length, map, option_and_then, option_map, slice_get}
 use Rattle.std.specs.Option.{ForSome, option_map_or}
 use Rattle.std.specs.Result.{result_map_both}
@@ -23,12 +23,12 @@ use Rattle.cqf_edge.specs.Edge.{IsPassage, IsWritten, left_behind, times_on, wor
 use Rattle.cqf_edge.specs.Entrances.{agrees_with, entrance_of, link_at, listeners_agree}
 use Rattle.cqf_edge.specs.Uses.{bounds_of, full_station, handed_over}
 
--- what a stream hands to an access link, where it enters by one
+-- what a stream hands to an access link, if it enters by one
 abbrev pub handed_by : Entrance → ℕ → Option ℕ → Option TrafficText → Option Handed
 handed_by (entrance.AtBridge bridge) octets shortest traffic = None
 handed_by (entrance.ByAccess place) octets shortest traffic = Some (handed_over place octets shortest traffic)
 
--- of a stream whose talker the text says: it enters there, and its branches agree with it and with its listeners
+-- the same for a stream with a talker in its text. Its branches have to agree with the talker and with the listeners
 abbrev pub handed_with : SketchDomain → NetworkFlowText → Talker → Result (Option Handed) TalkerFault
 handed_with network found talker =
     and_then (entrance_of network talker) (λ entrance.
@@ -36,31 +36,31 @@ handed_with network found talker =
     and_then (listeners_agree found.flow.0.0.paths found.listeners) (λ _.
     Ok (handed_by entrance found.flow.0.0.octets found.shortest found.flow.1))))
 
--- a stream's fault, with its name. One whose name hasn't the form of one is never admitted, and hands nothing over
+-- a stream's fault with its name. A stream whose name isn't well-formed is never admitted, so it hands nothing over
 abbrev pub or_named : List ℕ → Result (Option Handed) TalkerFault → Result (Option Handed) EdgeFault
 or_named name found = if is_name name then result_map_both (λ handed. handed) (λ why. fault.Talker name why) found else Ok None
 
 abbrev pub handed_of : SketchDomain → NetworkFlowText → Result (Option Handed) EdgeFault
 handed_of network found = option_map_or (λ talker. or_named found.flow.0.0.name (handed_with network found talker)) found.talker (Ok None)
 
--- of all of them, or the first fault
+-- the same for all streams, or the first fault
 abbrev pub handed_of_all : SketchDomain → List NetworkFlowText → Result (List (Option Handed)) EdgeFault
 handed_of_all network [] = Ok []
 handed_of_all network (found ∷ rest) = and_first (handed_of network found) (handed_of_all network rest)
 
--- how a stream goes by the link that it is handed to
+-- a stream's passage by the link that it is handed to
 abbrev pub passage_of : SketchDomain → List AccessBound → Option Handed → Option Passage
 passage_of network bounds one = option_and_then (λ (handed : Handed).
     option_and_then (λ link. option_map (λ found. record { link = link; handed = handed; bound = found }) (slice_get bounds handed.place))
     (link_at network handed.place)) one
 
--- the stream as it comes to its edge bridge: only its deadline and its traffic are others there
+-- the stream at its edge bridge: only its deadline and its traffic are different there
 abbrev pub flow_behind : Option Passage → FlowText → FlowText
 flow_behind None flow = flow
 flow_behind (Some p) flow = ((flow.0.0, option_map (left_behind (times_on p)) flow.0.1), word_on p)
 
--- the streams of a network as they come to their edge bridges; their deadlines as they are written; how long their frames take there from the
--- hand-over; what they hand over; and the station of the first access link that is full
+-- the streams of a network at their edge bridges; their deadlines as they are written; the times of their frames from the hand-over to there;
+-- what they hand over; and the station of the first access link that is full
 pub record EdgeFlowsText : Type 0 where
   pub flows : List FlowText
   pub deadlines : List (Option ℕ)
@@ -88,7 +88,7 @@ edges_with network all handed = edges_by network all handed (bounds_of network h
 abbrev pub edge_flows : SketchDomain → List NetworkFlowText → Result EdgeFlowsText EdgeFault
 edge_flows network all = and_then (handed_of_all network all) (λ handed. Ok (edges_with network all handed))
 
--- streams of a network whose stations have no access links: each begins at its edge bridge
+-- the same for a network without access links: each stream begins at its edge bridge
 abbrev pub at_edges : List FlowText → EdgeFlowsText
 at_edges flows = record {
   flows = flows;
@@ -98,7 +98,7 @@ at_edges flows = record {
   full = None;
 }
 
--- the traffic of streams is as a text may have it
+-- a stream's jitter and offset are some that a text may have
 abbrev pub IsWrittenFlow : NetworkFlowText → Type 0
 IsWrittenFlow found = ForSome found.flow.1 IsWritten
 

@@ -1,5 +1,5 @@
--- What streams keep at their edge bridges of what their talkers promise at the hand-over.
-use Rattle.std.specs.Prelude.{ℕ, ◌≡◌, ◌+◌, ◌≤◌, List, Option, Some, None, Ok, length, option_map, slice_get}
+-- What streams promise at their edge bridges, given what their talkers promise at the hand-over.
+use Rattle.std.specs.Prelude.{ℕ, ◌≡◌, ◌+◌, ◌≤◌, List, Option, Some, None, Ok, length, map, option_map, slice_get}
 use Rattle.std.specs.Option.{ForSome}
 use Rattle.cqf_traffic.specs.FlowsText.{FlowText}
 use Rattle.cqf_traffic.specs.TrafficText.{TrafficText, promise_of}
@@ -15,12 +15,12 @@ use Rattle.cqf_edge.specs.Edge.{delays_of, left_behind}
 use Rattle.cqf_edge.specs.EdgeFlows.{EdgeFlowsText, edge_flows}
 use Rattle.cqf_edge.specs.Uses.{handed_to, link_with, other_beside, promises_in}
 
--- the access link that a stream is handed to, with how large a frame may be there that no promise is about
+-- the access link that a stream is handed to, with the largest size of a frame without a promise there
 abbrev pub link_used : EdgeFlowsText → Handed → TalkerLink → AccessLink
 link_used edge handed link = link_with link (other_beside link.other (handed_to handed.place edge.handed))
 
--- where no access link is full, there is a bound of the waits on the link by what is promised of it, and by that the stream keeps its word at the
--- edge bridge; its frames take no longer than the least and the most times there
+-- a stream that promises something, if no access link is full: there is a bound of its link for all that is promised there. The stream's promise
+-- at the edge bridge, its grid there and the times of its frames from the hand-over to there are those for this bound
 pub record KeepsWord (edge : EdgeFlowsText) (handed : Handed) (link : TalkerLink) (traffic : Option TrafficText) (times : AccessTimes) (t : TrafficText) : Type 0 where
   pub bound : ℕ
   pub is_bound : IsBound (link_used edge handed link) (promises_in (handed_to handed.place edge.handed)) bound
@@ -31,7 +31,7 @@ pub record KeepsWord (edge : EdgeFlowsText) (handed : Handed) (link : TalkerLink
   pub least : times.least ≡ way_of (link_used edge handed link) link.least handed.shortest
   pub most : times.most ≡ way_of (link_used edge handed link) link.delay t.size + longest_wait (link_used edge handed link) bound (promise_of t)
 
--- a stream that is handed to an access link of the network: only its deadline and its traffic are others at its edge bridge
+-- a stream that is handed to an access link of the network: only its deadline and its traffic are different at its edge bridge
 pub record ComesByLink (network : SketchDomain) (edge : EdgeFlowsText) (stream : ℕ) (one : NetworkFlowText) (handed : Handed) : Type 0 where
   pub link : TalkerLink
   pub is_link : slice_get network.talkers handed.place ≡ Some link
@@ -51,10 +51,20 @@ StreamsComeByLinks =
     edge_flows network found ≡ Ok edge → slice_get found stream ≡ Some one →
     slice_get edge.handed stream ≡ Some (Some handed) → ComesByLink network edge stream one handed
 
--- each stream has its flow, its deadline, its times, and what it hands over, by the same places
+-- a stream that isn't handed to an access link is at its edge bridge as its text has it
+pub record BeginsAtEdge (edge : EdgeFlowsText) (stream : ℕ) (one : NetworkFlowText) : Type 0 where
+  pub at_edge : slice_get edge.flows stream ≡ Some one.flow
+  pub no_times : slice_get edge.times stream ≡ Some None
+
+abbrev pub OthersBeginAtEdges : Type 0
+OthersBeginAtEdges =
+    (network : SketchDomain) (found : List NetworkFlowText) (edge : EdgeFlowsText) (stream : ℕ) (one : NetworkFlowText) →
+    edge_flows network found ≡ Ok edge → slice_get found stream ≡ Some one → slice_get edge.handed stream ≡ Some None → BeginsAtEdge edge stream one
+
+-- each stream has its flow, its deadline, its times, and what it hands over, by the same places; the deadlines are those in the text
 pub record AreByPlaces (found : List NetworkFlowText) (edge : EdgeFlowsText) : Type 0 where
   pub flows : length edge.flows ≡ length found
-  pub deadlines : length edge.deadlines ≡ length found
+  pub deadlines : edge.deadlines ≡ map (λ (one : NetworkFlowText). one.flow.0.1) found
   pub times : length edge.times ≡ length found
   pub handed : length edge.handed ≡ length found
 

@@ -1,4 +1,4 @@
--- The streams of a network that is to be planned, as they come to their edge bridges; or the first fault of their talkers.
+-- The streams of a network that is to be planned, at their edge bridges; or the first fault of their talkers.
 use Rattle.std.specs.Prelude.{ℕ, ◌&&◌, List, [], ◌∷◌, Bool, true, false, Option, Some, None, Result, Ok, Err, if◌then◌else◌, is_none, map, option_map, unwrap_or}
 use Rattle.std.specs.Option.{ForSome, option_map_or}
 use Rattle.cqf_lists.specs.Results.{and_then}
@@ -24,7 +24,7 @@ use Rattle.cqf_edge.specs.EdgeFlows.{handed_by, passage_of}
 use Rattle.cqf_edge.specs.Entrances.{IsEntrance, agrees_with, edge_name, entrance_of, listeners_agree}
 use Rattle.cqf_edge.specs.Uses.{bounds_of, full_station}
 
--- where a stream of a talker enters: given branches agree with it and with its listeners
+-- where a stream of a talker enters. Its branches, if they are given, have to agree with the talker and with the listeners
 abbrev pub entrance_by : SketchDomain → StreamText → Entrance → WantedText → Result Entrance TalkerFault
 entrance_by network stream entrance (Between from to) = Ok entrance
 entrance_by network stream entrance (Along paths) =
@@ -33,7 +33,8 @@ entrance_by network stream entrance (Along paths) =
 abbrev pub entrance_with : SketchDomain → StreamText → Talker → Result Entrance TalkerFault
 entrance_with network stream talker = and_then (entrance_of network talker) (λ entrance. entrance_by network stream entrance stream.way)
 
--- that a node is no talker is told when the stream is settled, in its order there, unless a bridge stands behind its name
+-- whether a stream's way is open; and a stream's fault. `NoTalker` isn't one here if the stream's way is open and its text names no bridge with
+-- the talker: it is found in its turn when the stream is settled
 abbrev pub is_between : WantedText → Bool
 is_between (Along paths) = false
 is_between (Between from to) = true
@@ -48,7 +49,7 @@ abbrev pub told_now : StreamText → Talker → Result Entrance TalkerFault → 
 told_now stream talker (Ok entrance) = Ok (Some entrance)
 told_now stream talker (Err why) = or_later stream talker why
 
--- where a stream enters, where its text says its talker. One whose name hasn't the form of one is never settled, and enters nowhere
+-- where a stream enters, if its text has a talker. A stream whose name isn't well-formed is never settled, so it enters nowhere
 abbrev pub entrance_of_stream : SketchDomain → StreamText → Result (Option Entrance) EdgeFault
 entrance_of_stream network stream =
     option_map_or (λ talker. if is_name stream.name then told_now stream talker (entrance_with network stream talker) else Ok None) stream.talker (Ok None)
@@ -67,17 +68,17 @@ handed_at_each [] entrances = []
 handed_at_each (stream ∷ streams) [] = []
 handed_at_each (stream ∷ streams) (entrance ∷ entrances) = handed_at stream entrance ∷ handed_at_each streams entrances
 
--- the way of a stream from its edge bridge on: what goes between a talker and its listeners begins at the bridge at which it enters
+-- the way of a stream from its edge bridge on: an open way begins at the bridge where the stream enters
 abbrev pub way_behind : SketchDomain → Entrance → WantedText → WantedText
 way_behind network entrance (Along paths) = Along paths
 way_behind network entrance (Between from to) = Between (edge_name network entrance) to
 
--- its word there: where it is to be chosen in which cycles it is offered, each of its frames has to come in one of these
+-- its promise there. If the cycles in which it is offered are still to be chosen, each of its frames has to come in one of these cycles
 abbrev pub word_at : Pacing → Passage → Option TrafficText
 word_at (Given every phase) p = word_on p
 word_at InStep p = steps_on p
 
--- the stream as it comes there, with what is left of its deadline and with the word that it keeps there; one that enters nowhere stays as it is
+-- the stream there, with what is left of its deadline and with its promise there. A stream that enters nowhere is as it was
 abbrev pub deadline_behind : Option Passage → Option ℕ → Option ℕ
 deadline_behind None deadline = deadline
 deadline_behind (Some p) deadline = option_map (left_behind (times_on p)) deadline
@@ -110,7 +111,7 @@ streams_behind network (entrance ∷ entrances) [] (stream ∷ streams) = []
 streams_behind network (entrance ∷ entrances) (p ∷ ps) (stream ∷ streams) =
     stream_behind network entrance p stream ∷ streams_behind network entrances ps streams
 
--- all of them, how long their frames take there, and the station of the first access link that is full
+-- all streams there, the times of their frames from the hand-over to there, and the station of the first access link that is full
 pub record EdgeStreamsText : Type 0 where
   pub streams : List StreamText
   pub times : List (Option AccessTimes)
@@ -130,10 +131,10 @@ abbrev pub edge_streams : SketchDomain → List StreamText → Result EdgeStream
 edge_streams network all =
     and_then (entrances_of network all) (λ entrances. Ok (streams_from network all entrances (handed_at_each all entrances)))
 
--- the traffic of streams is as a text may have it
+-- a stream's jitter and offset are some that a text may have
 abbrev pub IsWrittenStream : StreamText → Type 0
 IsWrittenStream stream = ForSome stream.traffic IsWritten
 
--- streams enter at nodes of a network
+-- a stream enters at a bridge or by an access link of the network, or nowhere
 abbrev pub IsEntranceOne : SketchDomain → Option Entrance → Type 0
 IsEntranceOne network one = ForSome one (IsEntrance network)

@@ -1,4 +1,4 @@
--- What streams at their edge bridges are to those who hold them.
+-- What the values of streams at their edge bridges mean.
 use Rattle.std.specs.Prelude.{ℕ, map}
 use Rattle.cqf_traffic.specs.FlowsText.{flow_text}
 use Rattle.cqf_sketch.specs.StreamsText.{stream_text}
@@ -7,7 +7,7 @@ use Rattle.cqf_edge.specs.declared.streams.EdgeStreams.{EdgeStreams}
 use Rattle.cqf_edge.specs.EdgeFlows.{EdgeFlowsText}
 use Rattle.cqf_edge.specs.EdgeStreams.{EdgeStreamsText}
 
--- those of which nothing is open
+-- streams of a network that has nothing open
 abbrev pub edges_text : EdgeFlows → EdgeFlowsText
 edges_text edge = record {
   flows = map flow_text edge.flows.items;
@@ -17,6 +17,6 @@ edges_text edge = record {
   full = edge.full;
 }
 
--- and those that are to be planned
+-- streams of a network that is to be planned
 abbrev pub edge_streams_text : EdgeStreams → EdgeStreamsText
 edge_streams_text edge = record { streams = map stream_text edge.streams.items; times = edge.times.items; full = edge.full }

@@ -21,7 +21,7 @@ leaves_station station link = link.station == station
 abbrev pub joins : ℕ → ℕ → TalkerLink → Bool
 joins station bridge link = (link.station == station) && (link.bridge == bridge)
 
--- by a station's access link: the one to a bridge, or the only one where the text names none
+-- by a station's access link: the one to a bridge, or the only one if the text names no bridge
 abbrev pub by_the_only : SketchDomain → ℕ → Result Entrance TalkerFault
 by_the_only network station =
     refuse (if_so (nat_lt 1 (count_by (leaves_station station) network.talkers))) (λ _. TwoAccessLinks) (
@@ -35,7 +35,7 @@ abbrev pub by_station : SketchDomain → ℕ → Option (List ℕ) → Result En
 by_station network station None = by_the_only network station
 by_station network station (Some bridge) = by_that_to network station (place_of bridge network.bridges)
 
--- at a bridge: no second name may stand behind its own
+-- at a bridge: the text may not name another bridge with it
 abbrev pub at_bridge : ℕ → Option (List ℕ) → Result Entrance TalkerFault
 at_bridge bridge None = Ok (AtBridge bridge)
 at_bridge bridge (Some other) = Err NoTalker
@@ -65,7 +65,7 @@ IsEntrance network (ByAccess place) = place < length network.talkers
 abbrev pub edge_name : SketchDomain → Entrance → List ℕ
 edge_name network entrance = slice_index_or network.bridges (edge_bridge network entrance) []
 
--- given branches begin there, and end at the listeners, in their order
+-- given branches begin there, and end at the listeners, in the same order
 abbrev pub begins_with : List ℕ → List (List ℕ) → Bool
 begins_with name [] = false
 begins_with name (first ∷ rest) = is_text name first

@@ -14,11 +14,11 @@ use Rattle.cqf_edge.specs.declared.uses.AccessUse.{AccessUse}
 use Rattle.cqf_edge.specs.declared.uses.AccessBound.{AccessBound}
 use Rattle.cqf_edge.specs.declared.uses.AccessBound.TheVariants as bound
 
--- how large a stream's frames are at most: as its traffic lets them be, or else as its reservation, and a frame, does
+-- the largest size of a stream's frames: that of its traffic; without traffic its reservation, if a frame can be so large
 abbrev pub longest_frame : ℕ → Option TrafficText → ℕ
 longest_frame octets traffic = option_map_or (λ (t : TrafficText). t.size) traffic (min octets 1522)
 
--- how short they are: as the text says; or else all as large as its traffic's, or as short as a frame
+-- the smallest size: as the text says, or else that of its traffic; without traffic the smallest size of a frame
 abbrev pub shortest_frame : Option ℕ → Option TrafficText → ℕ
 shortest_frame (Some octets) traffic = octets
 shortest_frame None traffic = option_map_or (λ (t : TrafficText). t.size) traffic 64
@@ -32,11 +32,11 @@ handed_over place octets shortest traffic = record {
   traffic = traffic;
 }
 
--- it is one of so many
+-- the access link is one of this number of links
 abbrev pub IsHandedTo : ℕ → Option Handed → Type 0
 IsHandedTo count one = ForSome one (λ handed. handed.place < count)
 
--- the larger of two numbers, where there is one
+-- the larger of two numbers, of those that are given
 abbrev pub larger : Option ℕ → Option ℕ → Option ℕ
 larger None other = other
 larger (Some one) None = Some one
@@ -50,15 +50,15 @@ is_handed_to place (Some handed) = handed.place == place
 abbrev pub handed_to : ℕ → List (Option Handed) → List Handed
 handed_to place all = flat_map (λ one. if is_handed_to place one then option_map_or (λ handed. handed ∷ []) one [] else []) all
 
--- what is promised of it
+-- what is promised of them
 abbrev pub promise_in : Handed → List Traffic
 promise_in handed = option_map_or (λ (t : TrafficText). promise_of t ∷ []) handed.traffic []
 
 abbrev pub promises_in : List Handed → List Traffic
 promises_in all = flat_map promise_in all
 
--- how large a frame may be that no promise is about: what the text says of the station, or a frame of a stream that promises nothing. Such a
--- stream's frames are like those of no stream: one may be under way when a promised one is handed over, and else they wait for these
+-- the largest size of a frame without a promise: a frame of no stream, as the text says of the station, or a frame of a stream that promises
+-- nothing. These frames wait for all others, but one of them may be under way when another is handed over
 abbrev pub unpromised : Handed → Option ℕ
 unpromised handed = if is_none handed.traffic then Some handed.octets else None
 
@@ -66,14 +66,14 @@ abbrev pub other_beside : Option ℕ → List Handed → Option ℕ
 other_beside other [] = other
 other_beside other (handed ∷ all) = other_beside (larger other (unpromised handed)) all
 
--- what is handed to access links is as it is of each by its place
+-- the uses of some access links: of each, what is handed to its place
 pub record AreUses (links : List TalkerLink) (all : List (Option Handed)) (uses : List AccessUse) : Type 0 where
   pub each : length uses ≡ length links
   pub others : (k : ℕ) (link : TalkerLink) (use_of : AccessUse) → slice_get links k ≡ Some link → slice_get uses k ≡ Some use_of →
       use_of.other ≡ other_beside link.other (handed_to k all)
   pub promises : (k : ℕ) (use_of : AccessUse) → slice_get uses k ≡ Some use_of → map promise_of use_of.promises.items ≡ promises_in (handed_to k all)
 
--- the least time above 0, up to so long, in which a link sends all that is promised within it, with one frame that no promise is about
+-- the least time above 0, and up to `most`, in which a link sends all that is promised within this time, and one frame without a promise
 abbrev pub most_bound : ℕ
 most_bound = 1000000000
 
@@ -83,12 +83,12 @@ is_enough link promises time = nat_le (demand link promises time) time
 unfoldable pub least_bound : AccessLink → List Traffic → ℕ → Option ℕ
 least_bound link promises most = option_map suc (least (λ k. is_enough link promises (suc k)) most)
 
--- an access link, with how large a frame may be that no promise is about
+-- an access link, with the largest size of a frame without a promise
 abbrev pub link_with : TalkerLink → Option ℕ → AccessLink
 link_with link other = record { octet_time = ticks_of_octet link.rate; other = other }
 
--- how long what is handed to a link waits at most, with what a frame of its size takes: nothing can be said where nothing is promised; else it
--- is the least time that is enough; or there is none so short
+-- the bound of a link: the longest time from the hand-over of a frame until another of its size would be over. There is none if nothing is
+-- promised; else it is the least time that is enough, or the link is full
 abbrev pub bound_by : Option ℕ → AccessBound
 bound_by None = bound.Full
 bound_by (Some time) = bound.Within (record { 0 = time })
@@ -100,7 +100,7 @@ bound_of link other (t ∷ ts) = bound_by (least_bound (link_with link other) (t
 abbrev pub bound_for : List (Option Handed) → ℕ → TalkerLink → AccessBound
 bound_for all place link = bound_of link (other_beside link.other (handed_to place all)) (promises_in (handed_to place all))
 
--- so of each access link of a network, from a place on
+-- the bounds of the access links from a place on, and of all of a network
 abbrev pub bounds_from : List (Option Handed) → ℕ → List TalkerLink → List AccessBound
 bounds_from all place [] = []
 bounds_from all place (link ∷ links) = bound_for all place link ∷ bounds_from all (place + 1) links
@@ -108,7 +108,7 @@ bounds_from all place (link ∷ links) = bound_for all place link ∷ bounds_fro
 abbrev pub bounds_of : SketchDomain → List (Option Handed) → List AccessBound
 bounds_of network all = bounds_from all 0 network.talkers
 
--- the time of a bound; where nothing is known of waiting, frames are taken not to wait
+-- the time of a bound. If no wait is known, it is taken as 0
 abbrev pub time_in : AccessBound → ℕ
 time_in bound.Idle = 0
 time_in (bound.Within time) = time.0

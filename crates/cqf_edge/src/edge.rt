@@ -1,4 +1,4 @@
-//! A stream's way to its edge bridge.
+//! A stream's passage to its edge bridge.
 ghost use Rattle.std.specs.Prelude.{◌≡◌, ◌+◌, ◌*◌, ◌≤◌, ◌^◌, None};
 ghost use Rattle.cqf_traffic.specs.Keys.{bound_of};
 ghost use Rattle.cqf_access.specs.Arriving.{way_of};
@@ -13,23 +13,23 @@ use cqf_sketch::TalkerLink;
 use cqf_traffic::{Traffic, TrafficKey};
 use cqf_units::{Nanos, Octets, Rate, slot, time_of};
 
-/// How long a frame takes from the hand-over to its talker's access link until it is whole at its edge bridge, in nanoseconds: at least, and
-/// at most.
+/// The least and the greatest time, in nanoseconds, from the hand-over of a frame to its talker's access link until it is whole at its edge
+/// bridge.
 #[derive(Clone, Copy, Debug, PartialEq, Eq)]
 pub struct AccessTimes {
     pub least: u32,
     pub most: u32,
 }
 
-/// How a stream goes by its talker's access link: the link, what the stream hands to it, and how long a frame may take there.
+/// A stream's passage by its talker's access link: the link, what the stream hands to it, and the link's bound.
 #[derive(Clone, Copy, Debug)]
-pub(crate) struct Passage {
-    pub(crate) link: TalkerLink,
-    pub(crate) handed: Handed,
-    pub(crate) bound: AccessBound,
+pub struct Passage {
+    pub link: TalkerLink,
+    pub handed: Handed,
+    pub bound: AccessBound,
 }
 
-/// How long a frame of so many octets takes with its preamble and so long a delay, where it needn't wait.
+/// Returns the time from the hand-over of a frame that doesn't wait until it is whole, given the link's delay.
 fn way_on(rate: Rate, delay: u32, octets: u32) -> u64
     ensures value { result ≡ way_of (link_of rate None) delay octets }
     ensures short { result ≤ 800 * (octets + 8) + delay }
@@ -38,7 +38,7 @@ fn way_on(rate: Rate, delay: u32, octets: u32) -> u64
 }
 
 impl Passage {
-    /// What is known of waiting, in nanoseconds: 0 where nothing is.
+    /// Returns the time of the bound, or 0 if there is none.
     fn time(&self) -> Nanos
         ensures { result.0 ≡ time_in self.now.bound }
     {
@@ -48,7 +48,7 @@ impl Passage {
         }
     }
 
-    /// The delays of the link.
+    /// Returns the delays of the link.
     fn delays(&self) -> Delays
         ensures { result ≡ delays_of self.now.link }
     {
@@ -58,7 +58,7 @@ impl Passage {
         }
     }
 
-    /// How long a frame of the stream waits at most.
+    /// Returns the longest wait of the stream's frames.
     fn longest_wait(&self) -> u64
         requires { time_in self.now.bound ≤ 2 ^ 32 }
         ensures value { result ≡ longest_wait_on self.now }
@@ -73,7 +73,7 @@ impl Passage {
         }
     }
 
-    /// How long the stream's frames take.
+    /// Returns the least and the greatest time of the stream's frames.
     pub(crate) fn times(&self) -> AccessTimes
         requires { IsPassage self.now }
         ensures value { result ≡ times_on self.now }
@@ -87,7 +87,7 @@ impl Passage {
         }
     }
 
-    /// The jitter at the edge bridge: how late a frame may be.
+    /// Returns the jitter of the promise at the edge bridge.
     fn closer_jitter(&self, traffic: Traffic) -> Nanos
         requires passage { IsPassage self.now }
         requires written { IsWritten traffic }
@@ -104,7 +104,7 @@ impl Passage {
         )
     }
 
-    /// The jitter on the grid there, which has the whole wait in it.
+    /// Returns the jitter on the grid there. It includes the whole longest wait.
     fn grid_jitter(&self, traffic: Traffic) -> Nanos
         requires passage { IsPassage self.now }
         requires written { IsWritten traffic }
@@ -121,7 +121,7 @@ impl Passage {
         )
     }
 
-    /// The promise at the edge bridge, with the jitter there.
+    /// Returns the promise at the edge bridge with this jitter.
     fn word_from(&self, traffic: Traffic, jitter: Nanos) -> Traffic
         requires passage { IsPassage self.now }
         requires written { IsWritten traffic }
@@ -133,7 +133,7 @@ impl Passage {
         traffic.delayed_by(jitter, offset)
     }
 
-    /// What the stream's talker promises, as it holds at the edge bridge.
+    /// Returns the stream's promise at the edge bridge.
     pub(crate) fn word(&self) -> Option<Traffic>
         requires { IsPassage self.now }
         ensures { result ≡ word_on self.now }
@@ -147,7 +147,7 @@ impl Passage {
         }
     }
 
-    /// The same where each frame has to come in its cycle: its jitter has the whole wait in it.
+    /// Returns the promise for a stream with frames that have to come in their cycles: with the jitter on the grid.
     pub(crate) fn word_in_step(&self) -> Option<Traffic>
         requires { IsPassage self.now }
         ensures { result ≡ steps_on self.now }
@@ -163,7 +163,7 @@ impl Passage {
 }
 
 impl AccessTimes {
-    /// What is left of a deadline at the edge bridge.
+    /// Returns what is left of a deadline at the edge bridge.
     pub(crate) fn left_behind(self, deadline: u32) -> u32
         ensures { result ≡ left_behind self deadline }
     {

@@ -11,26 +11,26 @@ use cqf_units::Name;
 
 /// Where a stream enters: at the bridge of a number, or by the access link at a place among the network's.
 #[derive(Clone, Copy, Debug)]
-pub(crate) enum Entrance {
+pub enum Entrance {
     AtBridge(usize),
     ByAccess(usize),
 }
 
-/// Whether an access link leaves the station of a number.
+/// Returns whether an access link leaves the station with this number.
 fn leaves_station(link: &TalkerLink, station: usize) -> bool
     ensures { result ≡ leaves_station station link.now }
 {
     usize::from(link.station) == station
 }
 
-/// Whether it leads from there to the bridge of a number.
+/// Returns whether it leads from there to the bridge with this number.
 fn joins(link: &TalkerLink, station: usize, bridge: usize) -> bool
     ensures { result ≡ joins station bridge link.now }
 {
     leaves_station(link, station) && usize::from(link.bridge) == bridge
 }
 
-/// How many access links a station has.
+/// Returns the number of access links of a station.
 fn count_leaving(links: &[TalkerLink], station: usize) -> usize
     ensures { result ≡ count_by (leaves_station station) links.now }
 {
@@ -40,7 +40,7 @@ fn count_leaving(links: &[TalkerLink], station: usize) -> usize
         .count()
 }
 
-/// The place of the first access link of a station.
+/// Returns the place of the first access link of a station.
 fn first_leaving(links: &[TalkerLink], station: usize) -> Option<usize>
     ensures place { result ≡ position (leaves_station station) links.now }
     ensures within { IfSome result (λ place. place < length links.now) }
@@ -48,7 +48,7 @@ fn first_leaving(links: &[TalkerLink], station: usize) -> Option<usize>
     links.iter().position(|link| leaves_station(link, station))
 }
 
-/// The place of a station's access link to the bridge of a number.
+/// Returns the place of a station's access link to the bridge with this number.
 fn first_joining(links: &[TalkerLink], station: usize, bridge: usize) -> Option<usize>
     ensures place { result ≡ position (joins station bridge) links.now }
     ensures within { IfSome result (λ place. place < length links.now) }
@@ -56,7 +56,7 @@ fn first_joining(links: &[TalkerLink], station: usize, bridge: usize) -> Option<
     links.iter().position(|link| joins(link, station, bridge))
 }
 
-/// By the only access link of a station.
+/// Returns the entrance by the only access link of a station.
 fn by_the_only(network: &SketchDomain, station: usize) -> Result<Entrance, TalkerFault>
     ensures value { result ≡ by_the_only network.now station }
     ensures inside { IfOk result (IsEntrance network.now) }
@@ -70,7 +70,7 @@ fn by_the_only(network: &SketchDomain, station: usize) -> Result<Entrance, Talke
     }
 }
 
-/// By a station's access link to the bridge of a number.
+/// Returns the entrance by a station's access link to the bridge with this number.
 fn by_that_to(
     network: &SketchDomain,
     station: usize,
@@ -85,7 +85,7 @@ fn by_that_to(
     }
 }
 
-/// By an access link of a station: the one to the bridge that is named, or the only one.
+/// Returns the entrance by an access link of a station: the one to the named bridge, or the only one if no bridge is named.
 fn by_station(
     network: &SketchDomain,
     station: usize,
@@ -103,7 +103,7 @@ fn by_station(
     }
 }
 
-/// At the bridge of a number: the talker's text names no second bridge.
+/// Returns the entrance at the bridge with this number. The talker's text may not name another bridge with it.
 fn at_bridge(bridge: usize, other: &Option<Name>) -> Result<Entrance, TalkerFault>
     ensures { result ≡ at_bridge bridge other.now }
 {
@@ -113,11 +113,11 @@ fn at_bridge(bridge: usize, other: &Option<Name>) -> Result<Entrance, TalkerFaul
     }
 }
 
-/// Where a talker's streams enter.
+/// Returns where a talker's streams enter.
 ///
 /// # Errors
-/// `NoTalker` where it is no bridge and no station with such an access link, `TwoAccessLinks` where it is a station with several and the text
-/// names none of them.
+/// `NoTalker` if it is no bridge and no station with such an access link; `TwoAccessLinks` if it is a station with several and the text names
+/// none of them.
 pub(crate) fn entrance_of(network: &SketchDomain, talker: &Talker) -> Result<Entrance, TalkerFault>
     ensures value { result ≡ entrance_of network.now talker.now }
     ensures inside { IfOk result (IsEntrance network.now) }
@@ -131,7 +131,7 @@ pub(crate) fn entrance_of(network: &SketchDomain, talker: &Talker) -> Result<Ent
     }
 }
 
-/// The number of the bridge at which streams enter.
+/// Returns the number of the bridge where streams enter.
 fn edge_bridge(network: &SketchDomain, entrance: Entrance) -> usize
     requires { IsEntrance network.now entrance }
     ensures value { result ≡ edge_bridge network.now entrance }
@@ -143,7 +143,7 @@ fn edge_bridge(network: &SketchDomain, entrance: Entrance) -> usize
     }
 }
 
-/// The name of the bridge at which streams enter.
+/// Returns the name of the bridge where streams enter.
 pub(crate) fn edge_name(network: &SketchDomain, entrance: Entrance) -> &Name
     requires { IsEntrance network.now entrance }
     ensures { result.now ≡ edge_name network.now entrance }
@@ -152,14 +152,14 @@ pub(crate) fn edge_name(network: &SketchDomain, entrance: Entrance) -> &Name
     &network.bridges().as_slice()[bridge]
 }
 
-/// Whether a text is a name.
+/// Returns whether a text is this name.
 fn is_named(text: &String, name: &Name) -> bool
     ensures { result ≡ is_text name.now (string_bytes text.now) }
 {
     text.as_str() == name.as_str()
 }
 
-/// Whether a branch begins at a node.
+/// Returns whether a branch begins at a node.
 fn begins_with(path: &[String], name: &Name) -> bool
     ensures { result ≡ begins_with name.now (map string_bytes path.now) }
 {
@@ -169,7 +169,7 @@ fn begins_with(path: &[String], name: &Name) -> bool
     }
 }
 
-/// Whether a branch ends at a node.
+/// Returns whether a branch ends at a node.
 fn ends_with(path: &[String], name: &Name) -> bool
     ensures { result ≡ ends_with name.now (map string_bytes path.now) }
 {
@@ -179,14 +179,14 @@ fn ends_with(path: &[String], name: &Name) -> bool
     }
 }
 
-/// Whether all branches begin at a node.
+/// Returns whether all branches begin at a node.
 fn all_begin_with(paths: &[Vec<String>], name: &Name) -> bool
     ensures { result ≡ list_all (λ path. begins_with name.now (map string_bytes path.items)) paths.now }
 {
     paths.iter().all(|path| begins_with(path.as_slice(), name))
 }
 
-/// Whether branches begin where a stream enters.
+/// Checks that branches begin where a stream enters.
 pub(crate) fn agrees_with(
     network: &SketchDomain,
     paths: &[Vec<String>],
@@ -203,7 +203,7 @@ pub(crate) fn agrees_with(
     }
 }
 
-/// Whether branches end at the names, in their order.
+/// Returns whether branches end at these names, in the same order.
 fn end_at(paths: &[Vec<String>], names: &[Name]) -> bool
     ensures { result ≡ end_at names.now (map (λ path. map string_bytes path.items) paths.now) }
 {
@@ -218,7 +218,7 @@ fn end_at(paths: &[Vec<String>], names: &[Name]) -> bool
     true
 }
 
-/// Whether branches end at a stream's listeners, where its text says them.
+/// Checks that branches end at a stream's listeners, if its text has any.
 pub(crate) fn listeners_agree(
     paths: &[Vec<String>],
     listeners: &Option<Vec<Name>>,

@@ -1,4 +1,4 @@
-//! Why streams don't come to edge bridges.
+//! Faults of streams and access links.
 ghost use Rattle.std.specs.Prelude.{◌≡◌, ◌++◌, Some, codes};
 ghost use Rattle.cqf_edge.specs.Faults.{edge_fault_text, talker_fault_text};
 
@@ -12,22 +12,22 @@ use thiserror::Error;
 pub enum TalkerFault {
     /// Its talker is no bridge, and no station with such an access link.
     NoTalker,
-    /// Its talker is a station with several access links, and the text names none of them.
+    /// Its talker is a station with several access links, and its text names none of them.
     TwoAccessLinks,
-    /// Its branches don't begin at the bridge at which its talker's streams enter.
+    /// A branch doesn't begin at the bridge where its talker's streams enter.
     OtherEdge,
-    /// Its branches don't end at its listeners, in their order.
+    /// The branches don't end at its listeners, in the same order.
     OtherListeners,
 }
 
-/// Why the streams of a network don't come to their edge bridges: the first fault.
+/// The first fault of a network's streams and access links.
 #[derive(Debug, PartialEq, Eq, Drop, Error)]
 pub enum EdgeFault {
-    /// The first stream, by its name, that doesn't enter as its text says.
+    /// The name of the first stream that doesn't enter as its text says, and why.
     Talker(Name, TalkerFault),
-    /// The station of the first access link on which what is promised may wait without end, or longer than 10^9 ns.
+    /// The station of the first access link without a bound up to 10^9 ns.
     AccessFull(Name),
-    /// A growth was refused.
+    /// Memory was refused.
     Memory,
 }
 
@@ -56,7 +56,7 @@ impl fmt::Display for EdgeFault {
     }
 }
 
-/// Want of memory, as a fault.
+/// Refused memory as a fault.
 impl From<Memory> for EdgeFault {
     ghost use Rattle.cqf_edge.specs.declared.faults.EdgeFault.TheVariants as variant;
 
@@ -67,7 +67,7 @@ impl From<Memory> for EdgeFault {
     }
 }
 
-/// Want of room for a value, likewise.
+/// Refused memory for a value as a fault.
 impl<T: Drop> From<AllocFailed<T>> for EdgeFault {
     ghost use Rattle.cqf_edge.specs.declared.faults.EdgeFault.TheVariants as variant;
 

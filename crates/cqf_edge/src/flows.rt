@@ -1,4 +1,4 @@
-//! Streams of which nothing is open, at their edge bridges.
+//! Streams of a network that has nothing open, at their edge bridges.
 ghost use Rattle.std.specs.Prelude.{◌≡◌, All, IfOk, length, map, option_map};
 ghost use Rattle.std.specs.Option.{ForSome};
 ghost use Rattle.cqf_topology.specs.Fields.{Gives};
@@ -20,14 +20,14 @@ use cqf_traffic::Flow;
 use cqf_units::{Memory, Name};
 use std::alloc::Global;
 
-/// The streams of a network as they come to their edge bridges: the word that each keeps there, what is left there of its deadline, and
-/// how long its frames take there from the hand-over, where its talker is a station.
+/// The streams of a network at their edge bridges: what each promises there, what is left there of its deadline, and the times of its frames
+/// from the hand-over to there if its talker is a station.
 #[derive(Drop)]
 pub struct EdgeFlows {
     pub flows: Vec<Flow>,
-    /// Their deadlines as their text has them, from the hand-over, by the same places.
+    /// The deadlines in their text, from the hand-over, by the same places.
     pub deadlines: Vec<Option<u32>>,
-    /// By the same places.
+    /// The times of their frames from the hand-over, by the same places.
     pub times: Vec<Option<AccessTimes>>,
     /// What each hands to its access link, by the same places.
     pub handed: Vec<Option<Handed>>,
@@ -35,7 +35,7 @@ pub struct EdgeFlows {
     pub full: Option<Name>,
 }
 
-/// What a stream of a talker hands to an access link.
+/// Returns what a stream of a talker hands to an access link, or why it doesn't enter as its text says.
 fn handed_with(
     network: &SketchDomain,
     found: &NetworkFlow,
@@ -60,7 +60,7 @@ fn handed_with(
     }
 }
 
-/// What a stream hands to an access link. A stream whose name hasn't the form of one, which is never admitted, hands nothing over.
+/// Returns what a stream hands to an access link. A stream whose name isn't well-formed is never admitted, so it hands nothing over.
 fn handed_of(network: &SketchDomain, found: &NetworkFlow) -> Result<Option<Handed>, EdgeFault>
     requires { IsWrittenFlow (network_flow_text found.now) }
     ensures value { result ≡ handed_of network.now (network_flow_text found.now) }
@@ -78,7 +78,7 @@ fn handed_of(network: &SketchDomain, found: &NetworkFlow) -> Result<Option<Hande
     }
 }
 
-/// What streams hand to access links.
+/// Returns what streams hand to access links.
 fn handed_of_all(
     alloc: Global,
     network: &SketchDomain,
@@ -97,7 +97,7 @@ fn handed_of_all(
     Ok(handed)
 }
 
-/// How a stream goes by the access link that it is handed to.
+/// Returns a stream's passage by the access link that it is handed to.
 fn passage_of(
     network: &SketchDomain,
     bounds: &[AccessBound],
@@ -119,7 +119,7 @@ fn passage_of(
     }
 }
 
-/// How streams go by the access links that they are handed to.
+/// Returns the passages of streams by the access links that they are handed to.
 pub(crate) fn passages_of(
     alloc: Global,
     network: &SketchDomain,
@@ -139,7 +139,7 @@ pub(crate) fn passages_of(
     Ok(passages)
 }
 
-/// How long the frames of streams take to their edge bridges.
+/// Returns the times of the frames of streams to their edge bridges.
 pub(crate) fn times_of(
     alloc: Global,
     passages: &[Option<Passage>],
@@ -158,7 +158,7 @@ pub(crate) fn times_of(
     Ok(times)
 }
 
-/// A stream as it comes to its edge bridge.
+/// Returns a stream at its edge bridge.
 fn flow_behind(passage: &Option<Passage>, flow: Flow) -> Flow
     requires { IsPassageOne passage.now }
     ensures { flow_text result ≡ flow_behind passage.now (flow_text flow) }
@@ -177,7 +177,7 @@ fn flow_behind(passage: &Option<Passage>, flow: Flow) -> Flow
     }
 }
 
-/// Streams as they come to their edge bridges.
+/// Returns streams at their edge bridges.
 fn flows_behind(
     alloc: Global,
     passages: &[Option<Passage>],
@@ -195,7 +195,7 @@ fn flows_behind(
     Ok(flows)
 }
 
-/// The deadlines of streams, as their text has them.
+/// Returns the deadlines in the text of streams.
 fn deadlines_of(alloc: Global, all: &[NetworkFlow]) -> Result<Vec<Option<u32>>, Memory>
     ensures { IfOk result (λ deadlines. deadlines.items ≡ map (λ (found : NetworkFlowText). found.flow.0.1) (map network_flow_text all.now)) }
 {
@@ -206,7 +206,7 @@ fn deadlines_of(alloc: Global, all: &[NetworkFlow]) -> Result<Vec<Option<u32>>, 
     Ok(deadlines)
 }
 
-/// The streams of a network, with what they hand to access links, as they come to their edge bridges.
+/// Returns the streams of a network at their edge bridges, given what they hand to access links.
 fn edges_with(
     alloc: Global,
     network: &SketchDomain,
@@ -235,11 +235,11 @@ fn edges_with(
     })
 }
 
-/// The streams of a network of which nothing is open, as they come to their edge bridges. Of a stream whose access link is full the
-/// word and the deadline are as if it needn't wait there; whoever relies on them refuses such a network.
+/// Returns the streams of a network that has nothing open, at their edge bridges. If an access link is full, the promises and deadlines of its
+/// streams are as if no frame waited there. A caller that relies on them has to refuse such a network.
 ///
 /// # Errors
-/// `Talker`, of the first stream that doesn't enter as its text says; `Memory` where a growth is refused.
+/// `Talker` of the first stream that doesn't enter as its text says; `Memory` if memory for the result is refused.
 pub fn edge_flows(
     alloc: Global,
     network: &SketchDomain,
@@ -254,10 +254,10 @@ pub fn edge_flows(
     Ok(edge)
 }
 
-/// Streams of a network whose stations have no access links: each begins at its edge bridge.
+/// Returns the streams of a network without access links: each begins at its edge bridge.
 ///
 /// # Errors
-/// Where a growth is refused.
+/// If memory for the result is refused.
 pub fn flows_at_edges(alloc: Global, all: Vec<Flow>) -> Result<EdgeFlows, Memory>
     ensures { IfOk result (λ edge. edges_text edge ≡ at_edges (map flow_text all.items)) }
 {

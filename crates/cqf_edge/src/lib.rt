@@ -1,12 +1,12 @@
-//! Streams as they come to their edge bridges: by what their talkers promise at the hand-over, and by their stations' access links.
+//! Streams at their edge bridges: what they promise there, by their talkers' promises at the hand-over and by their stations' access links.
 //!
 //! - **Entrances.** A stream's talker is a bridge, or a station with an access link: `Entrance`.
-//! - **Access links.** [`Handed`] is what a stream hands to one. How long a frame may take there is found from all that is handed to it.
-//! - **At the edge.** [`AccessTimes`] is how long a frame takes from the hand-over until it is whole at its edge bridge. [`edge_flows`] gives
-//!   the streams of a network of which nothing is open as they come there, [`edge_streams`] those of one that is to be planned: with the
-//!   word that their talkers keep there, and with what is left of their deadlines. An [`EdgeFault`] is the first thing wrong.
-//! - **Laws**, functions that do nothing: what is read of a text may be brought there ([`read_streams_are_written`]), and keeps the word there
-//!   that `cqf_access` proves ([`streams_come_by_links`]).
+//! - **Access links.** [`Handed`] is what a stream hands to a link. The link's bound is found from all that is handed to it.
+//! - **At the edge.** [`AccessTimes`] has the times from the hand-over of a frame until it is whole at its edge bridge. [`edge_flows`] returns the
+//!   streams of a network that has nothing open, [`edge_streams`] those of a network that is to be planned: with their promises at their edge
+//!   bridges, and with what is left there of their deadlines. An [`EdgeFault`] is the first fault.
+//! - **Laws**, functions that do nothing: streams that are read of a text have what these functions require ([`read_streams_are_written`]), and
+//!   the promises at edge bridges are those that `cqf_access` proves ([`streams_come_by_links`]).
 //!
 //! ```text
 //! plc has an access link to s1 of 100 Mb/s with a delay of 900 ns, and hands three streams to it, each a frame of 180 octets in 125,000 ns
@@ -24,9 +24,10 @@ mod laws;
 mod streams;
 mod uses;
 
-pub use edge::AccessTimes;
+pub use edge::{AccessTimes, Passage};
+pub use entrances::Entrance;
 pub use faults::{EdgeFault, TalkerFault};
 pub use flows::{EdgeFlows, edge_flows, flows_at_edges};
 pub use laws::{read_streams_are_written, streams_come_by_links};
 pub use streams::{EdgeStreams, edge_streams};
-pub use uses::Handed;
+pub use uses::{AccessBound, Handed};

@@ -19,17 +19,17 @@ use cqf_traffic::Traffic;
 use cqf_units::{Memory, Name};
 use std::alloc::Global;
 
-/// The streams of a network that is to be planned, as they come to their edge bridges.
+/// The streams of a network that is to be planned, at their edge bridges.
 #[derive(Drop)]
 pub struct EdgeStreams {
     pub streams: Vec<Stream>,
-    /// How long the frames of each take to its edge bridge from the hand-over, where its talker is a station.
+    /// The times of their frames from the hand-over to there, by the same places, if their talkers are stations.
     pub times: Vec<Option<AccessTimes>>,
     /// The name of the station of the first access link that is full.
     pub full: Option<Name>,
 }
 
-/// Where a stream of a talker enters: its branches, where they are given, agree with it and with its listeners.
+/// Returns where a stream of a talker enters. Its branches, if they are given, have to agree with the talker and with the listeners.
 fn entrance_with(
     network: &SketchDomain,
     stream: &Stream,
@@ -46,7 +46,7 @@ fn entrance_with(
     Ok(entrance)
 }
 
-/// Whether a stream is to go between its talker and its listeners.
+/// Returns whether a stream's way between its talker and its listeners is open.
 fn is_between(way: &WantedWay) -> bool
     ensures { result ≡ is_between (wanted_text way.now) }
 {
@@ -56,8 +56,8 @@ fn is_between(way: &WantedWay) -> bool
     }
 }
 
-/// Where a stream enters, or why it doesn't as its text says. That a node is no talker is told when the stream is settled, in its order there,
-/// unless a bridge stands behind its name: until then it enters nowhere.
+/// Returns where a stream enters, or why it doesn't enter as its text says. `NoTalker` is no fault here if the stream's way is open and its text
+/// names no bridge with the talker: it is found in its turn when the stream is settled, and until then the stream enters nowhere.
 fn told_now(
     stream: &Stream,
     talker: &Talker,
@@ -80,7 +80,7 @@ fn told_now(
     }
 }
 
-/// Where a stream enters, where its text says its talker. One whose name hasn't the form of a name, which is never settled, enters nowhere.
+/// Returns where a stream enters if its text has a talker. A stream whose name isn't well-formed is never settled, so it enters nowhere.
 fn entrance_of_stream(
     network: &SketchDomain,
     stream: &Stream,
@@ -98,7 +98,7 @@ fn entrance_of_stream(
     told_now(stream, talker, name, found)
 }
 
-/// Where streams enter.
+/// Returns where streams enter.
 fn entrances_of(
     alloc: Global,
     network: &SketchDomain,
@@ -116,7 +116,7 @@ fn entrances_of(
     Ok(entrances)
 }
 
-/// What a stream hands to an access link.
+/// Returns what a stream hands to an access link.
 fn handed_at(network: &SketchDomain, stream: &Stream, entrance: Option<Entrance>) -> Option<Handed>
     requires inside { IsEntranceOne network.now entrance }
     requires written { IsWrittenStream (stream_text stream.now) }
@@ -134,7 +134,7 @@ fn handed_at(network: &SketchDomain, stream: &Stream, entrance: Option<Entrance>
     }
 }
 
-/// What streams hand to access links.
+/// Returns what streams hand to access links.
 fn handed_at_each(
     alloc: Global,
     network: &SketchDomain,
@@ -155,7 +155,7 @@ fn handed_at_each(
     Ok(handed)
 }
 
-/// A stream's way from its edge bridge on.
+/// Returns a stream's way from its edge bridge on.
 fn way_behind(network: &SketchDomain, entrance: Entrance, way: WantedWay) -> WantedWay
     requires { IsEntrance network.now entrance }
     ensures { wanted_text result ≡ way_behind network.now entrance (wanted_text way) }
@@ -168,8 +168,8 @@ fn way_behind(network: &SketchDomain, entrance: Entrance, way: WantedWay) -> Wan
     }
 }
 
-/// The word of a stream at its edge bridge: where it is to be chosen in which cycles it is offered, each of its frames has to come in one of
-/// these.
+/// Returns a stream's promise at its edge bridge. If the cycles in which it is offered are still to be chosen, each of its frames has to come in
+/// one of these cycles.
 fn word_at(pacing: Pacing, passage: &Passage) -> Option<Traffic>
     requires { IsPassage passage.now }
     ensures { result ≡ word_at pacing passage.now }
@@ -180,7 +180,7 @@ fn word_at(pacing: Pacing, passage: &Passage) -> Option<Traffic>
     }
 }
 
-/// A stream as it comes to its edge bridge.
+/// Returns a stream at its edge bridge.
 fn stream_behind(
     network: &SketchDomain,
     entrance: Option<Entrance>,
@@ -206,7 +206,7 @@ fn stream_behind(
     stream
 }
 
-/// Streams as they come to their edge bridges.
+/// Returns streams at their edge bridges.
 fn streams_behind(
     alloc: Global,
     network: &SketchDomain,
@@ -229,7 +229,7 @@ fn streams_behind(
     Ok(streams)
 }
 
-/// The streams of a network, with where they enter and what they hand to access links, as they come to their edge bridges.
+/// Returns the streams of a network at their edge bridges, given where they enter and what they hand to access links.
 fn streams_from(
     alloc: Global,
     network: &SketchDomain,
@@ -258,12 +258,12 @@ fn streams_from(
     })
 }
 
-/// The streams of a network that is to be planned, as they come to their edge bridges: each from the bridge at which it enters, with the word
-/// that it keeps there, and with what is left there of its deadline. One whose `from` is no talker stays as it is.
+/// Returns the streams of a network that is to be planned, at their edge bridges: each from the bridge where it enters, with its promise there,
+/// and with what is left there of its deadline. A stream that enters nowhere is returned as it was.
 ///
 /// # Errors
-/// `Talker`, of the first stream that doesn't enter as its text says, but for one whose talker is no bridge and no station with an access
-/// link; `Memory` where a growth is refused.
+/// `Talker` of the first stream that doesn't enter as its text says, but `NoTalker` only if its way is given or its text names a bridge with the
+/// talker; `Memory` if memory for the result is refused.
 pub fn edge_streams(
     alloc: Global,
     network: &SketchDomain,

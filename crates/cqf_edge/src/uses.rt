@@ -1,4 +1,4 @@
-//! What stations hand to their access links, and how long a frame may take there.
+//! What stations hand to their access links, and the bounds of these links.
 ghost use Rattle.std.specs.Prelude.{◌≡◌, ◌<◌, ◌≤◌, ◌++◌, [], All, IfOk, IfSome, OnOk, length, map, option_map, position};
 ghost use Rattle.std.specs.Option.{ForSome};
 ghost use Rattle.cqf_traffic.specs.TrafficText.{promise_of};
@@ -11,13 +11,13 @@ use cqf_traffic::Traffic;
 use cqf_units::{Memory, Name, Nanos, Octets};
 use std::alloc::Global;
 
-/// The longest time that is looked for on an access link, in nanoseconds.
+/// The longest bound of an access link, in nanoseconds.
 const MOST_BOUND: u64 = 1_000_000_000;
 
 /// The longest frame with a tag, in octets (IEEE 802.3).
 const LONGEST_FRAME: u32 = 1_522;
 
-/// The shortest.
+/// The shortest frame, in octets.
 const SHORTEST_FRAME: u32 = 64;
 
 /// What a stream hands to an access link.
@@ -25,34 +25,33 @@ const SHORTEST_FRAME: u32 = 64;
 pub struct Handed {
     /// The link's place among the network's access links.
     pub place: usize,
-    /// How many octets a frame of the stream has at most.
+    /// The largest size of the stream's frames.
     pub octets: u32,
-    /// How many it has at least.
+    /// The smallest size.
     pub shortest: u32,
     /// What its talker promises at the hand-over.
     pub traffic: Option<Traffic>,
 }
 
-/// How long a frame may take on an access link at most, from its hand-over until it has started and another of its size would be over.
+/// The bound of an access link: the longest time from the hand-over of a frame until another of its size, in its place, would be over.
 #[derive(Clone, Copy, Debug)]
-pub(crate) enum AccessBound {
-    /// Nothing is promised on it, so there is nothing to be said.
+pub enum AccessBound {
+    /// Nothing is promised on the link, so no bound is needed.
     Idle,
-    /// So long.
+    /// The least bound.
     Within(Nanos),
-    /// There is no such time up to 10^9 ns.
+    /// There is no bound up to 10^9 ns.
     Full,
 }
 
-/// What is handed to an access link: what is promised of it, in the order of the streams, and how large a frame may be that no promise is
-/// about.
+/// What is handed to an access link: the promises, in the order of the streams, and the largest size of a frame without a promise.
 #[derive(Drop)]
 pub(crate) struct AccessUse {
     promises: Vec<Traffic>,
     other: Option<u32>,
 }
 
-/// The larger of two numbers, where there is one.
+/// Returns the larger of two numbers, of those that are given.
 fn larger(one: Option<u32>, other: Option<u32>) -> Option<u32>
     ensures { result ≡ larger one other }
 {
@@ -62,7 +61,7 @@ fn larger(one: Option<u32>, other: Option<u32>) -> Option<u32>
     }
 }
 
-/// How many octets a frame of a stream has at most, by its reservation and its traffic.
+/// Returns the largest size of a stream's frames, by its reservation and its traffic.
 fn longest_frame(octets: u32, traffic: &Option<Traffic>) -> u32
     ensures value { result ≡ longest_frame octets traffic.now }
     ensures short { result ≤ 1522 }
@@ -73,7 +72,7 @@ fn longest_frame(octets: u32, traffic: &Option<Traffic>) -> u32
     }
 }
 
-/// How many it has at least, by what its text says and its traffic.
+/// Returns the smallest size, by its text and its traffic.
 fn shortest_frame(shortest: Option<u32>, traffic: &Option<Traffic>) -> u32
     ensures { result ≡ shortest_frame shortest traffic.now }
 {
@@ -85,7 +84,7 @@ fn shortest_frame(shortest: Option<u32>, traffic: &Option<Traffic>) -> u32
 }
 
 impl AccessBound {
-    /// Whether there is no such time.
+    /// Returns whether there is no bound up to 10^9 ns.
     fn is_full(self) -> bool
         ensures { result ≡ is_full self }
     {
@@ -97,8 +96,8 @@ impl AccessBound {
 }
 
 impl Handed {
-    /// What a stream hands to the access link at a place, by its reservation, how many octets its text says that its shortest frame has, and
-    /// its traffic.
+    /// Returns what a stream hands to the access link at a place, given its reservation, the smallest size of its frames in its text, and its
+    /// traffic.
     pub(crate) fn over(
         place: usize,
         octets: u32,
@@ -119,7 +118,7 @@ impl Handed {
         }
     }
 
-    /// How large a frame of it may be that no promise is about.
+    /// Returns the largest size of its frames if it promises nothing.
     fn unpromised(&self) -> Option<u32>
         ensures { result ≡ unpromised self.now }
     {
@@ -130,7 +129,7 @@ impl Handed {
     }
 }
 
-/// A number of octets, where there is one.
+/// Returns a number of octets, if there is one.
 fn octets_of(number: Option<u32>) -> Option<Octets>
     ensures { option_map (λ octets. octets.0) result ≡ number }
 {
@@ -141,7 +140,7 @@ fn octets_of(number: Option<u32>) -> Option<Octets>
 }
 
 impl AccessUse {
-    /// Puts what a stream hands over behind what is.
+    /// Adds what a stream hands over.
     fn put(&mut self, handed: &Handed) -> Result<(), Memory>
         ensures other { OnOk result (self.new.other ≡ larger self.old.other (unpromised handed.now)) }
         ensures promises { OnOk result (map promise_of self.new.promises.items ≡ map promise_of self.old.promises.items ++ promise_in handed.now) }
@@ -153,7 +152,7 @@ impl AccessUse {
         Ok(())
     }
 
-    /// How long a frame may take on a link at most that is used so.
+    /// Returns the bound of a link with this use.
     fn bound(&self, link: &TalkerLink) -> AccessBound
         ensures value { result ≡ bound_of link.now self.now.other (map promise_of self.now.promises.items) }
         ensures short { IsShort result }
@@ -170,7 +169,7 @@ impl AccessUse {
     }
 }
 
-/// Nothing is handed to any of some access links, but for what their stations send beside streams.
+/// Returns the uses of access links if nothing is handed to them. Their stations may still send frames of no stream.
 fn unused(alloc: Global, links: &[TalkerLink]) -> Result<Vec<AccessUse>, Memory>
     ensures { IfOk result (λ uses. AreUses links.now [] uses.items) }
 {
@@ -184,7 +183,7 @@ fn unused(alloc: Global, links: &[TalkerLink]) -> Result<Vec<AccessUse>, Memory>
     Ok(uses)
 }
 
-/// What streams hand to some access links, by the places of these.
+/// Returns the uses of access links, by their places, given what streams hand to them.
 fn uses_of(
     alloc: Global,
     links: &[TalkerLink],
@@ -202,10 +201,10 @@ fn uses_of(
     Ok(uses)
 }
 
-/// How long a frame may take on each access link of a network at most, by what streams hand to them.
+/// Returns the bound of each access link of a network, given what streams hand to them.
 ///
 /// # Errors
-/// Where a growth is refused.
+/// If memory for the result is refused.
 pub(crate) fn bounds_of(
     alloc: Global,
     network: &SketchDomain,
@@ -225,7 +224,7 @@ pub(crate) fn bounds_of(
     Ok(bounds)
 }
 
-/// The place of the first link that is full.
+/// Returns the place of the first link that is full.
 fn first_full(bounds: &[AccessBound]) -> Option<usize>
     ensures place { result ≡ position is_full bounds.now }
     ensures within { IfSome result (λ place. place < length bounds.now) }
@@ -233,7 +232,7 @@ fn first_full(bounds: &[AccessBound]) -> Option<usize>
     bounds.iter().position(|bound| bound.is_full())
 }
 
-/// The name of the station of the first access link that is full.
+/// Returns the name of the station of the first access link that is full.
 pub(crate) fn full_station(network: &SketchDomain, bounds: &[AccessBound]) -> Option<Name>
     requires { length bounds.now ≡ length network.now.talkers }
     ensures { result ≡ full_station network.now bounds.now }

@@ -8,3 +8,16 @@ mod ChoiceLemmas
 mod ChoicesMade
 mod EdgeRead
 pub mod ReadSketches
+mod Inputs
+mod Rounds
+mod Erased
+mod PlacedWays
+mod Retold
+mod EndsRead
+mod Ones
+mod Entered
+mod ComesBack
+mod ReadBack
+mod Shallow
+mod Strict
+mod ToldPlans

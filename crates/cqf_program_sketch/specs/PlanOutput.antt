@@ -56,7 +56,7 @@ pub record Sketched : Type 0 where
   pub domain_text : List ℕ
   pub streams_text : List ℕ
 
--- why streams of a network that is to be planned don't come to their edge bridges: as a stream's other faults are told, or as of a plan
+-- the line that says why streams of a network that is to be planned don't arrive at their edge bridges, or which access link is full
 abbrev pub unentered_line : EdgeFault → List ℕ
 unentered_line (edge_fault.Talker name found) = fault_line (codes "plan") (name ++ (codes ": " ++ talker_fault_text found))
 unentered_line (edge_fault.AccessFull station) = full_line station
@@ -77,8 +77,8 @@ sketch_input limits given input = and_then (two_parts (parts_of input)) (λ part
     and_then (settled_edges network edge) (λ settled.
     Ok (record { domain = network; streams = settled; times = edge.times; domain_text = parts.0; streams_text = parts.1 }))))))
 
--- when a talker's offers begin whose stream's grid begins at an instant at its edge bridge, in one of so many cycles, where its frames take so
--- long to that bridge at least: the least number that is so, up to so many cycles
+-- when a talker's offers begin if the grid of its stream begins at a given instant at the edge bridge, the frames take at least a given time to
+-- that bridge, and the stream is offered in one of `every` cycles: the least such instant, less than `every` cycles
 abbrev pub offset_before : ℕ → ℕ → ℕ → ℕ → ℕ
 offset_before at_edge taken cycle_time every = (at_edge + every * cycle_time - taken % (every * cycle_time)) % (every * cycle_time)
 

@@ -12,5 +12,5 @@ times_of-requires c = All-same IsPassageOne _ _ c.as_slice-all_passages.ensures.
 pub flows_behind-requires-clause-ready : goal.flows_behind-requires-clause-ready
 flows_behind-requires-clause-ready c = All-same IsPassageOne _ _ c.as_slice-all_passages.ensures.value c.in_ok-passages.ensures.ready
 
-pub full_station-requires : goal.full_station-requires
-full_station-requires c = ap length c.as_slice-all_bounds.ensures.value ∙ c.in_ok-bounds.ensures.each
+pub full_station-full-requires : goal.full_station-full-requires
+full_station-full-requires c = ap length c.as_slice-all_bounds.ensures.value ∙ c.in_ok-bounds.ensures.each

@@ -5,15 +5,23 @@ use Rattle.cqf_program_sketch.specs.Trying.{ComesOfAll}
 use Rattle.cqf_program_sketch.proofs.plan_command.plan_of.Goals as goal
 
 -- each stream has an outcome
-pub plant_of-requires-clause-each : goal.plant_of-requires-clause-each
-plant_of-requires-clause-each c =
-    let those = map settled_value c.args.streams.now in
-    let planned = subst (ComesOfAll c.args.sketch.now those) c.in-Ok-Planned.field-0-is c.in-Ok-Planned.ensures in
-    planned.each ∙ length-map c.args.streams.now settled_value
+pub network_text-requires-clause-each : goal.network_text-requires-clause-each
+network_text-requires-clause-each c =
+    let given = c.args.given.now in
+    let those = map settled_value given.streams.items in
+    let planned = subst (ComesOfAll given.domain those) c.in-Ok-Planned.field-0-is c.in-Ok-Planned.ensures in
+    planned.each ∙ length-map given.streams.items settled_value
 
--- and each that is placed is offered early
-pub plant_of-requires-clause-early : goal.plant_of-requires-clause-early
-plant_of-requires-clause-early c =
-    let those = map settled_value c.args.streams.now in
-    let planned = subst (ComesOfAll c.args.sketch.now those) c.in-Ok-Planned.field-0-is c.in-Ok-Planned.ensures in
+-- each that is placed is offered early
+pub network_text-requires-clause-early : goal.network_text-requires-clause-early
+network_text-requires-clause-early c =
+    let given = c.args.given.now in
+    let planned = subst (ComesOfAll given.domain (map settled_value given.streams.items)) c.in-Ok-Planned.field-0-is c.in-Ok-Planned.ensures in
     planned.early
+
+-- and in one of some cycles
+pub network_text-requires-clause-turned : goal.network_text-requires-clause-turned
+network_text-requires-clause-turned c =
+    let given = c.args.given.now in
+    let planned = subst (ComesOfAll given.domain (map settled_value given.streams.items)) c.in-Ok-Planned.field-0-is c.in-Ok-Planned.ensures in
+    planned.turned
