@@ -1,36 +1,19 @@
 -- Streams at their edge bridges, by their places.
-use Rattle.std.proofs.Common.{◌≡◌, ℕ, suc, zero, ◌+◌, ◌<◌, ◌≤◌, ◌∷◌, [], ◌∙◌, Bool, true, false, List, Option, Some, None, Result, Ok, Err, ap, arith, length, map}
-use Rattle.std.proofs.Common.{min, ok_or, refl, subst, sym}
-use Rattle.std.specs.Prelude.{if◌then◌else◌, option_map, position, slice_get}
-use Rattle.std.specs.Option.{option_map_or}
-use Rattle.std.specs.Result.{result_map_both}
+use Rattle.std.proofs.Common.{◌≡◌, suc, ◌∷◌, [], ◌∙◌, List, Option, Result, Ok, Err, ap, arith, length, map}
+use Rattle.std.proofs.Common.{refl, subst}
+use Rattle.std.specs.Prelude.{option_map}
 use Rattle.std.proofs.lemmas.List.{length-map}
-use Rattle.std.proofs.lemmas.List.Quantifiers.{position-Some}
-use Rattle.std.proofs.lemmas.Option.{same_Some, slice_get-map}
-use Rattle.cqf_lists.specs.Results.{and_then}
 use Rattle.cqf_topology.specs.Fields.{and_first}
-use Rattle.cqf_topology.specs.DomainText.{place_of}
-use Rattle.cqf_topology.proofs.Refusals.{and_then-Ok, ok_or-Ok, refuse-Ok}
-use Rattle.cqf_units.specs.Name.{is_name}
-use Rattle.cqf_traffic.specs.FlowsText.{FlowText}
-use Rattle.cqf_traffic.specs.TrafficText.{TrafficText}
-use Rattle.cqf_sketch.specs.declared.domain.TalkerLink.{TalkerLink}
-use Rattle.cqf_sketch.specs.declared.talkers.Talker.{Talker}
+use Rattle.cqf_topology.proofs.Refusals.{and_then-Ok}
 use Rattle.cqf_sketch.specs.NetworkFlows.{NetworkFlowText}
 use Rattle.cqf_sketch.specs.SketchDomain.{SketchDomain}
 use Rattle.cqf_edge.specs.declared.edge.Passage.{Passage}
-use Rattle.cqf_edge.specs.declared.entrances.Entrance.{Entrance}
-use Rattle.cqf_edge.specs.declared.entrances.Entrance.TheVariants.{AtBridge, ByAccess}
 use Rattle.cqf_edge.specs.declared.faults.EdgeFault.{EdgeFault}
-use Rattle.cqf_edge.specs.declared.faults.EdgeFault.TheVariants as fault
-use Rattle.cqf_edge.specs.declared.faults.TalkerFault.{TalkerFault}
-use Rattle.cqf_edge.specs.declared.faults.TalkerFault.TheVariants.{NoTalker}
-use Rattle.cqf_edge.specs.declared.uses.AccessBound.{AccessBound}
 use Rattle.cqf_edge.specs.declared.uses.Handed.{Handed}
-use Rattle.cqf_edge.specs.EdgeFlows.{EdgeFlowsText, edge_flows, edges_with, flow_behind, flows_behind, handed_by, handed_of, handed_of_all, handed_with, or_named, passage_of}
+use Rattle.cqf_edge.specs.EdgeFlows.{EdgeFlowsText, edges_with, flows_behind, handed_of, handed_of_all, passage_of}
 use Rattle.cqf_edge.specs.EdgeLaws.{AreByPlaces, EdgesAreByPlaces}
 use Rattle.cqf_edge.specs.Edge.{times_on}
-use Rattle.cqf_edge.specs.Uses.{bounds_of, handed_over}
+use Rattle.cqf_edge.specs.Uses.{bounds_of}
 
 -- the first was right, and so were the others
 pub record AreBoth {A E : Type 0} (first : Result A E) (others : Result (List A) E) (xs : List A) : Type 0 where

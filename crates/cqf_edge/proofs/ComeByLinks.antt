@@ -1,10 +1,9 @@
 -- Streams that are handed to access links, at their edge bridges.
 use Rattle.std.proofs.Common.{◌≡◌, ℕ, suc, zero, ◌+◌, ◌<◌, ◌≤◌, ◌∷◌, [], ◌∙◌, Bool, true, false, List, Option, Some, None, Result, Ok, Err, ap, arith, length, map}
 use Rattle.std.proofs.Common.{Contains, count_by, min, nat_lt, ok_or, refl, subst, sym}
-use Rattle.std.specs.Prelude.{◌==◌, if◌then◌else◌, is_some, option_and_then, option_map, position, slice_get}
-use Rattle.std.specs.Option.{ForSome, option_map_or}
+use Rattle.std.specs.Prelude.{if◌then◌else◌, is_some, option_and_then, option_map, position, slice_get}
+use Rattle.std.specs.Option.{option_map_or}
 use Rattle.std.specs.Result.{result_map_both}
-use Rattle.std.specs.List.{list_any}
 use Rattle.std.proofs.lemmas.Bool.{eq-eqb}
 use Rattle.std.proofs.lemmas.List.Quantifiers.{position-Some}
 use Rattle.std.proofs.lemmas.Option.{same_Some, slice_get-map}
@@ -16,7 +15,6 @@ use Rattle.cqf_topology.specs.DomainText.{if_so, place_of}
 use Rattle.cqf_topology.proofs.Refusals.{and_then-Ok, refuse-Ok}
 use Rattle.cqf_units.specs.Name.{is_name}
 use Rattle.cqf_laws_timing.specs.Traffic.{Traffic}
-use Rattle.cqf_traffic.specs.FlowsText.{FlowText}
 use Rattle.cqf_traffic.specs.TrafficText.{TrafficText, promise_of}
 use Rattle.cqf_sketch.specs.declared.domain.TalkerLink.{TalkerLink}
 use Rattle.cqf_sketch.specs.declared.talkers.Talker.{Talker}
@@ -27,20 +25,19 @@ use Rattle.cqf_access.specs.Arriving.{longest_wait, way_of}
 use Rattle.cqf_edge.specs.declared.edge.Passage.{Passage}
 use Rattle.cqf_edge.specs.declared.entrances.Entrance.{Entrance}
 use Rattle.cqf_edge.specs.declared.entrances.Entrance.TheVariants.{AtBridge, ByAccess}
-use Rattle.cqf_edge.specs.declared.faults.EdgeFault.{EdgeFault}
 use Rattle.cqf_edge.specs.declared.faults.EdgeFault.TheVariants as fault
 use Rattle.cqf_edge.specs.declared.faults.TalkerFault.{TalkerFault}
 use Rattle.cqf_edge.specs.declared.faults.TalkerFault.TheVariants.{NoTalker, TwoAccessLinks}
 use Rattle.cqf_edge.specs.declared.uses.AccessBound.{AccessBound}
 use Rattle.cqf_edge.specs.declared.uses.Handed.{Handed}
-use Rattle.cqf_edge.specs.Edge.{closer_word, link_by, longest_way, times_on, word_from, word_on}
-use Rattle.cqf_edge.specs.EdgeFlows.{EdgeFlowsText, edge_flows, edges_with, flow_behind, flows_behind, handed_by, handed_of, handed_of_all, handed_with, passage_of}
+use Rattle.cqf_edge.specs.Edge.{closer_word, link_by, times_on, word_from, word_on}
+use Rattle.cqf_edge.specs.EdgeFlows.{EdgeFlowsText, edges_with, flow_behind, flows_behind, handed_by, handed_of, handed_of_all, handed_with, passage_of}
 use Rattle.cqf_edge.specs.EdgeLaws.{BeginsAtEdge, ComesByLink, KeepsWord, OthersBeginAtEdges, StreamsComeByLinks}
 use Rattle.cqf_edge.specs.Entrances.{agrees_with, at_node, by_station, by_that_to, entrance_of, joins, leaves_station, listeners_agree}
-use Rattle.cqf_edge.specs.Uses.{bound_by, bound_for, bound_of, bounds_from, bounds_of, full_station, handed_over, handed_to, is_full, is_handed_to, least_bound, link_with}
+use Rattle.cqf_edge.specs.Uses.{bound_by, bound_for, bound_of, bounds_from, bounds_of, handed_over, handed_to, is_full, is_handed_to, least_bound, link_with}
 use Rattle.cqf_edge.specs.Uses.{longest_frame, most_bound, other_beside, promise_in, promises_in, shortest_frame, station_at, time_in}
 use Rattle.cqf_edge.proofs.Bounds.{bound_from}
-use Rattle.cqf_edge.proofs.Came.{AreBoth, both, edge_same}
+use Rattle.cqf_edge.proofs.Came.{both, edge_same}
 use Rattle.cqf_edge.proofs.Written.{after}
 
 -- ---- what is handed over

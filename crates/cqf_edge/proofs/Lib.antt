@@ -1,6 +1,7 @@
 pub mod Bounds
 pub mod FlowLemmas
 pub mod UseLemmas
+pub mod Handing
 pub mod NameLemmas
 pub mod Mapped
 pub mod Written

@@ -15,7 +15,6 @@ use Rattle.cqf_access.specs.Bounding.{link_of}
 use Rattle.cqf_access.specs.Closer.{closer_at_edge}
 use Rattle.cqf_edge.specs.declared.edge.AccessTimes.{AccessTimes}
 use Rattle.cqf_edge.specs.declared.edge.Passage.{Passage}
-use Rattle.cqf_edge.specs.declared.uses.AccessBound.{AccessBound}
 use Rattle.cqf_edge.specs.Uses.{most_bound, time_in}
 
 -- the least and the greatest delay of an access link

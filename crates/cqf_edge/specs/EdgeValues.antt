@@ -1,5 +1,5 @@
 -- What the values of streams at their edge bridges mean.
-use Rattle.std.specs.Prelude.{ℕ, map}
+use Rattle.std.specs.Prelude.{map}
 use Rattle.cqf_traffic.specs.FlowsText.{flow_text}
 use Rattle.cqf_sketch.specs.StreamsText.{stream_text}
 use Rattle.cqf_edge.specs.declared.flows.EdgeFlows.{EdgeFlows}

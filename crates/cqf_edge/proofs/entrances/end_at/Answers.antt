@@ -1,4 +1,4 @@
-use Rattle.std.proofs.Common.{◌∙◌, sym}
+use Rattle.std.proofs.Common.{sym}
 use Rattle.cqf_edge.proofs.NameLemmas.{end_differs}
 use Rattle.cqf_edge.proofs.entrances.end_at.Goals as goal
 

@@ -1,4 +1,4 @@
-use Rattle.std.proofs.Common.{◌≡◌, drop, length, map}
+use Rattle.std.proofs.Common.{◌≡◌, drop, map}
 use Rattle.std.specs.Prelude.{string_bytes}
 use Rattle.cqf_edge.specs.Entrances.{end_at}
 use Rattle.cqf_edge.proofs.entrances.end_at.Given as goal

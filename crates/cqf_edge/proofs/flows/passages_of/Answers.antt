@@ -1,4 +1,4 @@
-use Rattle.std.proofs.Common.{◌∙◌, ◌<◌, arith, length, sym}
+use Rattle.std.proofs.Common.{◌<◌, arith, length}
 use Rattle.std.proofs.lemmas.List.Elements.{All-push, All-same}
 use Rattle.cqf_edge.specs.EdgeFlows.{IsPassageOne, passage_of}
 use Rattle.cqf_edge.proofs.Mapped.{map_next}

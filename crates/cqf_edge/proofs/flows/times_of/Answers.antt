@@ -1,4 +1,4 @@
-use Rattle.std.proofs.Common.{◌∙◌, ◌<◌, arith, sym}
+use Rattle.std.proofs.Common.{◌∙◌, arith, sym}
 use Rattle.cqf_edge.proofs.flows.times_of.Goals as goal
 
 pub times-requires : goal.times-requires

@@ -1,4 +1,4 @@
-use Rattle.std.proofs.Common.{◌≡◌, ◌∙◌, ◌<◌, arith, length, map, refl, sym}
+use Rattle.std.proofs.Common.{◌∙◌, ◌<◌, arith, length, map, refl}
 use Rattle.std.proofs.lemmas.List.Elements.{All-push, All-same}
 use Rattle.cqf_sketch.specs.StreamsText.{stream_text}
 use Rattle.cqf_edge.specs.EdgeFlows.{IsHandedOne}
