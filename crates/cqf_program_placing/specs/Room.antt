@@ -114,8 +114,8 @@ abbrev pub AreListeners : WantedText → Type 0
 AreListeners (AlongText paths) = ⊤
 AreListeners (BetweenText from to) = (0 < length to) × AllPairs (λ a b. a ≢ b) to
 
--- what a stream has that is read from a network file, and as it comes to its edge bridge too: octets that it requests, or traffic; traffic in
--- its ranges; and listeners
+-- what a stream has that is read from a network file, by its text and at its edge bridge: octets that it requests, or traffic; traffic in its
+-- ranges; and listeners
 pub record IsReadStream (stream : StreamText) : Type 0 where
   pub reserves : stream.octets ≡ None → stream.traffic ≡ None → ⊥
   pub traffic : IfSome stream.traffic IsTrafficText

@@ -36,7 +36,7 @@ use Rattle.cqf_edge.specs.EdgeFlows.{handed_by, passage_of}
 use Rattle.cqf_edge.specs.EdgeStreams.{EdgeStreamsText, IsWrittenStream, edge_streams, entrances_of, handed_at, handed_at_each, stream_at, stream_behind, streams_behind}
 use Rattle.cqf_edge.specs.EdgeStreams.{streams_from, way_behind, word_at}
 use Rattle.cqf_edge.specs.Entrances.{link_at}
-use Rattle.cqf_edge.specs.Uses.{IsShort, bound_by, bound_for, bound_of, bounds_from, bounds_of, handed_over, handed_to, is_enough, least_bound, link_with, longest_frame}
+use Rattle.cqf_edge.specs.Uses.{IsShort, bound_by, bound_for, bound_of, bounds_from, bounds_of, handed_over, handed_to, is_enough, least_bound, link_with}
 use Rattle.cqf_edge.specs.Uses.{most_bound, other_beside, promises_in, shortest_frame, time_in}
 use Rattle.cqf_program_placing.specs.Room.{AreListeners, IsReadStream}
 

@@ -145,12 +145,7 @@ fn offset_told(
         return None;
     };
     let every = flow.planned.request.every;
-    Some(offset_before(
-        traffic.offset(),
-        taken_by(times),
-        cycle_time,
-        every,
-    ))
+    Some(offset_before(traffic.offset(), taken_by(times), cycle_time, every))
 }
 
 /// Returns what was chosen for streams that are all placed on a cycle time, by how their flows come to their edge bridges and how long they

@@ -1,4 +1,4 @@
-use Rattle.std.proofs.Common.{◌≡◌, ◌∙◌, ◌+◌, ◌<◌, ◌++◌, ◌∷◌, [], ap, arith, length, length-append, map, refl, suc, sym}
+use Rattle.std.proofs.Common.{◌≡◌, ◌∙◌, ◌+◌, ◌<◌, [], ap, arith, length, length-append, map, refl, suc, sym}
 use Rattle.std.proofs.lemmas.List.{length-map, nil_from_length}
 use Rattle.std.specs.Vec.Iter.{into_iter_items}
 use Rattle.cqf_traffic.specs.FlowsText.{flow_text}
@@ -21,8 +21,8 @@ loop-flow-init c =
       omega (arith, none, all, many),
     )
 
-pub offset_told-requires-clause-turned : goal.offset_told-requires-clause-turned
-offset_told-requires-clause-turned c =
+pub offset_told-offset-requires-clause-turned : goal.offset_told-offset-requires-clause-turned
+offset_told-offset-requires-clause-turned c =
     turned_there c.args.cycle_time.0 (map settled_value c.args.streams.now) (map flow_text c.args.flows.items) c.args.times.now c.loop-flow.filled.items
     (flow_text c.in-Some.flow) (map flow_text (into_iter_items c.loop-flow.flow-iterator)) (map flow_text (into_iter_items c.next.new.self))
     (ap (map flow_text) c.in-Some.ensures.steps.0) c.loop-flow.invariant.0 c.requires.turned.turned
@@ -43,7 +43,7 @@ loop-flow-preserved c =
     let next : length c.push.new.self.items ≡ suc (length done) = omega (arith, longer) in (
       one_chosen c.args.cycle_time.0 streams (map flow_text c.args.flows.items) times done c.push.new.self.items _ place c.index-streams-place.result
           c.index-streams-place.result c.in-Some.flow _ _ (into_iter_items c.loop-flow.flow-iterator) rest c.loop-flow.invariant.0 at inside within
-          c.index-streams-place.is refl c.in-Some.ensures.steps.0 more next refl c.offset_told.ensures,
+          c.index-streams-place.is refl c.in-Some.ensures.steps.0 more next refl c.offset_told-offset.ensures,
       omega (arith, next, front, c.loop-flow.invariant.1),
     )
 
