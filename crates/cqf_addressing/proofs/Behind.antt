@@ -1,4 +1,4 @@
--- Lists that are read, one behind the other.
+-- Lists that are read one after the other.
 use Rattle.std.proofs.Common.{◌≡◌, ◌<◌, ◌+◌, ◌∙◌, ℕ, List, ◌++◌, Result, Ok, Err, add-one, append_assoc, ap, drop, drop-cons, get_or, length, refl, sym}
 use Rattle.toml.specs.View.{items_view, view}
 use Rattle.toml.specs.Data.{Items}
@@ -9,7 +9,7 @@ use Rattle.cqf_addressing.specs.declared.faults.AddressingFault.{AddressingFault
 use Rattle.cqf_addressing.specs.declared.links.LinkInterfaces.{LinkInterfaces}
 use Rattle.cqf_addressing.specs.Links.{element_from, interfaces_from}
 
--- what is read first, and what is read behind it
+-- what is read first, and what is read after it
 abbrev pub joined : {A E : Type 0} → Result (List A) E → Result (List A) E → Result (List A) E
 joined first rest = and_then first (λ these. and_then rest (λ more. Ok (these ++ more)))
 

@@ -26,7 +26,7 @@ link_from table =
 abbrev pub back_from : Members → Result LinkInterfaces AddressingFault
 back_from table = and_then (link_from table) (λ there. Ok (record { near = there.far; far = there.near }))
 
--- whether the name of a station stands at a key of a link's table, and whether the link stands for two
+-- whether the value at a key of a link's table is the name of a station, and whether the element is two links, one in each direction
 abbrev pub is_named : List ℕ → Items → Bool
 is_named name no_items = false
 is_named name (item d ds) = option_map_or (bytes_eq name) (as_str d) false || is_named name ds
@@ -49,7 +49,7 @@ abbrev pub directions_from : Items → Members → Result (List LinkInterfaces) 
 directions_from stations table =
     and_then (there_from stations table) (λ there. and_then (back_too stations table) (λ back. Ok (there ++ back)))
 
--- an element of the array of links, which is a table, and all of them, one behind the other
+-- an element of the array of links, which is a table; and all of them, in their order
 abbrev pub element_from : Items → Data → Result (List LinkInterfaces) AddressingFault
 element_from stations d = and_then (ok_or (as_table d) (fault.Text (toml_fault.BadValue key.Links))) (directions_from stations)
 
@@ -62,7 +62,7 @@ abbrev pub interfaces_of_array : Items → Items → Result (List LinkInterfaces
 interfaces_of_array stations items =
     if are_tables items then interfaces_from stations items else Err (fault.Text (toml_fault.BadValue key.Links))
 
--- the stations of a document, none where no array stands there
+-- the stations of a document; none if the value there is no array
 abbrev pub stations_in : Members → Items
 stations_in table = unwrap_or (option_and_then as_array (value_at key.Stations table)) no_items
 

@@ -65,7 +65,7 @@ fn is_named(name: &str, stations: &[Value]) -> bool
     false
 }
 
-/// Whether what stands at a key of a link's table is the name of a station.
+/// Returns whether the value at a key of a link's table is the name of a station.
 fn is_station(stations: &[Value], table: &Table, key: Key) -> bool
     ensures { result ≡ is_station (items_view stations.now) key (table_view table.now) }
 {
@@ -75,14 +75,14 @@ fn is_station(stations: &[Value], table: &Table, key: Key) -> bool
     }
 }
 
-/// What stands at `duplex` of a link's table.
+/// Returns the value at `duplex` of a link's table.
 fn duplex_value(table: &Table) -> Option<&Value>
     ensures { option_map (λ v. view v.now) result ≡ get_member (codes "duplex") (table_view table.now) }
 {
     table.get("duplex")
 }
 
-/// Whether a link's table stands for the way back too.
+/// Returns whether a link's table is a link in each direction.
 fn is_duplex(table: &Table) -> bool
     ensures { result ≡ is_duplex (table_view table.now) }
 {
@@ -92,7 +92,7 @@ fn is_duplex(table: &Table) -> bool
     }
 }
 
-/// Puts the interfaces of a link behind others, unless it begins at a station.
+/// Puts the interfaces of a link after others, unless it begins at a station.
 fn put_there(
     links: &mut Vec<LinkInterfaces>,
     stations: &[Value],
@@ -129,7 +129,7 @@ fn put_back(
     Ok(())
 }
 
-/// Puts the interfaces of a link behind others, in each direction that begins at no station.
+/// Puts the interfaces of a link after others, in each direction that begins at no station.
 fn put_link(
     links: &mut Vec<LinkInterfaces>,
     stations: &[Value],
@@ -173,7 +173,7 @@ fn all_links_in(
     Ok(links)
 }
 
-/// The stations of a document, none where no array stands there.
+/// Returns the stations of a document; none if the value there is no array.
 fn stations_of(table: &Table) -> &[Value]
     ensures { items_view result.now ≡ stations_in (table_view table.now) }
 {
@@ -194,10 +194,10 @@ fn interfaces_of_table(alloc: Global, table: &Table) -> Result<Vec<LinkInterface
     all_links_in(alloc, stations_of(table), values)
 }
 
-/// The interfaces of the links of a text that begin at a bridge, by number: a link that is `duplex` is one there and, right behind it, one
-/// back, at which its interfaces change places; one that begins at a station is none.
+/// Returns the interfaces of the links of a text that begin at a bridge, by number. An element that is `duplex` is two links, the one back
+/// directly after the other, with its interfaces exchanged. A link that begins at a station has no number.
 ///
-/// The text is that of a network's domain, of which only the stations, the array of links and these keys of each are looked at: `from`, `to`,
+/// Only the stations, the array of links and these keys of each link are read: `from`, `to`,
 /// `duplex`, and `interface` and `far-interface`, each a text of the form of an [`InterfaceName`].
 ///
 /// # Errors

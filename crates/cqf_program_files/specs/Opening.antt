@@ -10,11 +10,11 @@ use Rattle.cqf_program_words.specs.declared.words.Job.TheVariants as job
 use Rattle.cqf_program_words.specs.Words.{takes_domain}
 use Rattle.cqf_program_files.specs.Plants.{is_plain, leading, shown_key, tables_of}
 
--- whether something stands at a key
+-- whether a table has a key
 abbrev pub has : List ℕ → Members → Bool
 has key table = is_some (get_member key table)
 
--- the cycle time is open where an array stands there
+-- the cycle time is open if its value is an array
 abbrev pub has_open_cycle : Members → Bool
 has_open_cycle table = is_some (option_and_then as_array (get_member (codes "cycle") table))
 
@@ -40,7 +40,7 @@ is_open_stream table = lacks_way table || (lacks_octets table || lacks_turns tab
 abbrev pub open_name_in : Members → Option (List ℕ)
 open_name_in table = if is_open_stream table then option_and_then as_str (get_member (codes "name") table) else None
 
--- the name of the first of some streams of which something is open: of an array's, of a table's and of several tables'
+-- the name of the first stream that leaves something open: in an array, in a table, and in several tables
 abbrev pub first_open_of : Items → Option (List ℕ)
 first_open_of no_items = None
 first_open_of (item d ds) = option_or (option_and_then open_name_in (as_table d)) (first_open_of ds)

@@ -342,10 +342,14 @@ fn check_closed(alloc: Global, job: &Job, names: &[&str], texts: &[&[u8]]) -> Re
 /// [`script_of_calls`] reads, unless it begins as offers do. All else is as in [`cqf_program_words::composed`].
 ///
 /// # Errors
-/// Where the job takes a domain, status 1 and the line of the first fault: of files whose names end with `.toml`, and then of the first file
-/// where no line divides it, a line that is too long to be parsed, and then a key that no command knows; of several files that are one plant
-/// one that isn't TOML, and then `cycle`, `guard` or `sync` in two; unless the job is `plan`, several cycle times, and then a stream of which
-/// something is left to `plan`; and an only file behind a plant that is empty, of a job that reads a script. Status 3 for want of memory.
+/// With status 1 and the line of the first fault, if the job takes a domain, in this order:
+/// - in the files whose names end with `.toml`, and in the first file if no line divides it: a line that is too long to be parsed, then a key
+///   that no command knows;
+/// - in several files of one network: one that isn't TOML, then `cycle`, `guard` or `sync` in two of them;
+/// - unless the job is `plan`: several cycle times, then a stream that leaves something open for `plan`;
+/// - if the job reads a script: an empty file that is the only one after the network.
+///
+/// With status 3 if an allocation fails.
 pub fn front_of(alloc: Global, job: &Job, names: &[&str], texts: &[&[u8]]) -> Result<Front, Stop>
     requires { length names.now ≡ length texts.now }
     ensures ok { IfOk result (IsFrontOf job.now (map (λ name. name.now) names.now) (map (λ text. text.now) texts.now)) }

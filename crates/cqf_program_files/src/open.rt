@@ -12,14 +12,14 @@ use toml::{Table, Value};
 /// The keys of a stream's traffic.
 const TRAFFIC: [&str; 5] = ["interval", "frames", "size", "jitter", "offset"];
 
-/// Whether something stands at a key.
+/// Returns whether a table has a key.
 fn has(table: &Table, key: &str) -> bool
     ensures { result ≡ has key.now (table_view table.now) }
 {
     value_at(table, key).is_some()
 }
 
-/// Whether something stands at one of the keys.
+/// Returns whether a table has one of the keys.
 fn has_any(table: &Table, keys: &[&str]) -> bool
     ensures { result ≡ list_any (λ key. has key (table_view table.now)) (map (λ key. key.now) keys.now) }
 {

@@ -72,8 +72,8 @@ pub record IsFrameSize (octets : ℕ) : Type 0 where
   pub least : 64 ≤ octets
   pub most : octets ≤ 1522
 
--- a talker's link leaves a station of the sketch and ends in one of its bridges, its least delay is at most the greatest, and what its
--- station sends beside streams are frames
+-- an access link goes from a station of the network to one of its bridges, its least delay is at most the greatest, and what its station
+-- sends beside streams are frames
 pub record IsTalkerLink (sketch : SketchDomain) (link : TalkerLink) : Type 0 where
   pub station_there : link.station < length sketch.stations
   pub bridge_there : link.bridge < length sketch.bridges

@@ -28,8 +28,8 @@ pub data WantedText : Type 0 where
   Along : List (List (List ℕ)) → WantedText
   Between : List ℕ → List (List ℕ) → WantedText
 
--- a stream of a sketch: its name, its octets a cycle where the text says them, in which cycles it is offered, its way, its talker and its
--- listeners where the text says them, its deadline, its traffic, and how long its shortest frame is where the text says it
+-- a stream of a network file: its name, its octets a cycle if the text gives them, in which cycles it is offered, its path, its talker and its
+-- listeners if the text gives them, its deadline, its traffic, and how long its shortest frame is if the text says it
 pub record StreamText : Type 0 where
   pub name : List ℕ
   pub octets : Option ℕ
@@ -101,8 +101,8 @@ in_step_at table = in_step_by (get_member (codes "in-step") table)
 abbrev pub is_pacing_open : Bool → Members → Bool
 is_pacing_open in_step table = in_step && is_none (value_at Every table)
 
--- in which cycles it is offered: in one of so many, of which the first has this phase; or, where that is open, in those that the plan says,
--- and then no key may say the phase
+-- in which cycles it is offered: in one of `every`, from this phase on; or, if that is open, in those that the plan chooses, and then no key
+-- may give the phase
 abbrev pub pacing_by : ℕ → ℕ → Bool → Members → Result Pacing FlowsFault
 pacing_by every phase in_step table =
     if is_pacing_open in_step table

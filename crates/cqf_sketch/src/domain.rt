@@ -188,16 +188,19 @@ impl SketchDomain {
     /// 10,000,000 ns. Unknown keys are ignored.
     ///
     /// # Errors
-    /// What is wrong in being read, as of [`read_draft`]; and then, each over the whole before the next: `NameTaken`, of the first name,
-    /// bridges before stations, that stood earlier; `UnknownName`, of the first `from` that names no node, or `to` that names no node
-    /// other than that, and no bridge where `from` is a station; `LinkTwice`, of the first link that leads as an earlier one does, also
-    /// back; `GuardTooLong`, where the guard time reaches the greatest
-    /// candidate, and `LinkGuardTooLong`, of the first link of the plant whose own does; `DelayTooLong`, of the first link of the plant
-    /// whose greatest delay and how far clocks may be apart, together, aren't below its guard time, and `GapTooLong`, of the first on
-    /// which the gap behind a frame takes longer; `TooMany`, where there are more bridges, stations, links of the plant or access links
-    /// than may be; `SyncTooLong`, of the first link of the plant on which clocks may be further apart than a shortest frame and its least
-    /// delay take together; and `NoAccessLink`, of the first link that has `other` and leaves no station, there or back. Links are
-    /// named by their elements' places in `links`, from 0. `Memory` where a growth is refused.
+    /// The first fault of reading, as of [`read_draft`]. Then, each over the whole text before the next:
+    /// - `NameTaken`: a name is the same as one before it, bridges before stations;
+    /// - `UnknownName`: `from` names no node; or `to` names no other node, or no bridge if `from` is a station;
+    /// - `LinkTwice`: a link leads as an earlier one does, also in the direction back of a `duplex` one;
+    /// - `GuardTooLong`: the guard band isn't shorter than the greatest candidate; `LinkGuardTooLong`: the own guard band of a link that begins
+    ///   at a bridge isn't;
+    /// - `DelayTooLong`: the greatest delay of a link that begins at a bridge, with how far clocks may be apart, isn't below its guard band;
+    /// - `GapTooLong`: the gap after a frame takes longer than the guard band of such a link;
+    /// - `TooMany`: there are too many bridges, stations, links that begin at a bridge, or access links;
+    /// - `SyncTooLong`: on a link that begins at a bridge clocks may be further apart than a shortest frame and its least delay take together;
+    /// - `NoAccessLink`: a link has `other` and begins at a station in neither direction.
+    ///
+    /// A link is given by the index of its element in `links`, from 0. `Memory` if an allocation fails.
     pub fn read(
         alloc: Global,
         text: &[u8],
@@ -292,8 +295,8 @@ impl SketchDomain {
         self.links.as_slice()
     }
 
-    /// Does nothing, and makes known to a proof what was seen to when the sketch was read: each talker's link goes from a station to a
-    /// bridge of the sketch, and no two have the same ends.
+    /// Does nothing. Makes known to a proof what was checked when the network was read: each access link goes from a station to a bridge of
+    /// the network, and no two have the same ends.
     pub fn know(&self)
         ensures there { HasTalkerLinks self.now }
     {
@@ -315,7 +318,7 @@ impl SketchDomain {
         &self.stations
     }
 
-    /// The talkers' links, each from a station to a bridge of the sketch, in the order of the text. No two have the same ends.
+    /// Returns the access links, each from a station to a bridge of the network, in the order of the text. No two have the same ends.
     pub fn talkers(&self) -> &[TalkerLink]
         ensures value { result.now ≡ self.now.talkers }
         ensures there { HasTalkerLinks self.now }

@@ -317,8 +317,8 @@ fn owed_keys(keys: &[Key; 5], given: bool) -> &[Key]
 /// reading it. If candidates for the cycle time are given, the text's `cycle` isn't read. Unknown keys are ignored.
 ///
 /// # Errors
-/// `NotToml`, `Missing` and `BadValue` as of a plant's domain, where `cycle` may be an array of 1 to 1,000 cycle times, and
-/// after a link's other keys `BadDuplex`, where `duplex` is no boolean, and `BadOther`, where `other` is no integer from 64 to 1,522; `Memory` where a growth is refused.
+/// `NotToml`, `Missing` and `BadValue` as of a domain, except that `cycle` may be an array of 1 to 1,000 cycle times. After a link's other
+/// keys `BadDuplex` if `duplex` is no boolean, and `BadOther` if `other` is no integer from 64 to 1,522. `Memory` if an allocation fails.
 pub fn read_draft(
     alloc: Global,
     text: &[u8],
@@ -333,10 +333,10 @@ pub fn read_draft(
     read_table(alloc, &table, limits, given)
 }
 
-/// What the text of a domain says whose cycle time isn't open: it is one number, as of a plant's domain.
+/// Returns what the text of a domain says whose cycle time isn't open: it is one number.
 ///
 /// # Errors
-/// As of [`read_draft`], but that an array at `cycle` is `BadValue`.
+/// As of [`read_draft`], except that an array at `cycle` is `BadValue`.
 pub fn read_one_draft(
     alloc: Global,
     text: &[u8],

@@ -1,17 +1,15 @@
-//! Network files, whose cycle time a planner chooses among candidates: their domains, their streams, and paths for
-//! these.
+//! Network files: their domains, their streams, and paths for these.
 //!
-//! - **Domains.** [`SketchDomain::read`] gives the domain that a text means, a plant's domain of which the cycle time isn't chosen yet, with each
-//!   [`TalkerLink`], by which talkers send; or a [`SketchFault`], the first thing wrong. `cycle` may be an array of candidates, a link may be
-//!   `duplex`, and it may come from a station. `read_draft` reads the text alone, as a `SketchDraft` of `SketchLink`s, and looks at no names and
-//!   ends.
-//! - **Streams.** [`read_sketch_streams`] gives those of a text, each a [`Stream`] with traffic, a deadline, the ways that are [`WantedWay`], given
-//!   branches or the ends that they go between, and its [`Pacing`]; or the first thing wrong ([`FlowsFault`]).
-//!   [`read_network_flows`] gives streams with nothing left to plan, each a [`NetworkFlow`] as its [`Talker`] has it.
-//! - **Ways.** A [`Room`] has the links of a network, what each has left, and what a stream costs. [`first_way`] finds the first way from a
-//!   bridge to a node on which each link has room, of those with fewest links, exactly where there is one, and [`first_ways`] those to several
-//!   stations, which are the branches of a tree ([`first_ways_are_a_tree`]), or a [`WaysFault`]. Where there is none for want of room,
-//!   [`first_short`] names the link that lacks it on the first way of all, which is found at a cost of 0 ([`full_ways_have_a_short_link`]).
+//! - **Domains.** [`SketchDomain::read`] returns the domain that a text means, with the candidates for its cycle time and each [`TalkerLink`], an
+//!   access link of a station; or a [`SketchFault`], the first fault. `cycle` may be an array of candidates, a link may be `duplex`, and it may
+//!   begin at a station. `read_draft` reads the text alone, as a `SketchDraft` of `SketchLink`s, without names and ends.
+//! - **Streams.** [`read_sketch_streams`] returns those of a text, or the first fault ([`FlowsFault`]). Each is a [`Stream`] with its traffic, its
+//!   deadline, its [`Pacing`], and its [`WantedWay`]: given branches, or the ends between which they go. [`read_network_flows`] returns streams
+//!   that leave nothing open, each a [`NetworkFlow`] from its [`Talker`] on.
+//! - **Paths.** A [`Room`] has the links of a network, what each has left, and what a stream costs. [`first_way`] finds the first of the shortest
+//!   paths from a bridge to a node on which each link has room, if there is one. [`first_ways`] finds those to several stations, which are the
+//!   branches of a tree ([`first_ways_are_a_tree`]), or a [`WaysFault`]. If there is none for want of room, [`first_short`] names the link that
+//!   lacks it on the first path of all, which is found at a cost of 0 ([`full_ways_have_a_short_link`]).
 //!
 //! ```text
 //! cycle = [250000, 125000]
@@ -24,8 +22,8 @@
 //! ]
 //! ```
 //!
-//! has two candidates and the plant's links a to b, b to a and b to s, numbered from 0; the way back from s to b is a talker's link of s. A
-//! third link from s to a is another one.
+//! has two candidates and the links a to b, b to a and b to s, numbered from 0. The link from s back to b is an access link of s. A third
+//! link from s to a is another one.
 //!
 //! ```text
 //! [[streams]]

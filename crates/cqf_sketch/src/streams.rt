@@ -127,9 +127,9 @@ fn streams_of_table(alloc: Global, table: &Table) -> Result<Vec<Stream>, FlowsFa
 /// Returns the streams of a network file's text, in its order. Unknown keys are ignored.
 ///
 /// `streams` is an array of tables. Of each these keys are read, in this order: `name`, a text; `octets`, an integer from
-/// 0 to 4,294,967,295, owed where no key of traffic stands; `every` and `phase`, such integers, 1 and 0 where nothing stands there;
+/// 0 to 4,294,967,295, required if the stream has no key of traffic; `every` and `phase`, such integers, 1 and 0 if they are missing;
 /// `in-step`, a boolean; `path`, an array of texts, or `paths`, an array of such arrays; `from`, a name, or a station's and a bridge's with
-/// `@` between, and `to`, a name or an array of 1 to 64 names, all different, both owed where there are no branches; `deadline`, an integer
+/// `@` between, and `to`, a name or an array of 1 to 64 names, all different, both required if there are no branches; `deadline`, an integer
 /// from 1 to 4,294,967,295; the keys of traffic ([`cqf_traffic::traffic_of`]); and `least-size`, an integer from 64 to the traffic's `size`,
 /// or to 1,522 without traffic.
 ///

@@ -1,4 +1,4 @@
-//! Streams at their edge bridges, behind their talkers' access links, by hand.
+//! Streams at their edge bridges, after their talkers' access links, worked by hand.
 use cqf_edge::{EdgeFault, EdgeFlows, edge_flows, read_streams_are_written};
 use cqf_model::Limits;
 use cqf_sketch::{SketchDomain, read_network_flows};

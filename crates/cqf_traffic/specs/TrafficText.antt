@@ -17,7 +17,7 @@ pub record TrafficText : Type 0 where
   pub jitter : ℕ
   pub offset : ℕ
 
--- a number that is represented at a key: one that a text may have there, or what it comes to at the edge bridge
+-- a number that is represented at a key: one that a text may have there, or that the access link makes of it at the edge bridge
 pub record IsInRange (key : TrafficKey) (n : ℕ) : Type 0 where
   pub least : least_of key ≤ n
   pub most : n ≤ bound_of key
