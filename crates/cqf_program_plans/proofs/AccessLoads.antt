@@ -5,7 +5,7 @@ use Rattle.std.proofs.Math.Nat.{div-le_self, min-le_left, mul-le-mul}
 use Rattle.std.proofs.lemmas.Bool.{cases_lt}
 use Rattle.std.proofs.lemmas.List.{drop_all, drop_more, get_or_past}
 use Rattle.std.proofs.lemmas.Option.{none-some}
-use Rattle.std.proofs.lemmas.List.Elements.{All-map, All-set, All-weaker}
+use Rattle.std.proofs.lemmas.List.Elements.{All-map, All-weaker}
 use Rattle.cqf_admission.specs.Asking.{asked_paced}
 use Rattle.cqf_edge.specs.declared.uses.Handed.{Handed}
 use Rattle.cqf_model.specs.Limits.{longest_cycle}
@@ -79,20 +79,9 @@ added_none (load ∷ loads) (suc place) taken above = ap (λ (rest : List Access
 more_streams : (count : ℕ) (load : AccessLoad) → IsLoadedBy count load → IsLoadedBy (count + 1) load
 more_streams count load is = record { little = is.little; few = omega (arith, is.few) }
 
--- and one stream more takes little
-one_more : (count taken : ℕ) (load : AccessLoad) → taken ≤ most_taken → IsLoadedBy count load → IsLoadedBy (count + 1) (loaded_by taken load)
-one_more count taken load little is = record { little = omega (arith, little, is.little); few = omega (arith, is.few) }
-
 pub all_same : (count : ℕ) (loads after : List AccessLoad) → after ≡ loads → All (IsLoadedBy count) loads → All (IsLoadedBy (count + 1)) after
 all_same count loads after same all =
     subst (All (IsLoadedBy (count + 1))) (sym same) (All-weaker (IsLoadedBy count) (IsLoadedBy (count + 1)) (more_streams count) loads all)
-
-pub all_more : (count place taken : ℕ) (loads after : List AccessLoad) (d : AccessLoad) → place < length loads → taken ≤ most_taken →
-    after ≡ set loads place (loaded_by taken (get_or loads place d)) → All (IsLoadedBy count) loads → All (IsLoadedBy (count + 1)) after
-all_more count place taken loads after d below little same all =
-    subst (All (IsLoadedBy (count + 1))) (sym same)
-    (All-set (IsLoadedBy (count + 1)) loads place (loaded_by taken (get_or loads place d)) (one_more count taken (get_or loads place d) little (all place d below))
-    (All-weaker (IsLoadedBy count) (IsLoadedBy (count + 1)) (more_streams count) loads all))
 
 -- a link before any stream takes a part of it
 pub unloaded_little : (network : SketchDomain) (cycle_time : ℕ) (links : List TalkerLink) → All (IsLoadedBy 0) (map (unloaded network cycle_time) links)

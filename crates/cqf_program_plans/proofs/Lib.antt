@@ -11,7 +11,6 @@ pub mod LookedOver
 pub mod Found
 mod CostsByTurn
 mod LatencyLines
-pub mod WrittenFlows
 mod AccessLoads
 mod LatencyBehind
 mod Steps

@@ -5,7 +5,7 @@ ghost use Rattle.cqf_edge.specs.EdgeValues.{edges_text};
 ghost use Rattle.cqf_program_plans.specs.Edges.{EndsAsFull, edge_line, edges_by_access, edges_of_part, edges_without, has_access, open_edges_of_part};
 
 use crate::reserving::flows_stop;
-use cqf_edge::{EdgeFault, EdgeFlows, edge_flows, flows_at_edges};
+use cqf_edge::{EdgeFault, EdgeFlows, edge_flows, flows_at_edges, read_streams_are_written};
 use cqf_output::Stop;
 use cqf_sketch::{SketchDomain, read_network_flows};
 use cqf_traffic::read_flows;
@@ -39,6 +39,7 @@ fn edges_by_access(alloc: Global, network: &SketchDomain, text: &[u8]) -> Result
         Ok(flows) => flows,
         Err(fault) => return Err(flows_stop(alloc, fault)),
     };
+    read_streams_are_written();
     match edge_flows(alloc, network, flows) {
         Ok(edge) => Ok(edge),
         Err(fault) => Err(edge_stop(alloc, fault)),
