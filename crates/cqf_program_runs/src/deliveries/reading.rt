@@ -18,7 +18,8 @@ use cqf_sketch::SketchDomain;
 use cqf_topology::PacedRequest;
 use std::alloc::Global;
 
-/// The input of a run, and the deadlines of its streams.
+/// The input of a run, and the deadlines of its streams. A deadline counts from the arrival at the edge bridge: if the stream comes by an access
+/// link, it is the written one less the most that the link takes.
 #[derive(Drop)]
 pub struct PlannedGiven {
     pub given: RunInput,
