@@ -48,19 +48,19 @@ text_with cycle text = record {
 
 -- ---- its checks
 
--- the longest guard time is that of all others or more
+-- the longest guard band is that of all others or more
 longest_others : (guard : ℕ) (links : List Link) → guard ≤ longest_of guard links
 longest_others guard [] = omega arith
 longest_others guard (link ∷ links) =
     let more : max guard (unwrap_or link.guard guard) ≤ longest_of guard (link ∷ links) = longest_others (max guard (unwrap_or link.guard guard)) links in
     omega arith
 
--- an edge's own guard time is no longer than the longest of it and others
+-- an edge's own guard band is no longer than the longest of it and others
 own_within : (own : Option ℕ) (guard others : ℕ) → guard ≤ others → unwrap_or own guard ≤ max others (unwrap_or own others)
 own_within None guard others few = omega arith
 own_within (Some n) guard others few = omega arith
 
--- a cycle time above the longest guard time is reached by none
+-- a cycle time above the longest guard band is reached by none
 short_guards : (cycle guard others : ℕ) (edges : List Edge) → guard ≤ others → longest_of others (map link_of (plant_of edges)) < cycle →
     find (has_long_guard (cycle ∷ []) guard) edges ≡ None
 short_guards cycle guard others [] few above = refl

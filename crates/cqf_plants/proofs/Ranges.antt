@@ -35,7 +35,7 @@ default_in_range Size n h = absurd (cc)
 default_in_range Jitter n h = let e : 0 ≡ n = cc in subst (IsTellableNumber Jitter) e (record { least = omega arith; most = omega arith })
 default_in_range Offset n h = let e : 0 ≡ n = cc in subst (IsTellableNumber Offset) e (record { least = omega arith; most = omega arith })
 
--- a number that can be told is represented
+-- a number that can be written is represented
 represented : (at : TrafficKey) (n : ℕ) → IsTellableNumber at n → IsInRange at n
 represented Interval n told = record { least = told.least; most = told.most }
 represented Frames n told = record { least = told.least; most = told.most }
@@ -79,7 +79,7 @@ module _ (table : Members) where
       } in
       subst IsTellableTraffic same good
 
-  -- traffic that is read can be told
+  -- traffic that is read can be written
   traffic_is_tellable : (traffic : Option TrafficText) → traffic_from table ≡ Ok traffic → IfSome traffic IsTellableTraffic
   traffic_is_tellable traffic h = by (has_traffic table) h
     where

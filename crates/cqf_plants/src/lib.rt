@@ -1,11 +1,10 @@
-//! Networks and plants as texts in TOML.
+//! Networks and plans as texts in TOML.
 //!
 //! [`write_network`] returns the text of a planned network: the tables of its file, with what was chosen filled in.
 //! [`filled_networks_read_back`] is the law that every command reads such a text as the file's network, with what was chosen.
 //!
-//! [`write_plant`] gives the text of a plant: an accepted domain and its streams, with their deadlines and traffic.
-//! [`told_plants_read_back`] is the law that such a text is read by every command as just
-//! that domain and just these streams.
+//! [`write_plant`] returns the text of an accepted domain and its streams, with their deadlines and traffic. [`told_plants_read_back`] is the law
+//! that every command reads such a text as exactly that domain and these streams.
 //!
 //! ```text
 //! bridges = ["stage"]
