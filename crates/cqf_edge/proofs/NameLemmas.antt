@@ -1,5 +1,5 @@
 -- Where branches begin and end.
-use Rattle.std.proofs.Common.{◌≡◌, ◌≢◌, ℕ, suc, zero, ◌+◌, ◌-◌, ◌<◌, ◌∷◌, [], ◌∙◌, Bool, true, false, List, ap, arith, refl, sym}
+use Rattle.std.proofs.Common.{◌≡◌, ◌≢◌, ℕ, suc, zero, ◌+◌, ◌<◌, ◌∷◌, [], ◌∙◌, Bool, true, false, List, ap, arith, refl, sym}
 use Rattle.std.proofs.Common.{◌&&◌, add-one, drop, drop-cons, get_or, length, map}
 use Rattle.std.proofs.Common.{Ok, Err, not}
 use Rattle.std.specs.List.{list_all}

@@ -1,7 +1,8 @@
 //! Streams at their edge bridges: what they promise there, by their talkers' promises at the hand-over and by their stations' access links.
 //!
-//! - **Entrances.** A stream's talker is a bridge, or a station with an access link: `Entrance`.
-//! - **Access links.** [`Handed`] is what a stream hands to a link. The link's bound is found from all that is handed to it.
+//! - **Entrances.** A stream's talker is a bridge, or a station with an access link: [`Entrance`].
+//! - **Access links.** [`Handed`] is what a stream hands to a link. The link's bound, an [`AccessBound`], is found from all that is handed to it.
+//!   Link, stream and bound make a [`Passage`].
 //! - **At the edge.** [`AccessTimes`] has the times from the hand-over of a frame until it is whole at its edge bridge. [`edge_flows`] returns the
 //!   streams of a network that has nothing open, [`edge_streams`] those of a network that is to be planned: with their promises at their edge
 //!   bridges, and with what is left there of their deadlines. An [`EdgeFault`] is the first fault.
