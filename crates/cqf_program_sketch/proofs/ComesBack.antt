@@ -31,7 +31,7 @@ use Rattle.cqf_edge.specs.declared.uses.AccessBound.{AccessBound}
 use Rattle.cqf_edge.specs.declared.uses.Handed.{Handed}
 use Rattle.cqf_edge.specs.Edge.{closer_word, grid_word, left_behind, steps_on, times_on, word_from, word_on}
 use Rattle.cqf_edge.specs.EdgeFlows.{flow_behind, handed_by, handed_of, handed_with, passage_of}
-use Rattle.cqf_edge.specs.EdgeStreams.{deadline_behind, entrance_with, handed_at, stream_behind, told_now, traffic_behind, way_behind, word_at}
+use Rattle.cqf_edge.specs.EdgeStreams.{deadline_behind, entrance_by, entrance_of_stream, entrance_with, handed_at, stream_behind, told_now, traffic_behind, way_behind, word_at}
 use Rattle.cqf_edge.specs.Entrances.{IsEntrance, agrees_with, at_node, by_station, by_that_to, entrance_of, listeners_agree}
 use Rattle.cqf_edge.specs.Uses.{handed_over}
 use Rattle.cqf_plants.specs.NetworkLaws.{IsChoice, chosen_flow, chosen_network_flow, chosen_pacing, chosen_stream, chosen_traffic, chosen_way, every_of, paths_of, phase_of}
@@ -90,7 +90,7 @@ module _ (network : SketchDomain) where
   behind_pacing None p s = refl
   behind_pacing (Some e) p s = refl
 
-behind_request : (p : Option Passage) (flow : FlowText) → (flow_behind p flow).0.0 ≡ flow.0.0
+pub behind_request : (p : Option Passage) (flow : FlowText) → (flow_behind p flow).0.0 ≡ flow.0.0
 behind_request None flow = refl
 behind_request (Some p) flow = refl
 
@@ -191,22 +191,65 @@ module _ (network : SketchDomain) (talkers : HasTalkerLinks network) (cycle_time
 
   -- ---- what it hands over
 
-  handed_is : (talker : Talker) (e : Entrance) → o.entrance ≡ Some e → entrance_with network s talker ≡ Ok e →
-      handed_with (with_cycle cycle_time network) found talker ≡ Ok (handed_at (chosen_stream o.filled s) (Some e))
-  handed_is talker e at with_it =
+  -- the paths that are read agree with it
+  record AgreeThere (talker : Talker) (e : Entrance) : Type 0 where
+    enters : entrance_of (with_cycle cycle_time network) talker ≡ Ok e
+    begins : agrees_with (with_cycle cycle_time network) found.flow.0.0.paths e ≡ Ok tt
+    ends : listeners_agree found.flow.0.0.paths s.listeners ≡ Ok tt
+
+  agree_there : (talker : Talker) (e : Entrance) → o.entrance ≡ Some e → entrance_with network s talker ≡ Ok e → AgreeThere talker e
+  agree_there talker e at with_it =
       let entered = entered_by network talkers cycle_time good s talker e with_it in
       let placed = paths_agree network talkers cycle_time good s e o.settled.way o.flow.0.0.paths s.way (entrance_inside network talker e entered.at) is.ends
       entered.by (settles_at e at) is.paths in
       let paths = found.flow.0.0.paths in
       let same : paths ≡ paths_of (chosen_way o.flow.0.0.paths s.way) = ap (λ (ps : List (List (List ℕ))). paths_of (chosen_way ps s.way)) same_paths in
-      let begins : agrees_with (with_cycle cycle_time network) paths e ≡ Ok tt =
-      agrees_same network cycle_time paths e ∙ ap (λ (ps : List (List (List ℕ))). agrees_with network ps e) same ∙ placed.begins in
-      let ends : listeners_agree paths s.listeners ≡ Ok tt = ap (λ (ps : List (List (List ℕ))). listeners_agree ps s.listeners) same ∙ placed.ends in
-      let there : entrance_of (with_cycle cycle_time network) talker ≡ Ok e = entrance_same network cycle_time talker ∙ entered.at in
-      (λ i. and_then (there i) (λ entrance. and_then (agrees_with (with_cycle cycle_time network) paths entrance) (λ _. and_then (listeners_agree paths s.listeners) (λ _.
+      record {
+        enters = entrance_same network cycle_time talker ∙ entered.at;
+        begins = agrees_same network cycle_time paths e ∙ ap (λ (ps : List (List (List ℕ))). agrees_with network ps e) same ∙ placed.begins;
+        ends = ap (λ (ps : List (List (List ℕ))). listeners_agree ps s.listeners) same ∙ placed.ends;
+      }
+
+  handed_is : (talker : Talker) (e : Entrance) → o.entrance ≡ Some e → entrance_with network s talker ≡ Ok e →
+      handed_with (with_cycle cycle_time network) found talker ≡ Ok (handed_at (chosen_stream o.filled s) (Some e))
+  handed_is talker e at with_it =
+      let agree = agree_there talker e at with_it in
+      let paths = found.flow.0.0.paths in
+      (λ i. and_then (agree.enters i) (λ entrance. and_then (agrees_with (with_cycle cycle_time network) paths entrance) (λ _. and_then (listeners_agree paths s.listeners) (λ _.
       Ok (handed_by entrance found.flow.0.0.octets s.shortest found.flow.1)))))
-      ∙ (λ i. and_then (begins i) (λ _. and_then (listeners_agree paths s.listeners) (λ _. Ok (handed_by e found.flow.0.0.octets s.shortest found.flow.1))))
-      ∙ (λ i. and_then (ends i) (λ _. Ok (handed_by e found.flow.0.0.octets s.shortest found.flow.1)))
+      ∙ (λ i. and_then (agree.begins i) (λ _. and_then (listeners_agree paths s.listeners) (λ _. Ok (handed_by e found.flow.0.0.octets s.shortest found.flow.1))))
+      ∙ (λ i. and_then (agree.ends i) (λ _. Ok (handed_by e found.flow.0.0.octets s.shortest found.flow.1)))
+
+  -- so it enters there again
+  abbrev pub again : StreamText
+  again = chosen_stream o.filled s
+
+  along_again : (paths : List (List (List ℕ))) (way : WantedText) → chosen_way paths way ≡ Along (paths_of (chosen_way paths way))
+  along_again paths (Along given) = refl
+  along_again paths (Between from to) = refl
+
+  enters_with : (talker : Talker) (e : Entrance) → o.entrance ≡ Some e → entrance_with network s talker ≡ Ok e →
+      entrance_with (with_cycle cycle_time network) again talker ≡ Ok e
+  enters_with talker e at with_it =
+      let agree = agree_there talker e at with_it in
+      let paths = found.flow.0.0.paths in
+      (λ i. and_then (agree.enters i) (λ entrance. entrance_by (with_cycle cycle_time network) again entrance again.way))
+      ∙ ap (entrance_by (with_cycle cycle_time network) again e) (along_again (paced_text o.filled.request).paths s.way)
+      ∙ (λ i. and_then (agree.begins i) (λ _. and_then (listeners_agree paths s.listeners) (λ _. Ok e)))
+      ∙ (λ i. and_then (agree.ends i) (λ _. Ok e))
+
+  pub enters_again : entrance_of_stream (with_cycle cycle_time network) again ≡ Ok o.entrance
+  enters_again = by s.talker refl is.entered
+    where
+      by : (t : Option Talker) → s.talker ≡ t → entrance_if t ≡ Ok o.entrance →
+          option_map_or (λ (talker : Talker). if is_name s.name then told_now again talker (entrance_with (with_cycle cycle_time network) again talker) else Ok None) t
+          (Ok None) ≡ Ok o.entrance
+      by None at h = h
+      by (Some talker) at h =
+          let there = enters_there talker at h in
+          ap (λ (b : Bool). if b then told_now again talker (entrance_with (with_cycle cycle_time network) again talker) else Ok None) named
+          ∙ ap (told_now again talker) (enters_with talker there.e there.at there.with_it)
+          ∙ ap Ok (sym there.at)
 
   pub handed_back : handed_of (with_cycle cycle_time network) found ≡ Ok (handed_at (chosen_stream o.filled s) o.entrance)
   handed_back = by s.talker refl is.entered
@@ -328,6 +371,26 @@ module _ (network : SketchDomain) (talkers : HasTalkerLinks network) (cycle_time
           }
       by false given = by_given s.pacing refl given
 
+  -- its cycles are given there
+  pub given_again : again.pacing ≡ Given (every_of again.pacing) (phase_of again.pacing)
+  given_again = by (is_chosen_on cycle_time o.settled) refl
+    where
+      by_given : (pacing : Pacing) → s.pacing ≡ pacing → is_chosen_on cycle_time o.settled ≡ false →
+          chosen_pacing o.filled.request None pacing ≡ Given (every_of (chosen_pacing o.filled.request None pacing)) (phase_of (chosen_pacing o.filled.request None pacing))
+      by_given (Given every phase) at given = refl
+      by_given InStep at given =
+          let both = sym (is.taken.in_step (sym own_pacing ∙ at)) ∙ given in absurd cc
+
+      by : (b : Bool) → is_chosen_on cycle_time o.settled ≡ b → again.pacing ≡ Given (every_of again.pacing) (phase_of again.pacing)
+      by true chosen =
+          let there = turned chosen in
+          subst (λ (x : Option ℕ). chosen_pacing o.filled.request x s.pacing
+          ≡ Given (every_of (chosen_pacing o.filled.request x s.pacing)) (phase_of (chosen_pacing o.filled.request x s.pacing))) (sym there.begins) refl
+      by false given =
+          subst (λ (x : Option ℕ). chosen_pacing o.filled.request x s.pacing
+          ≡ Given (every_of (chosen_pacing o.filled.request x s.pacing)) (phase_of (chosen_pacing o.filled.request x s.pacing))) (sym (given_begins given))
+          (by_given s.pacing refl given)
+
   paths_same : paths_of (chosen_way o.flow.0.0.paths s.way) ≡ o.flow.0.0.paths
   paths_same = by o.entrance refl
     where
@@ -335,7 +398,7 @@ module _ (network : SketchDomain) (talkers : HasTalkerLinks network) (cycle_time
       by None none = paths_read network talkers cycle_time good o.settled.way o.flow.0.0.paths s.way (never_between none) (settles_none none) is.paths
       by (Some e) at = paths_behind network talkers cycle_time good e o.settled.way o.flow.0.0.paths s.way (settles_at e at) is.paths
 
-  request_same : (chosen_flow o.filled s).0.0 ≡ o.flow.0.0
+  pub request_same : (chosen_flow o.filled s).0.0 ≡ o.flow.0.0
   request_same =
       let name : s.name ≡ o.flow.0.0.name = sym (behind_name network o.entrance p s) ∙ is.settles.name_is ∙ sym is.taken.name in
       let octets : o.filled.request.octets ≡ o.flow.0.0.octets = ap (λ (r : PacedText). r.octets) is.choice.request in
@@ -569,3 +632,95 @@ module _ (network : SketchDomain) (talkers : HasTalkerLinks network) (cycle_time
           let inside : place < length network.talkers = entrance_there (ByAccess place) at in
           let nothing : length network.talkers ≡ 0 = ap length none in
           absurd (omega (arith, inside, nothing))
+
+  -- ---- planned again
+
+  -- what is left of it at its edge bridge
+  abbrev pub flow_again : FlowText
+  flow_again = flow_behind (passed o.entrance) (chosen_flow o.filled s)
+
+  abbrev pub stream_again : StreamText
+  stream_again = record {
+    name = s.name;
+    octets = Some o.filled.request.octets;
+    pacing = Given (every_of again.pacing) (phase_of again.pacing);
+    way = Along (chosen_flow o.filled s).0.0.paths;
+    talker = s.talker;
+    listeners = s.listeners;
+    deadline = flow_again.0.1;
+    traffic = flow_again.1;
+    shortest = s.shortest;
+  }
+
+  pub behind_again : stream_behind (with_cycle cycle_time network) o.entrance (passed o.entrance) again ≡ stream_again
+  behind_again = by o.entrance
+    where
+      along : again.way ≡ Along (chosen_flow o.filled s).0.0.paths
+      along = along_again (paced_text o.filled.request).paths s.way
+
+      -- its deadline and its traffic are those of its flow
+      left : (q : Option Passage) → deadline_behind q s.deadline ≡ (flow_behind q (chosen_flow o.filled s)).0.1
+      left None = refl
+      left (Some p) = refl
+
+      word : (q : Option Passage) (every phase : ℕ) → traffic_behind q (Given every phase) again.traffic ≡ (flow_behind q (chosen_flow o.filled s)).1
+      word None every phase = refl
+      word (Some p) every phase = refl
+
+      by : (e : Option Entrance) → stream_behind (with_cycle cycle_time network) e (passed e) again ≡ record {
+        name = s.name;
+        octets = Some o.filled.request.octets;
+        pacing = Given (every_of again.pacing) (phase_of again.pacing);
+        way = Along (chosen_flow o.filled s).0.0.paths;
+        talker = s.talker;
+        listeners = s.listeners;
+        deadline = (flow_behind (passed e) (chosen_flow o.filled s)).0.1;
+        traffic = (flow_behind (passed e) (chosen_flow o.filled s)).1;
+        shortest = s.shortest;
+      }
+      by None = (λ i. record {
+        name = s.name;
+        octets = Some o.filled.request.octets;
+        pacing = given_again i;
+        way = along i;
+        talker = s.talker;
+        listeners = s.listeners;
+        deadline = s.deadline;
+        traffic = again.traffic;
+        shortest = s.shortest;
+      })
+      by (Some e) =
+          let given : StreamText = record {
+            name = s.name;
+            octets = Some o.filled.request.octets;
+            pacing = Given (every_of again.pacing) (phase_of again.pacing);
+            way = Along (chosen_flow o.filled s).0.0.paths;
+            talker = s.talker;
+            listeners = s.listeners;
+            deadline = deadline_behind (passed (Some e)) s.deadline;
+            traffic = traffic_behind (passed (Some e)) (Given (every_of again.pacing) (phase_of again.pacing)) again.traffic;
+            shortest = s.shortest;
+          } in
+          let first : stream_behind (with_cycle cycle_time network) (Some e) (passed (Some e)) again ≡ given =
+          (λ i. record {
+            name = s.name;
+            octets = Some o.filled.request.octets;
+            pacing = given_again i;
+            way = way_behind (with_cycle cycle_time network) e (along i);
+            talker = s.talker;
+            listeners = s.listeners;
+            deadline = deadline_behind (passed (Some e)) s.deadline;
+            traffic = traffic_behind (passed (Some e)) (given_again i) again.traffic;
+            shortest = s.shortest;
+          }) in
+          first ∙ (λ i. record {
+            name = s.name;
+            octets = Some o.filled.request.octets;
+            pacing = Given (every_of again.pacing) (phase_of again.pacing);
+            way = Along (chosen_flow o.filled s).0.0.paths;
+            talker = s.talker;
+            listeners = s.listeners;
+            deadline = left (passed (Some e)) i;
+            traffic = word (passed (Some e)) (every_of again.pacing) (phase_of again.pacing) i;
+            shortest = s.shortest;
+          })

@@ -17,6 +17,8 @@ mod EndsRead
 mod Ones
 mod Entered
 mod ComesBack
+mod Again
+mod AgainTables
 mod ReadBack
 mod Shallow
 mod Strict

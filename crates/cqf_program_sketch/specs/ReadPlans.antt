@@ -21,7 +21,9 @@ use Rattle.cqf_sketch.specs.SketchDomain.{AreCandidates, SketchDomain, network_o
 use Rattle.cqf_edge.specs.EdgeFlows.{EdgeFlowsText, edge_flows}
 use Rattle.cqf_plants.specs.Networks.{table_of}
 use Rattle.cqf_plants.specs.Plants.{unpaced}
+use Rattle.cqf_text.specs.Parts.{parts_of}
 use Rattle.cqf_program_scenario.specs.Networks.{domain_of}
+use Rattle.cqf_program_scenario.specs.Parts.{two_parts}
 use Rattle.cqf_program_plans.specs.declared.latency.latencies.Latency.{Latency}
 use Rattle.cqf_program_plans.specs.Compile.Output.{admitted_from}
 use Rattle.cqf_program_plans.specs.Edges.{open_edges_of_part}
@@ -32,7 +34,7 @@ use Rattle.cqf_program_plans.specs.Reserving.{first_lack, planned_octets}
 use Rattle.cqf_program_offers.specs.OffersOutput.{asked_in, sender_of}
 use Rattle.cqf_program_placing.specs.Placing.{is_chosen_on}
 use Rattle.cqf_program_placing.specs.Settled.{SettledStream}
-use Rattle.cqf_program_sketch.specs.Choosing.{IsPlanned}
+use Rattle.cqf_program_sketch.specs.Choosing.{IsPlanned, IsUnplanned}
 use Rattle.cqf_program_sketch.specs.PlanLaws.{ReservesEnough, deadlines_of}
 use Rattle.cqf_program_sketch.specs.PlanOutput.{IsPlanText, Sketched, sketch_input}
 
@@ -120,3 +122,18 @@ ChosenStreamsComeInTurns =
     slice_get streams place ≡ Some stream → slice_get there place ≡ Some one → is_chosen_on d.cycle_time stream ≡ true →
     Contains (offers_named one.0.0.name (offers_before until seed (map (sender_of d) there))) x → (at : ℕ) → x.at.0 ≤ at + d.sync → at ≤ x.at.0 + d.sync →
     is_turn (pace_of (asked_in one)) 0 (cycle_of d at) ≡ true
+
+-- an input is planned as a text says: it is a network file that has a plan, and the text of each of its plans has the same table as the given one
+pub record PlansTo (limits : Limits) (input text : List ℕ) : Type 0 where
+  pub sketched : Sketched
+  pub is_input : sketch_input limits None input ≡ Ok sketched
+  pub some_plan : (line : List ℕ) → IsUnplanned sketched.domain sketched.streams line → ⊥
+  pub same_table : (again : List ℕ) → IsPlanText sketched again → table_of again ≡ table_of text
+
+-- a plan plans to itself: `plan` finds a plan for each text that it wrote, as both parts of an input, and writes it with the same table. The
+-- tables of the first file aren't nested deeper than the reader allows
+abbrev pub PlansPlanThemselves : Type 0
+PlansPlanThemselves =
+    (limits : Limits) (given : Option (List ℕ)) (input text : List ℕ) (sketched : Sketched) → IfSome given AreCandidates →
+    sketch_input limits given input ≡ Ok sketched → IsShallow sketched.domain_text → IsShallow sketched.streams_text → IsPlanText sketched text →
+    (own : List ℕ) → two_parts (parts_of own) ≡ Ok (text, text) → PlansTo limits own text

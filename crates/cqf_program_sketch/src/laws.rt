@@ -1,6 +1,6 @@
 //! Laws about plans that are written.
 ghost use Rattle.cqf_program_sketch.specs.PlanLaws.{SketchesArePlacedByRoom, ToldPlanIsAdmitted};
-ghost use Rattle.cqf_program_sketch.specs.ReadPlans.{ChosenStreamsComeInTurns, ToldPlansReadBack};
+ghost use Rattle.cqf_program_sketch.specs.ReadPlans.{ChosenStreamsComeInTurns, PlansPlanThemselves, ToldPlansReadBack};
 
 use cqf_laws_history::state_follows_history;
 use cqf_laws_timing::lists_bound_costs;
@@ -42,6 +42,14 @@ pub fn sketches_are_placed_where_there_is_room()
 /// cycle 0, each reserves what its talker needs in a cycle, and none may have a frame that misses its deadline: `latency --strict` succeeds.
 pub fn told_plans_read_back()
     ensures { ToldPlansReadBack }
+{
+    state_follows_history();
+    filled_networks_read_back();
+}
+
+/// A plan plans to itself: for the text of a written plan, `plan` finds a plan again, and the text of that plan has the same table.
+pub fn plans_plan_themselves()
+    ensures { PlansPlanThemselves }
 {
     state_follows_history();
     filled_networks_read_back();
