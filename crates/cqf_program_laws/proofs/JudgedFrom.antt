@@ -40,7 +40,6 @@ use Rattle.cqf_program_plans.specs.Latency.Text.{deadline_of, is_station, latenc
 use Rattle.cqf_program_plans.specs.Latency.Text.{times_of}
 use Rattle.cqf_program_plans.proofs.CompileLemmas.{same_ok}
 use Rattle.cqf_program_runs.specs.declared.deliveries.delivery.Delivery.{Delivery}
-use Rattle.cqf_program_runs.specs.declared.deliveries.delivery.Fate.TheVariants as fate
 use Rattle.cqf_program_runs.specs.declared.deliveries.delivery.Journey.{Journey}
 use Rattle.cqf_program_runs.specs.declared.deliveries.delivery.Passage.{Passage}
 use Rattle.cqf_program_runs.specs.declared.deliveries.delivery.Passage.TheVariants as passage

@@ -1,5 +1,5 @@
 -- A written plan keeps its word in every loose network.
-use Rattle.std.proofs.Common.{◌≡◌, ◌∙◌, [], ℕ, List, Contains, ap, map, subst, sym}
+use Rattle.std.proofs.Common.{◌≡◌, ◌∙◌, ℕ, List, Contains, ap, map, subst, sym}
 use Rattle.cqf_model.specs.declared.frames.Background.{Background}
 use Rattle.cqf_model.specs.declared.frames.Offer.{Offer}
 use Rattle.cqf_model.specs.declared.frames.Offered.{Offered}

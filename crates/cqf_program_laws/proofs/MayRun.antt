@@ -24,7 +24,6 @@ use Rattle.cqf_report.proofs.OfferLemmas.{offers-few, offers-good}
 use Rattle.cqf_report.proofs.ReadTables.{rows_under-in_order}
 use Rattle.cqf_output.specs.Stops.{or_line}
 use Rattle.cqf_program_scenario.specs.Calls.{HasRoom}
-use Rattle.cqf_program_scenario.specs.Closing.{MayBeRun}
 use Rattle.cqf_program_scenario.specs.Lines.{background_line, offers_line, script_line, streams_line}
 use Rattle.cqf_program_scenario.specs.Networks.{domain_of_part}
 use Rattle.cqf_program_scenario.specs.Parts.{RunTexts, run_parts}
