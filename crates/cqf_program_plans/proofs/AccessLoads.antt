@@ -1,5 +1,5 @@
 -- What streams take of access links, stream by stream.
-use Rattle.std.proofs.Common.{ℕ, ◌≡◌, ◌⊎◌, ◌∙◌, ◌+◌, ◌*◌, ◌/◌, ◌%◌, ◌^◌, ◌<◌, ◌≤◌, List, [], ◌∷◌, Option, Some, None, All, ap, arith, drop, get_or, inl, inr, length, map, min, refl, set, subst, suc, sym, zero}
+use Rattle.std.proofs.Common.{ℕ, ◌≡◌, ◌⊎◌, ◌∙◌, ◌+◌, ◌*◌, ◌/◌, ◌%◌, ◌<◌, ◌≤◌, List, [], ◌∷◌, Option, Some, None, All, ap, arith, drop, get_or, inl, inr, length, map, min, refl, set, subst, suc, sym, zero}
 use Rattle.std.specs.Int.{div_ceil}
 use Rattle.std.proofs.Math.Nat.{div-le_self, min-le_left, mul-le-mul}
 use Rattle.std.proofs.lemmas.Bool.{cases_lt}
