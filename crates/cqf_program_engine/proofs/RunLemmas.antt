@@ -155,7 +155,7 @@ refusal_statuses limits (Check cycles) input stop h = h.statuses
 refusal_statuses limits (Summary cycles) input stop h = h.statuses
 refusal_statuses limits (Offers cycles seed) input stop h = h.statuses
 refusal_statuses limits (Hops cycles stream frame) input stop h = h.statuses
-refusal_statuses limits (Plan table given) input stop h = h.statuses
+refusal_statuses limits (Plan table given tries best) input stop h = h.statuses
 
 -- a refused input with status 3 has no text
 refusal_memory : (limits : Limits) (job : Job) (input : List ℕ) (stop : Stop) → IsRefusal limits job input stop → stop.status ≡ 3 → stop.text.items ≡ []
@@ -174,7 +174,7 @@ refusal_memory limits (Check cycles) input stop h = h.memory
 refusal_memory limits (Summary cycles) input stop h = h.memory
 refusal_memory limits (Offers cycles seed) input stop h = h.memory
 refusal_memory limits (Hops cycles stream frame) input stop h = h.memory
-refusal_memory limits (Plan table given) input stop h = h.memory
+refusal_memory limits (Plan table given tries best) input stop h = h.memory
 
 -- a job that fails has status 4
 failure_status : (limits : Limits) (job : Job) (input : List ℕ) (stop : Stop) → IsFailure limits job input stop → stop.status ≡ 4
@@ -191,7 +191,7 @@ failure_status limits (Check cycles) input stop h = absurd h
 failure_status limits (Summary cycles) input stop h = absurd h
 failure_status limits (Offers cycles seed) input stop h = absurd h
 failure_status limits (Hops cycles stream frame) input stop h = absurd h
-failure_status limits (Plan table given) input stop h = absurd h
+failure_status limits (Plan table given tries best) input stop h = absurd h
 
 -- an input that is refused stops it
 HasCause-by_refusal : (words : List (List ℕ)) (bytes : List ℕ) (job : Job) (stop : Stop) → length bytes ≤ most_bytes words
@@ -412,7 +412,7 @@ job_within (Check cycles) name rows is = number_within 1 100000 cycles (first_of
 job_within (Summary cycles) name rows is = number_within 1 100000 cycles (first_of (codes "cycles") rows) is.1
 job_within (Offers cycles seed) name rows is = number_within 1 100000 cycles (first_of (codes "cycles") rows) is.1
 job_within (Hops cycles stream frame) name rows is = number_within 1 100000 cycles (first_of (codes "cycles") rows) is.1
-job_within (Plan table given) name rows is = tt
+job_within (Plan table given tries best) name rows is = tt
 
 -- the numbers of a job that options give are within their ranges
 found_within : (job : Job) (found : Option (Text × List Row)) → IsJob job found → IsWithin job
@@ -517,7 +517,7 @@ no_threads (Check own) name rows cycles is other h = not_both name (codes "check
 no_threads (Summary own) name rows cycles is other h = not_both name (codes "summary") (codes "run") is.0 h.0 (λ e. omega (arith, e))
 no_threads (Offers own seed) name rows cycles is other h = not_both name (codes "offers") (codes "run") is.0 h.0 (λ e. omega (arith, e))
 no_threads (Hops own stream frame) name rows cycles is other h = not_both name (codes "hops") (codes "run") is.0 h.0 (λ e. omega (arith, e))
-no_threads (Plan table given) name rows cycles is other h = not_both name (codes "plan") (codes "run") is.0 h.0 (λ e. omega (arith, e))
+no_threads (Plan table given tries best) name rows cycles is other h = not_both name (codes "plan") (codes "run") is.0 h.0 (λ e. omega (arith, e))
 
 -- what is read from words isn't both
 no_threads_found : (job : Job) (found : Option (Text × List Row)) (cycles : ℕ) → IsJob job found → is_threaded job ≡ false → IsJob (Run cycles true) found → ⊥

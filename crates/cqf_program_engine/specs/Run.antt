@@ -58,7 +58,7 @@ IsWithin (Check cycles) = cycles ≤ most_cycles
 IsWithin (Offers cycles seed) = cycles ≤ most_cycles
 IsWithin (Summary cycles) = cycles ≤ most_cycles
 IsWithin (Hops cycles stream frame) = cycles ≤ most_cycles
-IsWithin (Plan table given) = ⊤
+IsWithin (Plan table given tries best) = ⊤
 
 -- whether the job is a run on threads
 abbrev pub is_threaded : Job → Bool
@@ -96,7 +96,7 @@ IsOutput limits (Check cycles) input output = IsChecked limits cycles input (Ok 
 IsOutput limits (Offers cycles seed) input output = offered_input limits cycles seed input ≡ Ok output
 IsOutput limits (Summary cycles) input output = IsSummaryOutput limits cycles input output
 IsOutput limits (Hops cycles stream frame) input output = IsHopsOutput limits cycles (wanted_of stream frame) input output
-IsOutput limits (Plan table given) input output = IsPlanOf limits table (option_map times_of given) input (Ok output)
+IsOutput limits (Plan table given tries best) input output = IsPlanOf limits table (option_map times_of given) input (Ok output)
 
 -- the input of a job, which is read within given limits, is refused with a line: of its first fault; for `latency` if
 -- strict, of a deadline that isn't certain to be met; for `check`, of what isn't well; or for `plan`, if no candidate
@@ -117,7 +117,7 @@ IsRefusal limits (Check cycles) input stop = IsCheckRefusal limits cycles input 
 IsRefusal limits (Offers cycles seed) input stop = IsRefused (offered_input limits cycles seed input) stop
 IsRefusal limits (Summary cycles) input stop = IsRefused (planned_scenario limits cycles input) stop
 IsRefusal limits (Hops cycles stream frame) input stop = IsRefused (wanted_scenario limits cycles (wanted_of stream frame) input) stop
-IsRefusal limits (Plan table given) input stop = IsPlanRefusal limits table (option_map times_of given) input stop
+IsRefusal limits (Plan table given tries best) input stop = IsPlanRefusal limits table (option_map times_of given) input stop
 
 -- a run on threads fails, with the line of its fault; its input isn't refused. No other job fails
 abbrev pub IsFailure : Limits → Job → List ℕ → Stop → Type 0

@@ -1,5 +1,5 @@
 -- Which candidate for the cycle time is taken, and the line that is printed if none is good.
-use Rattle.std.specs.Prelude.{ℕ, ◌≡◌, ◌<◌, ◌==◌, ◌++◌, List, ◌∷◌, [], All, codes, decimal, fold, if◌then◌else◌, length, nat_lt, Option, Some, None, IsSome}
+use Rattle.std.specs.Prelude.{ℕ, ◌≡◌, ◌<◌, ◌==◌, ◌+◌, ◌++◌, List, ◌∷◌, [], All, codes, decimal, fold, if◌then◌else◌, length, nat_lt, Option, Some, None, IsSome}
 use Rattle.cqf_model.specs.Domain.{Domain}
 use Rattle.cqf_sketch.specs.SketchDomain.{SketchDomain, longest_guard}
 use Rattle.cqf_traffic.specs.FlowsText.{FlowText}
@@ -10,7 +10,8 @@ use Rattle.cqf_program_placing.specs.Settled.{SettledStream}
 use Rattle.cqf_program_sketch.specs.declared.candidates.Candidate.{Candidate}
 use Rattle.cqf_program_sketch.specs.declared.candidates.CandidateFault.{CandidateFault}
 use Rattle.cqf_program_sketch.specs.declared.candidates.CandidateFault.TheVariants as shut
-use Rattle.cqf_program_sketch.specs.Judging.{ArePlacedAt, AreJudgedBy, candidate_of, flows_placed}
+use Rattle.cqf_program_sketch.specs.Judging.{candidate_of, flows_placed}
+use Rattle.cqf_program_sketch.specs.Orders.{AreJudgedBy, AreTriedAt}
 
 -- the text of a candidate's fault
 abbrev pub candidate_fault_text : CandidateFault → List ℕ
@@ -21,26 +22,28 @@ candidate_fault_text (shut.Stream name found) = name ++ (codes ": " ++ plan_faul
 abbrev pub IsBad : Candidate → Type 0
 IsBad candidate = IsSome candidate.fault
 
--- a plan: its cycle time is the first good candidate, and its streams are those that are placed on it
-pub record IsPlanned (sketch : SketchDomain) (streams : List SettledStream) (d : Domain) (flows : List FlowText) : Type 0 where
+-- a plan: its cycle time is the first good candidate, for each of which at most so many other orders of placing are tried, and its streams are
+-- those that are placed on it
+pub record IsPlanned (sketch : SketchDomain) (streams : List SettledStream) (tries : ℕ) (d : Domain) (flows : List FlowText) : Type 0 where
   pub before : List ℕ
   pub cycle_time : ℕ
   pub behind : List ℕ
   pub among : sketch.candidates ≡ before ++ (cycle_time ∷ behind)
   pub told : List Candidate
-  pub judged : AreJudgedBy sketch streams before told
+  pub judged : AreJudgedBy sketch streams tries before told
   pub bad : All IsBad told
   pub open_to : longest_guard sketch < cycle_time
   pub placed : PlacedStreams
-  pub are_placed : ArePlacedAt sketch streams cycle_time placed
+  pub are_placed : AreTriedAt sketch streams tries cycle_time placed
   pub good : (candidate_of streams placed).fault ≡ None
   pub domain_is : d ≡ placed.domain
   pub flows_are : flows ≡ flows_placed placed.domain.cycle_time streams placed.outcomes
 
--- of two candidates the first, unless more streams are placed on the second; and the best of some
+-- of two candidates the first, unless fewer streams aren't placed or may be late on the second, each at each listener where it may; and the best
+-- of some
 abbrev pub better : Option Candidate → Candidate → Option Candidate
 better None candidate = Some candidate
-better (Some best) candidate = if nat_lt best.placed candidate.placed then Some candidate else Some best
+better (Some best) candidate = if nat_lt (candidate.late + best.placed) (best.late + candidate.placed) then Some candidate else Some best
 
 abbrev pub best_of : List Candidate → Option Candidate
 best_of told = fold better None told
@@ -60,9 +63,9 @@ abbrev pub line_of_best : ℕ → Option Candidate → List ℕ
 line_of_best count None = []
 line_of_best count (Some best) = bad_line count best.cycle_time best.fault
 
--- no candidate is good, and this line says why the one on which most streams are placed isn't
-pub record IsUnplanned (sketch : SketchDomain) (streams : List SettledStream) (line : List ℕ) : Type 0 where
+-- no candidate is good, and this line says why the best of them isn't
+pub record IsUnplanned (sketch : SketchDomain) (streams : List SettledStream) (tries : ℕ) (line : List ℕ) : Type 0 where
   pub told : List Candidate
-  pub judged : AreJudgedBy sketch streams sketch.candidates told
+  pub judged : AreJudgedBy sketch streams tries sketch.candidates told
   pub bad : All IsBad told
   pub line_is : line ≡ line_of_best (length sketch.candidates) (best_of told)

@@ -130,16 +130,3 @@ shut_candidate cycle_time =
 pub record ArePlacedAt (sketch : SketchDomain) (streams : List SettledStream) (cycle_time : ℕ) (placed : PlacedStreams) : Type 0 where
   pub domain : placed.domain ≡ domain_at sketch cycle_time
   pub placed_are : ArePlaced streams placed
-
--- the verdict on a candidate
-pub record IsJudgedBy (sketch : SketchDomain) (streams : List SettledStream) (cycle_time : ℕ) (candidate : Candidate) : Type 0 where
-  pub shut : cycle_time ≤ longest_guard sketch → candidate ≡ shut_candidate cycle_time
-  pub open_to : longest_guard sketch < cycle_time → (placed : PlacedStreams) × ArePlacedAt sketch streams cycle_time placed × (candidate ≡ candidate_of streams placed)
-
--- the verdicts on some candidates, in their order
-abbrev pub AreJudgedBy : SketchDomain → List SettledStream → List ℕ → List Candidate → Type 0
-AreJudgedBy sketch streams [] [] = Unit {0}
-AreJudgedBy sketch streams [] (candidate ∷ more) = ⊥
-AreJudgedBy sketch streams (cycle_time ∷ cycles) [] = ⊥
-AreJudgedBy sketch streams (cycle_time ∷ cycles) (candidate ∷ more) =
-    IsJudgedBy sketch streams cycle_time candidate × AreJudgedBy sketch streams cycles more

@@ -1,4 +1,5 @@
 pub mod Judging
+pub mod Orders
 pub mod Choosing
 pub mod TableText
 pub mod PlanLaws
@@ -6,3 +7,4 @@ pub mod PlanOutput
 -- the contracts of inner functions
 pub mod Steps
 pub mod Trying
+pub mod Searching

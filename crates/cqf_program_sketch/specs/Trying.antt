@@ -8,7 +8,8 @@ use Rattle.cqf_program_sketch.specs.declared.choosing.Choice.{Choice}
 use Rattle.cqf_program_sketch.specs.declared.choosing.Choice.TheVariants as choice
 use Rattle.cqf_program_sketch.specs.declared.trying.Tried.{Tried}
 use Rattle.cqf_program_sketch.specs.Choosing.{IsBad, IsPlanned, IsUnplanned, best_of, line_of_best}
-use Rattle.cqf_program_sketch.specs.Judging.{ArePlacedAt, AreJudgedBy, IsJudgedBy, candidate_of, flows_placed}
+use Rattle.cqf_program_sketch.specs.Judging.{candidate_of, flows_placed}
+use Rattle.cqf_program_sketch.specs.Orders.{AreJudgedBy, AreTriedAt, IsJudgedBy}
 
 -- the verdict on streams that are placed, with their domain and the outcome for each
 pub record IsTriedBy (streams : List SettledStream) (placed : PlacedStreams) (tried : Tried) : Type 0 where
@@ -17,43 +18,43 @@ pub record IsTriedBy (streams : List SettledStream) (placed : PlacedStreams) (tr
   pub outcomes_are : map outcome_value tried.outcomes.items ≡ placed.outcomes
 
 -- the same on a cycle time
-pub record IsTried (sketch : SketchDomain) (streams : List SettledStream) (cycle_time : ℕ) (tried : Tried) : Type 0 where
+pub record IsTried (sketch : SketchDomain) (streams : List SettledStream) (tries cycle_time : ℕ) (tried : Tried) : Type 0 where
   pub placed : PlacedStreams
-  pub are_placed : ArePlacedAt sketch streams cycle_time placed
+  pub are_placed : AreTriedAt sketch streams tries cycle_time placed
   pub tried_by : IsTriedBy streams placed tried
 
 -- a cycle time is good: all streams are placed on it, and none may be late
-pub record IsGoodOn (sketch : SketchDomain) (streams : List SettledStream) (cycle_time : ℕ) (tried : Tried) : Type 0 where
+pub record IsGoodOn (sketch : SketchDomain) (streams : List SettledStream) (tries cycle_time : ℕ) (tried : Tried) : Type 0 where
   pub open_to : longest_guard sketch < cycle_time
-  pub tried_is : IsTried sketch streams cycle_time tried
+  pub tried_is : IsTried sketch streams tries cycle_time tried
   pub good : tried.candidate.fault ≡ None
 
 -- a cycle time isn't good, and this is the verdict on it
-pub record IsBadOn (sketch : SketchDomain) (streams : List SettledStream) (cycle_time : ℕ) (candidate : Candidate) : Type 0 where
-  pub judged : IsJudgedBy sketch streams cycle_time candidate
+pub record IsBadOn (sketch : SketchDomain) (streams : List SettledStream) (tries cycle_time : ℕ) (candidate : Candidate) : Type 0 where
+  pub judged : IsJudgedBy sketch streams tries cycle_time candidate
   pub bad : IsBad candidate
 
 -- the choice after one candidate
-abbrev pub ComesOf : SketchDomain → List SettledStream → ℕ → Choice → Type 0
-ComesOf sketch streams cycle_time (choice.Planned tried) = IsGoodOn sketch streams cycle_time tried
-ComesOf sketch streams cycle_time (choice.Unplanned candidate) = IsBadOn sketch streams cycle_time candidate
+abbrev pub ComesOf : SketchDomain → List SettledStream → ℕ → ℕ → Choice → Type 0
+ComesOf sketch streams tries cycle_time (choice.Planned tried) = IsGoodOn sketch streams tries cycle_time tried
+ComesOf sketch streams tries cycle_time (choice.Unplanned candidate) = IsBadOn sketch streams tries cycle_time candidate
 
 -- none of these candidates is good, and this is the one on which most streams are placed
-pub record AreBad (sketch : SketchDomain) (streams : List SettledStream) (cycles : List ℕ) (best : Option Candidate) : Type 0 where
+pub record AreBad (sketch : SketchDomain) (streams : List SettledStream) (tries : ℕ) (cycles : List ℕ) (best : Option Candidate) : Type 0 where
   pub told : List Candidate
-  pub judged : AreJudgedBy sketch streams cycles told
+  pub judged : AreJudgedBy sketch streams tries cycles told
   pub bad : All IsBad told
   pub best_is : best ≡ best_of told
   pub best_bad : IfSome best IsBad
 
 -- a cycle time on which streams were placed is the plan's
-pub record IsPlannedOn (sketch : SketchDomain) (streams : List SettledStream) (tried : Tried) : Type 0 where
-  pub planned : IsPlanned sketch streams tried.domain (flows_placed tried.domain.cycle_time streams (map outcome_value tried.outcomes.items))
+pub record IsPlannedOn (sketch : SketchDomain) (streams : List SettledStream) (tries : ℕ) (tried : Tried) : Type 0 where
+  pub planned : IsPlanned sketch streams tries tried.domain (flows_placed tried.domain.cycle_time streams (map outcome_value tried.outcomes.items))
   pub each : length tried.outcomes.items ≡ length streams
   pub early : All BeginsEarly (map outcome_value tried.outcomes.items)
 
 -- the choice after all candidates
-abbrev pub ComesOfAll : SketchDomain → List SettledStream → Choice → Type 0
-ComesOfAll sketch streams (choice.Planned tried) = IsPlannedOn sketch streams tried
-ComesOfAll sketch streams (choice.Unplanned best) =
-    IsUnplanned sketch streams (line_of_best (length sketch.candidates) (Some best)) × IsBad best
+abbrev pub ComesOfAll : SketchDomain → List SettledStream → ℕ → Choice → Type 0
+ComesOfAll sketch streams tries (choice.Planned tried) = IsPlannedOn sketch streams tries tried
+ComesOfAll sketch streams tries (choice.Unplanned best) =
+    IsUnplanned sketch streams tries (line_of_best (length sketch.candidates) (Some best)) × IsBad best

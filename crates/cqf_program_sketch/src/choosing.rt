@@ -18,17 +18,20 @@ use std::alloc::Global;
 pub(crate) enum Choice {
     /// It is good, and taken.
     Planned(Tried),
-    /// None is good. This is the one on which most streams are placed, the first of equals.
+    /// None is good. This is the one that comes nearest, the first of equals.
     Unplanned(Candidate),
 }
 
-/// Returns the first of two candidates, unless more streams are placed on the second.
+/// Returns the first of two candidates, unless the second comes nearer: fewer streams aren't placed or may be late, each at each listener
+/// where it may be.
 fn better(best: Option<Candidate>, candidate: Candidate) -> Candidate
     ensures { Some result ≡ better best candidate }
 {
     match best {
         Some(best) => {
-            if best.placed < candidate.placed {
+            let here = candidate.late as u128 + best.placed as u128;
+            let there = best.late as u128 + candidate.placed as u128;
+            if here < there {
                 candidate
             } else {
                 best
@@ -43,16 +46,17 @@ fn choice_at(
     alloc: Global,
     sketch: &SketchDomain,
     streams: &[Settled],
+    tries: u32,
     cycle_time: u32,
 ) -> Result<Choice, Memory>
     requires range { IsCycleTime cycle_time }
     requires settled { AreSettled sketch.now (map settled_value streams.now) }
-    ensures { IfOk result (ComesOf sketch.now (map settled_value streams.now) cycle_time) }
+    ensures { IfOk result (ComesOf sketch.now (map settled_value streams.now) tries cycle_time) }
 {
     if cycle_time <= sketch.longest_guard() {
         return Ok(Choice::Unplanned(Candidate::shut(cycle_time)));
     }
-    let tried = try_cycle(alloc, sketch, streams, cycle_time)?;
+    let tried = try_cycle(alloc, sketch, streams, tries, cycle_time)?;
     if tried.candidate.fault.is_none() {
         Ok(Choice::Planned(tried))
     } else {
@@ -60,18 +64,20 @@ fn choice_at(
     }
 }
 
-/// Returns the first candidate of a network file that is good for its settled streams; if none is, the one on which most are placed.
+/// Returns the first candidate of a network file that is good for its settled streams; if none is, the one that comes nearest. At most `tries`
+/// other orders of placing are tried for each.
 pub(crate) fn choose(
     alloc: Global,
     sketch: &SketchDomain,
     streams: &[Settled],
+    tries: u32,
 ) -> Result<Choice, Memory>
     requires { AreSettled sketch.now (map settled_value streams.now) }
-    ensures { IfOk result (ComesOfAll sketch.now (map settled_value streams.now)) }
+    ensures { IfOk result (ComesOfAll sketch.now (map settled_value streams.now) tries) }
 {
     let mut best = None;
     for cycle_time in sketch.candidates() {
-        match choice_at(alloc, sketch, streams, *cycle_time)? {
+        match choice_at(alloc, sketch, streams, tries, *cycle_time)? {
             Choice::Planned(tried) => return Ok(Choice::Planned(tried)),
             Choice::Unplanned(candidate) => best = Some(better(best, candidate)),
         }

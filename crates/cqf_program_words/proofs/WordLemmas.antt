@@ -54,7 +54,7 @@ only_port rows none (Check cycles) job = omega (arith, marked (codes "port") (co
 only_port rows none (Summary cycles) job = omega (arith, marked (codes "port") (codes "summary") job.0)
 only_port rows none (Offers cycles seed) job = omega (arith, marked (codes "port") (codes "offers") job.0)
 only_port rows none (Hops cycles stream frame) job = omega (arith, marked (codes "port") (codes "hops") job.0)
-only_port rows none (Plan table given) job = omega (arith, marked (codes "port") (codes "plan") job.0)
+only_port rows none (Plan table given tries best) job = omega (arith, marked (codes "port") (codes "plan") job.0)
 
 -- and so of `compile`
 pub only_compile : (rows : List Row) → ((format : Format) → ¬ IsJobOf (Compile format) (codes "compile") rows) →
@@ -71,7 +71,7 @@ only_compile rows none (Check cycles) job = omega (arith, marked (codes "compile
 only_compile rows none (Summary cycles) job = omega (arith, marked (codes "compile") (codes "summary") job.0)
 only_compile rows none (Offers cycles seed) job = omega (arith, marked (codes "compile") (codes "offers") job.0)
 only_compile rows none (Hops cycles stream frame) job = omega (arith, marked (codes "compile") (codes "hops") job.0)
-only_compile rows none (Plan table given) job = omega (arith, marked (codes "compile") (codes "plan") job.0)
+only_compile rows none (Plan table given tries best) job = omega (arith, marked (codes "compile") (codes "plan") job.0)
 
 -- of `offers`
 pub only_offers : (rows : List Row) → ((cycles : ℕ) (seed : Option ℕ) → ¬ IsJobOf (Offers cycles seed) (codes "offers") rows) →
@@ -88,7 +88,7 @@ only_offers rows none (Check cycles) job = omega (arith, marked (codes "offers")
 only_offers rows none (Summary cycles) job = omega (arith, marked (codes "offers") (codes "summary") job.0)
 only_offers rows none (Offers cycles seed) job = none cycles seed job
 only_offers rows none (Hops cycles stream frame) job = omega (arith, marked (codes "offers") (codes "hops") job.0)
-only_offers rows none (Plan table given) job = omega (arith, marked (codes "offers") (codes "plan") job.0)
+only_offers rows none (Plan table given tries best) job = omega (arith, marked (codes "offers") (codes "plan") job.0)
 
 -- of `hops`
 pub only_hops : (rows : List Row) →
@@ -106,10 +106,10 @@ only_hops rows none (Check cycles) job = omega (arith, marked (codes "hops") (co
 only_hops rows none (Summary cycles) job = omega (arith, marked (codes "hops") (codes "summary") job.0)
 only_hops rows none (Offers cycles seed) job = omega (arith, marked (codes "hops") (codes "offers") job.0)
 only_hops rows none (Hops cycles stream frame) job = none cycles stream frame job
-only_hops rows none (Plan table given) job = omega (arith, marked (codes "hops") (codes "plan") job.0)
+only_hops rows none (Plan table given tries best) job = omega (arith, marked (codes "hops") (codes "plan") job.0)
 
 -- and of `plan`
-pub only_plan : (rows : List Row) → ((table : Bool) (given : Option Candidates) → ¬ IsJobOf (Plan table given) (codes "plan") rows) →
+pub only_plan : (rows : List Row) → ((table : Bool) (given : Option Candidates) (tries : ℕ) (best : Bool) → ¬ IsJobOf (Plan table given tries best) (codes "plan") rows) →
     (job : Job) → ¬ IsJobOf job (codes "plan") rows
 only_plan rows none (Port until rate) job = omega (arith, marked (codes "plan") (codes "port") job.0)
 only_plan rows none (Line cycles) job = omega (arith, marked (codes "plan") (codes "line") job.0)
@@ -123,7 +123,7 @@ only_plan rows none (Check cycles) job = omega (arith, marked (codes "plan") (co
 only_plan rows none (Summary cycles) job = omega (arith, marked (codes "plan") (codes "summary") job.0)
 only_plan rows none (Offers cycles seed) job = omega (arith, marked (codes "plan") (codes "offers") job.0)
 only_plan rows none (Hops cycles stream frame) job = omega (arith, marked (codes "plan") (codes "hops") job.0)
-only_plan rows none (Plan table given) job = none table given job
+only_plan rows none (Plan table given tries best) job = none table given tries best job
 
 -- so without a number there is no job of `port`
 pub no_port-until : (rows : List Row) (text : Option Text) → text ≡ first_of (codes "until") rows → ((n : ℕ) → ¬ IsNumberIn 1 100000000 n text) → (job : Job) →
@@ -156,7 +156,7 @@ no_cycles name rows not_port not_compile not_load not_latency not_offers not_hop
 no_cycles name rows not_port not_compile not_load not_latency not_offers not_hops not_plan none (Summary cycles) job = none cycles job.1
 no_cycles name rows not_port not_compile not_load not_latency not_offers not_hops not_plan none (Offers cycles seed) job = not_offers job.0
 no_cycles name rows not_port not_compile not_load not_latency not_offers not_hops not_plan none (Hops cycles stream frame) job = not_hops job.0
-no_cycles name rows not_port not_compile not_load not_latency not_offers not_hops not_plan none (Plan table given) job = not_plan job.0
+no_cycles name rows not_port not_compile not_load not_latency not_offers not_hops not_plan none (Plan table given tries best) job = not_plan job.0
 
 -- without a number of cycles there is no job of `offers`
 pub no_offers-cycles : (rows : List Row) → ((n : ℕ) → ¬ IsNumberIn 1 100000 n (first_of (codes "cycles") rows)) → (job : Job) →
@@ -181,7 +181,11 @@ no_hops-frame rows none = only_hops rows (λ cycles stream frame job. none frame
 -- with something else than candidates there is no job of `plan`
 pub no_plan-given : (rows : List Row) → ((given : Option Candidates) → ¬ AreGiven given (first_of (codes "cycle") rows)) → (job : Job) →
     ¬ IsJobOf job (codes "plan") rows
-no_plan-given rows none = only_plan rows (λ table given job. none given job.2)
+no_plan-given rows none = only_plan rows (λ table given tries best job. none given job.2)
+
+-- nor without a number of tries
+pub no_plan-tries : (rows : List Row) → ((n : ℕ) → ¬ IsNumberIn 0 1000 n (first_of (codes "tries") rows)) → (job : Job) → ¬ IsJobOf job (codes "plan") rows
+no_plan-tries rows none = only_plan rows (λ table given tries best job. none tries job.3)
 
 -- a number of a value is one of its text
 pub number_of-text : (least most number : ℕ) (text value : Option Text) → text ≡ value → IsNumberIn least most number text → IsNumberIn least most number value

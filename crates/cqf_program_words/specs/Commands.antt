@@ -41,7 +41,7 @@ name_of Plan = codes "plan"
 -- `summary --cycles N [--large]`,
 -- `hops --cycles N [--stream NAME] [--frame F] [--large]`,
 -- `offers --cycles N [--seed S] [--large]`,
--- `plan [--table] [--cycle WORD] [--large]`
+-- `plan [--table] [--cycle WORD] [--tries N] [--best] [--large]`
 abbrev pub options_of : Subcommand → List CommandOption
 options_of Port = options.Until ∷ options.Rate ∷ []
 options_of Line = options.Cycles ∷ []
@@ -55,7 +55,7 @@ options_of Check = options.Cycles ∷ options.Large ∷ []
 options_of Summary = options.Cycles ∷ options.Large ∷ []
 options_of Hops = options.Cycles ∷ options.Stream ∷ options.Frame ∷ options.Large ∷ []
 options_of Offers = options.Cycles ∷ options.Seed ∷ options.Large ∷ []
-options_of Plan = options.Table ∷ options.Cycle ∷ options.Large ∷ []
+options_of Plan = options.Table ∷ options.Cycle ∷ options.Tries ∷ options.Best ∷ options.Large ∷ []
 
 -- the word is one of the command's options, and its value follows as a separate word
 abbrev pub does_want_value : Text → Subcommand → Bool

@@ -7,7 +7,7 @@ use Rattle.clap.specs.declared.builder.value_parser.ValueParser.{ValueParser}
 use Rattle.clap.specs.declared.builder.value_parser.ValueParser.TheVariants.{Unsigned}
 use Rattle.cqf_model.specs.Limits.{last_until, limits_where, most_cycles}
 use Rattle.cqf_program_words.specs.declared.options.CommandOption.{CommandOption}
-use Rattle.cqf_program_words.specs.declared.options.CommandOption.TheVariants.{Until, Rate, Cycles, Format, Bridge, Seed, Stream, Frame, Cycle, Strict, Threads, Table, Software, Large}
+use Rattle.cqf_program_words.specs.declared.options.CommandOption.TheVariants.{Until, Rate, Cycles, Format, Bridge, Seed, Stream, Frame, Cycle, Tries, Strict, Threads, Table, Best, Software, Large}
 
 -- an option `--NAME N` that has to be given
 abbrev pub wanted_rule : Text → Rule
@@ -36,9 +36,11 @@ option_rule Seed = free_rule (codes "seed")
 option_rule Stream = free_rule (codes "stream")
 option_rule Frame = free_rule (codes "frame")
 option_rule Cycle = free_rule (codes "cycle")
+option_rule Tries = default_rule (codes "tries") (codes "50")
 option_rule Strict = flag_rule (codes "strict")
 option_rule Threads = flag_rule (codes "threads")
 option_rule Table = flag_rule (codes "table")
+option_rule Best = flag_rule (codes "best")
 option_rule Software = flag_rule (codes "software")
 option_rule Large = flag_rule (codes "large")
 
@@ -56,6 +58,7 @@ abbrev pub parser_of : Bool → CommandOption → Option ValueParser
 parser_of is_large Until = Some (Unsigned 1 last_until)
 parser_of is_large Cycles = Some (Unsigned 1 most_cycles)
 parser_of is_large Seed = Some (Unsigned 0 4294967295)
+parser_of is_large Tries = Some (Unsigned 0 1000)
 parser_of is_large Frame = Some (Unsigned 1 (limits_where is_large).rows)
 parser_of is_large option = None
 

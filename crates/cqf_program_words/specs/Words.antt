@@ -119,9 +119,11 @@ IsJobOf (Hops cycles stream frame) name rows = (name ≡ codes "hops")
     × IsNumberIn 1 most_cycles cycles (first_of (codes "cycles") rows)
     × (option_map string_bytes stream ≡ first_of (codes "stream") rows)
     × IsFreeIn 1 large.rows frame (first_of (codes "frame") rows)
-IsJobOf (Plan table given) name rows = (name ≡ codes "plan")
+IsJobOf (Plan table given tries best) name rows = (name ≡ codes "plan")
     × IsFlagGiven table (first_of (codes "table") rows)
     × AreGiven given (first_of (codes "cycle") rows)
+    × IsNumberIn 0 1000 tries (first_of (codes "tries") rows)
+    × IsFlagGiven best (first_of (codes "best") rows)
 
 -- whether the input of a job begins with a domain, followed by its streams
 abbrev pub takes_domain : Job → Bool

@@ -43,7 +43,7 @@ pub(crate) enum Subcommand {
     Hops,
     /// `offers --cycles N [--seed S] [--large]`.
     Offers,
-    /// `plan [--table] [--cycle WORD] [--large]`.
+    /// `plan [--table] [--cycle WORD] [--tries N] [--best] [--large]`.
     Plan,
 }
 
@@ -124,6 +124,8 @@ impl Subcommand {
             Subcommand::Plan => &[
                 CommandOption::Table,
                 CommandOption::Cycle,
+                CommandOption::Tries,
+                CommandOption::Best,
                 CommandOption::Large,
             ],
         }

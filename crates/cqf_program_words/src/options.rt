@@ -11,6 +11,9 @@ use std::alloc::Global;
 /// The greatest seed.
 pub(crate) const LAST_SEED: u64 = 4_294_967_295;
 
+/// The most orders that are tried for a cycle time after the first.
+pub(crate) const MOST_TRIES: u64 = 1_000;
+
 /// An option of commands.
 #[derive(Clone, Copy, Debug, PartialEq, Eq)]
 pub(crate) enum CommandOption {
@@ -23,9 +26,11 @@ pub(crate) enum CommandOption {
     Stream,
     Frame,
     Cycle,
+    Tries,
     Strict,
     Threads,
     Table,
+    Best,
     Software,
     Large,
 }
@@ -53,9 +58,11 @@ impl CommandOption {
             CommandOption::Stream => long!("stream"),
             CommandOption::Frame => long!("frame"),
             CommandOption::Cycle => long!("cycle"),
+            CommandOption::Tries => long!("tries"),
             CommandOption::Strict => long!("strict"),
             CommandOption::Threads => long!("threads"),
             CommandOption::Table => long!("table"),
+            CommandOption::Best => long!("best"),
             CommandOption::Software => long!("software"),
             CommandOption::Large => long!("large"),
         }
@@ -81,10 +88,12 @@ impl CommandOption {
             | CommandOption::Seed
             | CommandOption::Stream
             | CommandOption::Frame
-            | CommandOption::Cycle => true,
+            | CommandOption::Cycle
+            | CommandOption::Tries => true,
             CommandOption::Strict
             | CommandOption::Threads
             | CommandOption::Table
+            | CommandOption::Best
             | CommandOption::Software
             | CommandOption::Large => false,
         }
@@ -98,6 +107,7 @@ impl CommandOption {
             CommandOption::Until => Some(ValueParser::Unsigned(1, LAST_UNTIL)),
             CommandOption::Cycles => Some(ValueParser::Unsigned(1, MOST_CYCLES)),
             CommandOption::Seed => Some(ValueParser::Unsigned(0, LAST_SEED)),
+            CommandOption::Tries => Some(ValueParser::Unsigned(0, MOST_TRIES)),
             CommandOption::Frame => {
                 let rows = Limits::where_large(is_large).rows;
                 Some(ValueParser::Unsigned(1, u64::from(rows)))
@@ -110,6 +120,7 @@ impl CommandOption {
             | CommandOption::Strict
             | CommandOption::Threads
             | CommandOption::Table
+            | CommandOption::Best
             | CommandOption::Software
             | CommandOption::Large => None,
         }
@@ -118,7 +129,7 @@ impl CommandOption {
     /// Returns the name of the option's value in help, if it has one.
     fn value(self) -> &'static str {
         match self {
-            CommandOption::Until | CommandOption::Cycles => "N",
+            CommandOption::Until | CommandOption::Cycles | CommandOption::Tries => "N",
             CommandOption::Rate => "RATE",
             CommandOption::Format => "FORMAT",
             CommandOption::Seed => "S",
@@ -128,6 +139,7 @@ impl CommandOption {
             CommandOption::Strict
             | CommandOption::Threads
             | CommandOption::Table
+            | CommandOption::Best
             | CommandOption::Software
             | CommandOption::Large => "",
         }
@@ -147,10 +159,13 @@ impl CommandOption {
             CommandOption::Frame if is_large => "only this frame, 1 to 10000000",
             CommandOption::Frame => "only this frame, 1 to 1000000",
             CommandOption::Cycle => "cycle times to try, in ns: N or FROM..TO/STEP",
+            CommandOption::Tries =>
+                "orders of placing to try for a cycle time after the first, 0 to 1000",
             CommandOption::Strict => "status 1 unless each deadline is kept for certain",
             CommandOption::Threads =>
                 "a thread for each bridge and each administrator of the script",
             CommandOption::Table => "a line for each cycle time in place of a plan",
+            CommandOption::Best => "the good cycle time with the most slack, not the first",
             CommandOption::Software => "gates in Linux itself, not in hardware, with --format tc",
             CommandOption::Large => "a network of up to 1024 bridges, 4096 links and 16384 streams",
         }
@@ -230,6 +245,7 @@ fn bare_argument<'a>(alloc: Global, option: CommandOption) -> Arg<'a>
         }
         CommandOption::Rate => default_option(alloc, option.name(), "1000", option.value()),
         CommandOption::Format => default_option(alloc, option.name(), "list", option.value()),
+        CommandOption::Tries => default_option(alloc, option.name(), "50", option.value()),
         CommandOption::Bridge
         | CommandOption::Seed
         | CommandOption::Stream
@@ -238,6 +254,7 @@ fn bare_argument<'a>(alloc: Global, option: CommandOption) -> Arg<'a>
         CommandOption::Strict
         | CommandOption::Threads
         | CommandOption::Table
+        | CommandOption::Best
         | CommandOption::Software
         | CommandOption::Large => flag(alloc, option.name()),
     }

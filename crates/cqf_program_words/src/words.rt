@@ -17,7 +17,7 @@ use crate::candidates::Candidates;
 use crate::commands::commands;
 use crate::endings::{no_job, refused_by_clap};
 use crate::naming::candidates_named;
-use crate::options::LAST_SEED;
+use crate::options::{LAST_SEED, MOST_TRIES};
 use crate::shown::stop_of_words;
 use clap::ArgMatches;
 use cqf_model::{LARGE, LAST_UNTIL, Limits, MOST_CYCLES};
@@ -92,10 +92,13 @@ pub enum Job {
         stream: Option<String>,
         frame: Option<u32>,
     },
-    /// A plan for the first good candidate of a network file, or the table of all of its candidates. Candidates may be given.
+    /// A plan for a good candidate of a network file, or the table of all of its candidates. Candidates may be given. At most `tries` other
+    /// orders of placing are tried for each candidate; the first good candidate is taken, or the best of all.
     Plan {
         table: bool,
         given: Option<Candidates>,
+        tries: u32,
+        best: bool,
     },
 }
 
@@ -365,6 +368,17 @@ fn given_of(values: &ArgMatches<'_>) -> Option<Option<Candidates>>
     }
 }
 
+/// Returns how many other orders of placing are tried at most, by the values of the command; `None` if something else is given.
+fn tries_of(values: &ArgMatches<'_>) -> Option<u32>
+    ensures { MatchOption result ((tries : ℕ) → ¬ IsNumberIn 0 1000 tries (first_of (codes "tries") (rows_of (found_of values.now))))
+        (λ tries. IsNumberIn 0 1000 tries (first_of (codes "tries") (rows_of (found_of values.now)))) }
+{
+    match number_in(text_of(values, "tries"), 0, MOST_TRIES) {
+        Some(tries) => Some(tries as u32),
+        None => None,
+    }
+}
+
 /// Returns the job of the command `plan` with its values.
 fn plan_job(values: &ArgMatches<'_>) -> Option<Job>
     ensures { MatchOption result ((job : Job) → ¬ IsJobOf job (codes "plan") (rows_of (found_of values.now)))
@@ -373,9 +387,14 @@ fn plan_job(values: &ArgMatches<'_>) -> Option<Job>
     let Some(given) = given_of(values) else {
         return None;
     };
+    let Some(tries) = tries_of(values) else {
+        return None;
+    };
     Some(Job::Plan {
         table: is_given(values, "table"),
         given,
+        tries,
+        best: is_given(values, "best"),
     })
 }
 
