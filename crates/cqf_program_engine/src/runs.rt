@@ -131,14 +131,15 @@ fn planned(
     alloc: Global,
     limits: Limits,
     table: bool,
+    tries: u32,
     given: Option<Candidates>,
     input: &[u8],
 ) -> Result<Vec<u8>, Stop>
-    ensures ok { IfOk result (λ text. IsPlanOf limits table (option_map times_of given) input.now (Ok text.items)) }
-    ensures err { IfErr result (IsPlanRefusal limits table (option_map times_of given) input.now) }
+    ensures ok { IfOk result (λ text. IsPlanOf limits table tries (option_map times_of given) input.now (Ok text.items)) }
+    ensures err { IfErr result (IsPlanRefusal limits table tries (option_map times_of given) input.now) }
 {
     match times_of(alloc, given) {
-        Ok(times) => plan_output(alloc, limits, table, times, input),
+        Ok(times) => plan_output(alloc, limits, table, tries, times, input),
         Err(_) => Err(Stop::memory(alloc)),
     }
 }
@@ -195,8 +196,8 @@ fn prepare(
             ref stream,
             frame,
         } => prepare_hops(alloc, limits, cycles, stream, frame, input),
-        Job::Plan { table, given } => Ok(PreparedOutput::Text(planned(
-            alloc, limits, table, given, input,
+        Job::Plan { table, given, tries } => Ok(PreparedOutput::Text(planned(
+            alloc, limits, table, tries, given, input,
         )?)),
     }
 }

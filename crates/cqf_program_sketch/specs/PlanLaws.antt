@@ -70,15 +70,15 @@ pub record IsSoundPlan (streams : List SettledStream) (d : Domain) (flows : List
 -- each plan of a network file is sound
 abbrev pub ToldPlanIsAdmitted : Type 0
 ToldPlanIsAdmitted =
-    (sketch : SketchDomain) (streams : List SettledStream) (d : Domain) (flows : List FlowText) → IsPlanned sketch streams d flows →
+    (sketch : SketchDomain) (streams : List SettledStream) (tries : ℕ) (d : Domain) (flows : List FlowText) → IsPlanned sketch streams tries d flows →
     IsSoundPlan streams d flows
 
 -- the offers of a plan's stream whose phase was chosen are in the cycles in which the stream reserves, for every seed and without one. This
 -- holds by the talker's clock, and by the edge bridge's, which may differ from it by as much as the domain's `sync`
 abbrev pub ChosenStreamsComeInTurns : Type 0
 ChosenStreamsComeInTurns =
-    (sketch : SketchDomain) (streams : List SettledStream) (d : Domain) (flows : List FlowText) (place : ℕ) (stream : SettledStream) (flow : FlowText)
-    (until : ℕ) (seed : Option ℕ) (x : Offer) → IsPlanned sketch streams d flows → slice_get streams place ≡ Some stream →
+    (sketch : SketchDomain) (streams : List SettledStream) (tries : ℕ) (d : Domain) (flows : List FlowText) (place : ℕ) (stream : SettledStream) (flow : FlowText)
+    (until : ℕ) (seed : Option ℕ) (x : Offer) → IsPlanned sketch streams tries d flows → slice_get streams place ≡ Some stream →
     slice_get flows place ≡ Some flow → is_chosen_on d.cycle_time stream ≡ true →
     Contains (offers_named flow.0.0.name (offers_before until seed (map (sender_of d) flows))) x → (at : ℕ) → x.at.0 ≤ at + d.sync → at ≤ x.at.0 + d.sync →
     is_turn (pace_of (asked_in flow)) 0 (cycle_of d at) ≡ true

@@ -10,7 +10,7 @@ use Rattle.cqf_text.specs.Parts.{parts_of}
 use Rattle.cqf_sketch.specs.declared.faults.SketchFault.{SketchFault}
 use Rattle.cqf_sketch.specs.Faults.{sketch_fault_text}
 use Rattle.cqf_sketch.specs.SketchDomain.{SketchDomain, sketch_domain_of_text}
-use Rattle.cqf_sketch.specs.StreamsText.{StreamText, sketch_streams_of_text}
+use Rattle.cqf_sketch.specs.StreamsText.{sketch_streams_of_text}
 use Rattle.cqf_traffic.specs.FlowsText.{FlowText}
 use Rattle.cqf_traffic.specs.TrafficText.{TrafficText}
 use Rattle.cqf_topology.specs.PacedText.{paced_text}
@@ -47,12 +47,11 @@ unsettled_line (unsettled.BadName place) = stream_line place refused.BadName
 unsettled_line (unsettled.Stream name found) = fault_line (codes "plan") (name ++ (codes ": " ++ plan_fault_text found))
 unsettled_line unsettled.Memory = []
 
--- a network that is to be planned: its domain; its streams settled, as they come to their edge bridges; as their text has them; how long their
--- frames take to their edge bridges; and the texts of both
+-- a network that is to be planned: its domain; its streams settled, as they come to their edge bridges; how long their frames take to their edge
+-- bridges; and the texts of both
 pub record Sketched : Type 0 where
   pub domain : SketchDomain
   pub streams : List SettledStream
-  pub wanted : List StreamText
   pub times : List (Option AccessTimes)
   pub domain_text : List ℕ
   pub streams_text : List ℕ
@@ -76,7 +75,7 @@ sketch_input limits given input = and_then (two_parts (parts_of input)) (λ part
     and_then (or_line flows_line (sketch_streams_of_text parts.1)) (λ wanted.
     and_then (or_line unentered_line (edge_streams network wanted)) (λ edge.
     and_then (settled_edges network edge) (λ settled.
-    Ok (record { domain = network; streams = settled; wanted = wanted; times = edge.times; domain_text = parts.0; streams_text = parts.1 }))))))
+    Ok (record { domain = network; streams = settled; times = edge.times; domain_text = parts.0; streams_text = parts.1 }))))))
 
 -- when a talker's offers begin whose stream's grid begins at an instant at its edge bridge, in one of so many cycles, where its frames take so
 -- long to that bridge at least: the least number that is so, up to so many cycles
@@ -107,44 +106,44 @@ pub record AreChoicesOf (cycle_time : ℕ) (streams : List SettledStream) (flows
         IsChoiceOf cycle_time stream flow taken one
 
 -- the text is that of the network that is planned: the file's own, with what was chosen
-pub record IsPlanText (sketched : Sketched) (text : List ℕ) : Type 0 where
+pub record IsPlanText (tries : ℕ) (sketched : Sketched) (text : List ℕ) : Type 0 where
   pub domain : Domain
   pub flows : List FlowText
   pub filled : List FilledStream
-  pub planned : IsPlanned sketched.domain sketched.streams domain flows
+  pub planned : IsPlanned sketched.domain sketched.streams tries domain flows
   pub chosen : AreChoicesOf domain.cycle_time sketched.streams flows sketched.times filled
   pub written : IsFilledText sketched.domain_text sketched.streams_text domain.cycle_time filled text
 
 -- the text is that of the table of all candidates
-pub record IsCandidatesText (sketched : Sketched) (text : List ℕ) : Type 0 where
+pub record IsCandidatesText (tries : ℕ) (sketched : Sketched) (text : List ℕ) : Type 0 where
   pub told : List Candidate
-  pub judged : AreJudgedBy sketched.domain sketched.streams sketched.domain.candidates told
+  pub judged : AreJudgedBy sketched.domain sketched.streams tries sketched.domain.candidates told
   pub written : text ≡ text_of_candidates (length sketched.streams) told
 
 -- the output for a network file: its plan, or the line that says that no candidate is good; or a table of the candidates
-abbrev pub IsToldOf : Bool → Sketched → Result (List ℕ) (List ℕ) → Type 0
-IsToldOf true sketched (Ok text) = IsCandidatesText sketched text
-IsToldOf true sketched (Err line) = ⊥
-IsToldOf false sketched (Ok text) = IsPlanText sketched text
-IsToldOf false sketched (Err line) = IsUnplanned sketched.domain sketched.streams line
+abbrev pub IsToldOf : Bool → ℕ → Sketched → Result (List ℕ) (List ℕ) → Type 0
+IsToldOf true tries sketched (Ok text) = IsCandidatesText tries sketched text
+IsToldOf true tries sketched (Err line) = ⊥
+IsToldOf false tries sketched (Ok text) = IsPlanText tries sketched text
+IsToldOf false tries sketched (Err line) = IsUnplanned sketched.domain sketched.streams tries line
 
 -- the end without an output: with status 1 and the line, or with status 3 if memory lacks
-pub record IsToldRefusal (table : Bool) (sketched : Sketched) (stop : Stop) : Type 0 where
+pub record IsToldRefusal (table : Bool) (tries : ℕ) (sketched : Sketched) (stop : Stop) : Type 0 where
   pub statuses : (stop.status ≡ 1) ⊎ (stop.status ≡ 3)
-  pub line : stop.status ≡ 1 → IsToldOf table sketched (Err stop.text.items)
+  pub line : stop.status ≡ 1 → IsToldOf table tries sketched (Err stop.text.items)
   pub memory : stop.status ≡ 3 → stop.text.items ≡ []
 
 -- the output for what was read; for an input that is refused, the line of the first fault
-abbrev pub IsPlannedOf : Bool → Result Sketched (List ℕ) → Result (List ℕ) (List ℕ) → Type 0
-IsPlannedOf table (Ok sketched) found = IsToldOf table sketched found
-IsPlannedOf table (Err line) found = Err line ≡ found
+abbrev pub IsPlannedOf : Bool → ℕ → Result Sketched (List ℕ) → Result (List ℕ) (List ℕ) → Type 0
+IsPlannedOf table tries (Ok sketched) found = IsToldOf table tries sketched found
+IsPlannedOf table tries (Err line) found = Err line ≡ found
 
 -- the output for an input
-abbrev pub IsPlanOf : Limits → Bool → Option (List ℕ) → List ℕ → Result (List ℕ) (List ℕ) → Type 0
-IsPlanOf limits table given input found = IsPlannedOf table (sketch_input limits given input) found
+abbrev pub IsPlanOf : Limits → Bool → ℕ → Option (List ℕ) → List ℕ → Result (List ℕ) (List ℕ) → Type 0
+IsPlanOf limits table tries given input found = IsPlannedOf table tries (sketch_input limits given input) found
 
 -- the input is refused, with status 1 and the line that says why; or memory lacks, with status 3
-pub record IsPlanRefusal (limits : Limits) (table : Bool) (given : Option (List ℕ)) (input : List ℕ) (stop : Stop) : Type 0 where
+pub record IsPlanRefusal (limits : Limits) (table : Bool) (tries : ℕ) (given : Option (List ℕ)) (input : List ℕ) (stop : Stop) : Type 0 where
   pub statuses : (stop.status ≡ 1) ⊎ (stop.status ≡ 3)
-  pub line : stop.status ≡ 1 → IsPlanOf limits table given input (Err stop.text.items)
+  pub line : stop.status ≡ 1 → IsPlanOf limits table tries given input (Err stop.text.items)
   pub memory : stop.status ≡ 3 → stop.text.items ≡ []

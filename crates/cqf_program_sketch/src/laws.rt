@@ -1,8 +1,10 @@
 //! Laws about plans that are written.
 ghost use Rattle.cqf_program_sketch.specs.PlanLaws.{ChosenStreamsComeInTurns, SketchesArePlacedByRoom, ToldPlanIsAdmitted};
+ghost use Rattle.cqf_program_sketch.specs.ReadPlans.{ToldPlansReadBack};
 
 use cqf_laws_history::state_follows_history;
 use cqf_laws_timing::lists_bound_costs;
+use cqf_plants::filled_networks_read_back;
 use cqf_program_placing::placed_where_there_is_room;
 use cqf_traffic::offers_come_in_turns;
 
@@ -32,4 +34,15 @@ pub fn sketches_are_placed_where_there_is_room()
     ensures { SketchesArePlacedByRoom }
 {
     placed_where_there_is_room();
+}
+
+/// Every command reads the text of a written plan as the network with the chosen cycle time, and as streams that come to their edge bridges as
+/// they were placed: with the same octets, cycles and paths, and with the same rest of their deadlines. The grid of a stream whose cycles were
+/// chosen begins at the same place of a round of these cycles, and its jitter is no more. So all streams that are read are admitted before
+/// cycle 0, each reserves what its talker needs in a cycle, and none may have a frame that misses its deadline.
+pub fn told_plans_read_back()
+    ensures { ToldPlansReadBack }
+{
+    state_follows_history();
+    filled_networks_read_back();
 }

@@ -6,12 +6,12 @@ ghost use Rattle.cqf_output.specs.Stops.{EndsWith, IsRefused, or_line};
 ghost use Rattle.cqf_sketch.specs.SketchDomain.{AreCandidates, sketch_domain_of_text};
 ghost use Rattle.cqf_sketch.specs.StreamsText.{sketch_streams_of_text, stream_text};
 ghost use Rattle.cqf_program_placing.specs.Placing.{BeginsEarly, outcome_value};
-ghost use Rattle.cqf_plants.specs.Plants.{IsToldPlant};
 ghost use Rattle.cqf_program_sketch.specs.Choosing.{IsBad, line_of_best};
 ghost use Rattle.cqf_program_sketch.specs.Judging.{flows_placed};
 ghost use Rattle.cqf_program_sketch.specs.PlanOutput.{IsCandidatesText, IsPlanOf, IsPlanRefusal, IsPlanText, IsToldOf, IsToldRefusal};
 ghost use Rattle.cqf_program_sketch.specs.PlanOutput.{sketch_input, sketch_line, unsettled_line};
-ghost use Rattle.cqf_program_sketch.specs.Steps.{AreSettled};
+ghost use Rattle.cqf_program_sketch.specs.Steps.{AreSettled, AreTurned};
+ghost use Rattle.cqf_program_sketch.specs.Writing.{IsTriedText, IsWritable, sketched_of};
 
 use crate::candidates::Candidate;
 use crate::choosing::{Choice, choose};
@@ -186,20 +186,22 @@ fn read_sketch(
 }
 
 /// Returns the table of a network file's candidates.
-fn table_of(alloc: Global, sketch: &SketchDomain, streams: &[Settled]) -> Result<Vec<u8>, Memory>
+fn table_of(alloc: Global, tries: u32, sketch: &SketchDomain, streams: &[Settled]) -> Result<Vec<u8>, Memory>
     requires { AreSettled sketch.now (map settled_value streams.now) }
-    ensures { IfOk result (λ text. IsCandidatesText (record { domain = sketch.now; streams = map settled_value streams.now }) text.items) }
+    ensures { IfOk result (λ text. IsCandidatesText tries (record { domain = sketch.now; streams = map settled_value streams.now }) text.items) }
 {
-    let told = judge_all(alloc, sketch, streams)?;
+    let told = judge_all(alloc, sketch, streams, tries)?;
     let text = text_of_candidates(alloc, streams.len(), told.as_slice())?;
     Ok(text)
 }
 
-/// The text of the network with a cycle time on which its streams are placed.
+/// Returns the text of the network with a cycle time on which all of its streams are placed.
 fn network_text(alloc: Global, given: &PlanInput<'_>, tried: &Tried) -> Result<Vec<u8>, Memory>
     requires each { length tried.now.outcomes.items ≡ length given.now.streams.items }
     requires early { All BeginsEarly (map outcome_value tried.now.outcomes.items) }
-    ensures { IfOk result (λ text. IsTriedText given.now tried.now text.items) }
+    requires turned { AreTurned (map settled_value given.now.streams.items) (flows_placed tried.now.domain.cycle_time (map settled_value given.now.streams.items) (map outcome_value tried.now.outcomes.items)) }
+    requires written { IsWritable (sketched_of given.now) }
+    ensures { IfOk result (λ text. IsTriedText (sketched_of given.now) tried.now text.items) }
 {
     let cycle_time = tried.domain.cycle_time();
     let streams = given.streams.as_slice();
@@ -227,12 +229,13 @@ fn unplanned_stop(alloc: Global, count: usize, best: &Candidate) -> Stop
 ///
 /// # Errors
 /// With status 1 and the line that says why none of its candidates is good; with status 3 if an allocation fails.
-fn plan_of(alloc: Global, given: &PlanInput<'_>) -> Result<Vec<u8>, Stop>
-    requires { AreSettled given.now.domain (map settled_value given.now.streams.items) }
-    ensures ok { IfOk result (λ text. IsPlanText (sketched_of given.now) text.items) }
-    ensures err { IfErr result (IsToldRefusal false (sketched_of given.now)) }
+fn plan_of(alloc: Global, tries: u32, given: &PlanInput<'_>) -> Result<Vec<u8>, Stop>
+    requires settled { AreSettled given.now.domain (map settled_value given.now.streams.items) }
+    requires written { IsWritable (sketched_of given.now) }
+    ensures ok { IfOk result (λ text. IsPlanText tries (sketched_of given.now) text.items) }
+    ensures err { IfErr result (IsToldRefusal false tries (sketched_of given.now)) }
 {
-    match choose(alloc, &given.domain, given.streams.as_slice()) {
+    match choose(alloc, &given.domain, given.streams.as_slice(), tries) {
         Ok(Choice::Planned(tried)) => match network_text(alloc, given, &tried) {
             Ok(text) => Ok(text),
             Err(_) => Err(Stop::memory(alloc)),
@@ -248,38 +251,45 @@ fn plan_of(alloc: Global, given: &PlanInput<'_>) -> Result<Vec<u8>, Stop>
 ///
 /// # Errors
 /// As [`plan_of`]; for the table, only with status 3 if an allocation fails.
-fn told_of(alloc: Global, table: bool, given: &PlanInput<'_>) -> Result<Vec<u8>, Stop>
-    requires { AreSettled given.now.domain (map settled_value given.now.streams.items) }
-    ensures ok { IfOk result (λ text. IsToldOf table (sketched_of given.now) (Ok text.items)) }
-    ensures err { IfErr result (IsToldRefusal table (sketched_of given.now)) }
+fn told_of(
+    alloc: Global,
+    table: bool,
+    tries: u32,
+    given: &PlanInput<'_>,
+) -> Result<Vec<u8>, Stop>
+    requires settled { AreSettled given.now.domain (map settled_value given.now.streams.items) }
+    requires written { IsWritable (sketched_of given.now) }
+    ensures ok { IfOk result (λ text. IsToldOf table tries (sketched_of given.now) (Ok text.items)) }
+    ensures err { IfErr result (IsToldRefusal table tries (sketched_of given.now)) }
 {
     if !table {
-        return plan_of(alloc, given);
+        return plan_of(alloc, tries, given);
     }
-    match table_of(alloc, &given.domain, given.streams.as_slice()) {
+    match table_of(alloc, tries, &given.domain, given.streams.as_slice()) {
         Ok(text) => Ok(text),
         Err(_) => Err(Stop::memory(alloc)),
     }
 }
 
 /// Returns the output of `plan` for an input that is read within some limits: the text of a plan, or of a table of the candidates.
-/// Candidates for the cycle time may be given, in nanoseconds.
+/// Candidates for the cycle time may be given, in nanoseconds. At most `tries` other orders of placing are tried for each.
 ///
 /// # Errors
 /// With status 1 and the line of the first fault: of the input's parts, of the domain, of the streams, or of what no cycle time changes; or
-/// else, if no table is requested and no candidate is good, of the one on which most streams are placed. With status 3 if an allocation
+/// else, if no table is requested and no candidate is good, of the one that comes nearest. With status 3 if an allocation
 /// fails.
 pub fn plan_output(
     alloc: Global,
     limits: Limits,
     table: bool,
+    tries: u32,
     given: Option<Vec<u32>>,
     input: &[u8],
 ) -> Result<Vec<u8>, Stop>
     requires { IfSome given (λ cycles. AreCandidates cycles.items) }
-    ensures ok { IfOk result (λ text. IsPlanOf limits table (option_map (λ cycles. cycles.items) given) input.now (Ok text.items)) }
-    ensures err { IfErr result (IsPlanRefusal limits table (option_map (λ cycles. cycles.items) given) input.now) }
+    ensures ok { IfOk result (λ text. IsPlanOf limits table tries (option_map (λ cycles. cycles.items) given) input.now (Ok text.items)) }
+    ensures err { IfErr result (IsPlanRefusal limits table tries (option_map (λ cycles. cycles.items) given) input.now) }
 {
     let found = read_sketch(alloc, limits, given, input)?;
-    told_of(alloc, table, &found)
+    told_of(alloc, table, tries, &found)
 }

@@ -7,7 +7,8 @@ ghost use Rattle.cqf_program_placing.specs.Settled.{settled_value};
 ghost use Rattle.cqf_traffic.specs.FlowsText.{flow_text};
 ghost use Rattle.cqf_program_sketch.specs.Choosing.{IsBad, line_of_best};
 ghost use Rattle.cqf_program_sketch.specs.Judging.{flow_of, flows_placed, traffic_told};
-ghost use Rattle.cqf_program_sketch.specs.Steps.{flows_by};
+ghost use Rattle.cqf_program_sketch.specs.PlanOutput.{AreChoicesOf, offset_before, offset_told};
+ghost use Rattle.cqf_program_sketch.specs.Steps.{AreTurned, flows_by};
 
 use crate::candidates::Candidate;
 use cqf_edge::AccessTimes;
@@ -134,7 +135,8 @@ fn offset_told(
     Some(offset_before(traffic.offset(), taken, cycle_time, every))
 }
 
-/// What was chosen for streams that are all placed on a cycle time, by how their flows come to their edge bridges and how long they take there.
+/// Returns what was chosen for streams that are all placed on a cycle time, by how their flows come to their edge bridges and how long they
+/// take there.
 pub(crate) fn choices_of(
     alloc: Global,
     streams: &[Settled],
@@ -144,8 +146,9 @@ pub(crate) fn choices_of(
 ) -> Result<Vec<FilledStream>, Memory>
     requires some { 0 < cycle_time.0 }
     requires short { cycle_time.0 ≤ longest_cycle }
-    requires each { length flows.items ≡ length streams.now }
+    requires turned { AreTurned (map settled_value streams.now) (map flow_text flows.items) }
     requires taken { length times.now ≡ length streams.now }
+    ensures { IfOk result (λ filled. AreChoicesOf cycle_time.0 (map settled_value streams.now) (map flow_text flows.items) times.now filled.items) }
 {
     let mut filled = Vec::with_capacity(alloc, flows.len())?;
     for (place, flow) in flows.into_iter().enumerate() {
