@@ -196,7 +196,7 @@ fn prepare(
             ref stream,
             frame,
         } => prepare_hops(alloc, limits, cycles, stream, frame, input),
-        Job::Plan { table, given, tries } => Ok(PreparedOutput::Text(planned(
+        Job::Plan { table, given, tries, .. } => Ok(PreparedOutput::Text(planned(
             alloc, limits, table, tries, given, input,
         )?)),
     }

@@ -11,32 +11,33 @@ use Rattle.cqf_program_sketch.specs.declared.candidates.Candidate.{Candidate}
 use Rattle.cqf_program_sketch.specs.declared.choosing.Choice.TheVariants as choice
 use Rattle.cqf_program_sketch.specs.declared.trying.Tried.{Tried}
 use Rattle.cqf_program_sketch.specs.Choosing.{IsBad, best_of, better, line_of_best}
-use Rattle.cqf_program_sketch.specs.Judging.{AreJudgedBy, IsJudgedBy, flows_placed}
+use Rattle.cqf_program_sketch.specs.Judging.{flows_placed}
+use Rattle.cqf_program_sketch.specs.Orders.{AreJudgedBy, IsJudgedBy}
 use Rattle.cqf_program_sketch.specs.Trying.{AreBad, ComesOfAll, IsBadOn, IsGoodOn}
-use Rattle.cqf_program_sketch.proofs.TriedLemmas.{early_placed, length-placed}
+use Rattle.cqf_program_sketch.proofs.Tried.{tried_known}
 
 -- one more is judged
-judged_more : (sketch : SketchDomain) (streams : List SettledStream) (cycles : List ℕ) (told : List Candidate) (cycle_time : ℕ) (candidate : Candidate) →
-    AreJudgedBy sketch streams cycles told → IsJudgedBy sketch streams cycle_time candidate →
-    AreJudgedBy sketch streams (cycles ++ cycle_time ∷ []) (told ++ candidate ∷ [])
-judged_more sketch streams [] [] cycle_time candidate h judged = (judged, tt)
-judged_more sketch streams [] (other ∷ told) cycle_time candidate h judged = absurd h
-judged_more sketch streams (cycle ∷ cycles) [] cycle_time candidate h judged = absurd h
-judged_more sketch streams (cycle ∷ cycles) (other ∷ told) cycle_time candidate h judged =
-    (h.0, judged_more sketch streams cycles told cycle_time candidate h.1 judged)
+judged_more : (sketch : SketchDomain) (streams : List SettledStream) (tries : ℕ) (cycles : List ℕ) (told : List Candidate) (cycle_time : ℕ) (candidate : Candidate) →
+    AreJudgedBy sketch streams tries cycles told → IsJudgedBy sketch streams tries cycle_time candidate →
+    AreJudgedBy sketch streams tries (cycles ++ cycle_time ∷ []) (told ++ candidate ∷ [])
+judged_more sketch streams tries [] [] cycle_time candidate h judged = (judged, tt)
+judged_more sketch streams tries [] (other ∷ told) cycle_time candidate h judged = absurd h
+judged_more sketch streams tries (cycle ∷ cycles) [] cycle_time candidate h judged = absurd h
+judged_more sketch streams tries (cycle ∷ cycles) (other ∷ told) cycle_time candidate h judged =
+    (h.0, judged_more sketch streams tries cycles told cycle_time candidate h.1 judged)
 
 -- as many as there are
-judged_length : (sketch : SketchDomain) (streams : List SettledStream) (cycles : List ℕ) (told : List Candidate) → AreJudgedBy sketch streams cycles told →
+judged_length : (sketch : SketchDomain) (streams : List SettledStream) (tries : ℕ) (cycles : List ℕ) (told : List Candidate) → AreJudgedBy sketch streams tries cycles told →
     length told ≡ length cycles
-judged_length sketch streams [] [] h = refl
-judged_length sketch streams [] (other ∷ told) h = absurd h
-judged_length sketch streams (cycle ∷ cycles) [] h = absurd h
-judged_length sketch streams (cycle ∷ cycles) (other ∷ told) h = ap (λ n. suc n) (judged_length sketch streams cycles told h.1)
+judged_length sketch streams tries [] [] h = refl
+judged_length sketch streams tries [] (other ∷ told) h = absurd h
+judged_length sketch streams tries (cycle ∷ cycles) [] h = absurd h
+judged_length sketch streams tries (cycle ∷ cycles) (other ∷ told) h = ap (λ n. suc n) (judged_length sketch streams tries cycles told h.1)
 
 -- the better of two is one of them
 better_bad : (best : Option Candidate) (candidate after : Candidate) → IfSome best IsBad → IsBad candidate → Some after ≡ better best candidate → IsBad after
 better_bad None candidate after bad here is = let same : after ≡ candidate = cc in subst IsBad (sym same) here
-better_bad (Some best) candidate after bad here is = by (nat_lt best.placed candidate.placed) is
+better_bad (Some best) candidate after bad here is = by (nat_lt (candidate.late + best.placed) (best.late + candidate.placed)) is
   where
     by : (more : Bool) → Some after ≡ (if more then Some candidate else Some best) → IsBad after
     by true taken = let same : after ≡ candidate = cc in subst IsBad (sym same) here
@@ -46,59 +47,60 @@ better_bad (Some best) candidate after bad here is = by (nat_lt best.placed cand
 best_stays : (best : Candidate) (told : List Candidate) → fold better (Some best) told ≡ None → ⊥
 best_stays best [] h = cc
 best_stays best (candidate ∷ told) h =
-    by (nat_lt best.placed candidate.placed) (λ none. best_stays candidate told none) (λ none. best_stays best told none) h
+    by (nat_lt (candidate.late + best.placed) (best.late + candidate.placed)) (λ none. best_stays candidate told none) (λ none. best_stays best told none) h
   where
     by : (more : Bool) → (fold better (Some candidate) told ≡ None → ⊥) → (fold better (Some best) told ≡ None → ⊥) →
         fold better (if more then Some candidate else Some best) told ≡ None → ⊥
     by true this that none = this none
     by false this that none = that none
 
-pub none_best : (sketch : SketchDomain) (streams : List SettledStream) (cycles : List ℕ) → 1 ≤ length cycles → AreBad sketch streams cycles None → ⊥
-none_best sketch streams cycles some bad = by bad.told (judged_length sketch streams cycles bad.told bad.judged) bad.best_is
+pub none_best : (sketch : SketchDomain) (streams : List SettledStream) (tries : ℕ) (cycles : List ℕ) → 1 ≤ length cycles → AreBad sketch streams tries cycles None → ⊥
+none_best sketch streams tries cycles some bad = by bad.told (judged_length sketch streams tries cycles bad.told bad.judged) bad.best_is
   where
     by : (told : List Candidate) → length told ≡ length cycles → None ≡ best_of told → ⊥
     by [] many none = omega arith
     by (candidate ∷ told) many none = best_stays candidate told (sym none)
 
 -- none yet
-pub none_bad : (sketch : SketchDomain) (streams : List SettledStream) → AreBad sketch streams [] None
-none_bad sketch streams = record { told = []; judged = tt; bad = All-nil IsBad; best_is = refl; best_bad = tt }
+pub none_bad : (sketch : SketchDomain) (streams : List SettledStream) (tries : ℕ) → AreBad sketch streams tries [] None
+none_bad sketch streams tries = record { told = []; judged = tt; bad = All-nil IsBad; best_is = refl; best_bad = tt }
 
-module _ (sketch : SketchDomain) (streams : List SettledStream) (cycles : List ℕ) (k cycle_time : ℕ) (low : k < length cycles)
+module _ (sketch : SketchDomain) (streams : List SettledStream) (tries : ℕ) (cycles : List ℕ) (k cycle_time : ℕ) (low : k < length cycles)
     (is : cycle_time ≡ get_or cycles k cycle_time) where
   cycles_more : take (k + 1) cycles ≡ take k cycles ++ cycle_time ∷ []
   cycles_more = take_more cycles k cycle_time low ∙ ap (λ x. take k cycles ++ x ∷ []) (sym is)
 
   -- one more is judged
-  pub judged_step : (told after : List Candidate) (candidate : Candidate) → AreJudgedBy sketch streams (take k cycles) told →
-      IsJudgedBy sketch streams cycle_time candidate → after ≡ told ++ candidate ∷ [] → AreJudgedBy sketch streams (take (k + 1) cycles) after
+  pub judged_step : (told after : List Candidate) (candidate : Candidate) → AreJudgedBy sketch streams tries (take k cycles) told →
+      IsJudgedBy sketch streams tries cycle_time candidate → after ≡ told ++ candidate ∷ [] → AreJudgedBy sketch streams tries (take (k + 1) cycles) after
   judged_step told after candidate so_far judged put =
       subst (λ (xs : List ℕ). AreJudgedBy sketch streams xs after) (sym cycles_more)
-      (subst (AreJudgedBy sketch streams (take k cycles ++ cycle_time ∷ [])) (sym put)
-      (judged_more sketch streams (take k cycles) told cycle_time candidate so_far judged))
+      (subst (AreJudgedBy sketch streams tries (take k cycles ++ cycle_time ∷ [])) (sym put)
+      (judged_more sketch streams tries (take k cycles) told cycle_time candidate so_far judged))
 
   -- and isn't good
-  bad_more : (best : Option Candidate) (candidate after : Candidate) → AreBad sketch streams (take k cycles) best →
-      IsBadOn sketch streams cycle_time candidate → Some after ≡ better best candidate → AreBad sketch streams (take k cycles ++ cycle_time ∷ []) (Some after)
+  bad_more : (best : Option Candidate) (candidate after : Candidate) → AreBad sketch streams tries (take k cycles) best →
+      IsBadOn sketch streams tries cycle_time candidate → Some after ≡ better best candidate → AreBad sketch streams tries (take k cycles ++ cycle_time ∷ []) (Some after)
   bad_more best candidate after so_far here is_better = record {
     told = so_far.told ++ candidate ∷ [];
-    judged = judged_more sketch streams (take k cycles) so_far.told cycle_time candidate so_far.judged here.judged;
+    judged = judged_more sketch streams tries (take k cycles) so_far.told cycle_time candidate so_far.judged here.judged;
     bad = All-push IsBad so_far.told candidate so_far.bad here.bad;
     best_is = is_better ∙ ap (λ (x : Option Candidate). better x candidate) so_far.best_is ∙ sym (fold-append better None so_far.told (candidate ∷ []));
     best_bad = better_bad best candidate after so_far.best_bad here.bad is_better;
   }
 
-  pub bad_step : (best : Option Candidate) (candidate after : Candidate) → AreBad sketch streams (take k cycles) best →
-      IsBadOn sketch streams cycle_time candidate → Some after ≡ better best candidate → AreBad sketch streams (take (k + 1) cycles) (Some after)
+  pub bad_step : (best : Option Candidate) (candidate after : Candidate) → AreBad sketch streams tries (take k cycles) best →
+      IsBadOn sketch streams tries cycle_time candidate → Some after ≡ better best candidate → AreBad sketch streams tries (take (k + 1) cycles) (Some after)
   bad_step best candidate after so_far here is_better =
-      subst (λ (xs : List ℕ). AreBad sketch streams xs (Some after)) (sym cycles_more) (bad_more best candidate after so_far here is_better)
+      subst (λ (xs : List ℕ). AreBad sketch streams tries xs (Some after)) (sym cycles_more) (bad_more best candidate after so_far here is_better)
 
   -- the first good candidate is the plan's
   pub good_is_planned : (best : Option Candidate) (tried : Tried) → All (IsPlaceable (open_domain sketch)) streams → sketch.candidates ≡ cycles →
-      AreBad sketch streams (take k cycles) best → IsGoodOn sketch streams cycle_time tried → ComesOfAll sketch streams (choice.Planned tried)
+      AreBad sketch streams tries (take k cycles) best → IsGoodOn sketch streams tries cycle_time tried → ComesOfAll sketch streams tries (choice.Planned tried)
   good_is_planned best tried placeable those so_far here =
       let there = here.tried_is in
       let by = there.tried_by in
+      let known = tried_known sketch streams tries cycle_time there.placed there.are_placed in
       let rest : drop k cycles ≡ cycle_time ∷ drop (k + 1) cycles = drop_more cycles k cycle_time low ∙ ap (λ x. x ∷ drop (k + 1) cycles) (sym is) in
       record {
         planned = record {
@@ -116,18 +118,14 @@ module _ (sketch : SketchDomain) (streams : List SettledStream) (cycles : List �
           domain_is = by.domain_is;
           flows_are = (λ i. flows_placed (by.domain_is i).cycle_time streams (by.outcomes_are i));
         };
-        each = sym (length-map tried.outcomes.items outcome_value)
-            ∙ ap length by.outcomes_are
-            ∙ length-placed there.placed.domain [] streams there.placed.outcomes there.placed.entries there.are_placed.placed_are;
-        early = subst (λ (xs : List PlacedOr). All BeginsEarly xs) (sym by.outcomes_are)
-            (early_placed there.placed.domain (open_domain sketch) [] streams there.placed.outcomes there.placed.entries placeable
-            there.are_placed.placed_are);
+        each = sym (length-map tried.outcomes.items outcome_value) ∙ ap length by.outcomes_are ∙ known.each;
+        early = subst (λ (xs : List PlacedOr). All BeginsEarly xs) (sym by.outcomes_are) (known.early (open_domain sketch) placeable);
       }
 
 -- if none is good, there is no plan
-pub none_is_planned : (sketch : SketchDomain) (streams : List SettledStream) (cycles : List ℕ) (best : Candidate) → sketch.candidates ≡ cycles →
-    AreBad sketch streams cycles (Some best) → ComesOfAll sketch streams (choice.Unplanned best)
-none_is_planned sketch streams cycles best those bad = (
+pub none_is_planned : (sketch : SketchDomain) (streams : List SettledStream) (tries : ℕ) (cycles : List ℕ) (best : Candidate) → sketch.candidates ≡ cycles →
+    AreBad sketch streams tries cycles (Some best) → ComesOfAll sketch streams tries (choice.Unplanned best)
+none_is_planned sketch streams tries cycles best those bad = (
   record {
     told = bad.told;
     judged = subst (λ (xs : List ℕ). AreJudgedBy sketch streams xs bad.told) (sym those) bad.judged;

@@ -29,6 +29,7 @@ use Rattle.cqf_program_offers.specs.OffersOutput.{asked_in, sender_of}
 use Rattle.cqf_program_placing.specs.Turns.{MayBeFirst, can_step, every_in, every_of, is_in_step, keeps_step, stays_in_step, turns_by}
 use Rattle.cqf_program_placing.proofs.Stepping.{divisor_at}
 use Rattle.cqf_program_sketch.specs.PlanLaws.{ChosenStreamsComeInTurns}
+use Rattle.cqf_program_sketch.proofs.Tried.{tried_known}
 use Rattle.cqf_program_sketch.proofs.SoundPlans.{plan_granted, told_plan_is_admitted}
 
 -- ---- the greatest common divisor
@@ -158,13 +159,13 @@ comes_in_turn d flows flow place until seed x t come apart there has some stays 
     (turn_of every phase (at / d.cycle_time) early (comes ∙ ap (λ n. n % every) (in_its_cycle phase d.cycle_time t.offset some)))
 
 pub chosen_streams_come_in_turns : SealsAreCounted → AdmittedHaveNames → OffersComeInTurns → ChosenStreamsComeInTurns
-chosen_streams_come_in_turns counted names come sketch streams d flows place stream flow until seed x plan here there chosen among at no_sooner no_later =
-    let taken = (told_plan_is_admitted counted sketch streams d flows plan).taken_over.each place stream flow here there in
+chosen_streams_come_in_turns counted names come sketch streams tries d flows place stream flow until seed x plan here there chosen among at no_sooner no_later =
+    let taken = (told_plan_is_admitted counted sketch streams tries d flows plan).taken_over.each place stream flow here there in
     let of = is_chosen d.cycle_time d.sync stream.pacing stream.traffic flow.0.0.every flow.0.0.phase chosen taken.apart taken.every taken.phase in
     let told : flow.1 ≡ Some (record of.t { offset = flow.0.0.phase * d.cycle_time + of.t.offset % d.cycle_time }) =
     taken.chosen chosen
     ∙ ap (option_map (λ (t : TrafficText). record t { offset = flow.0.0.phase * d.cycle_time + t.offset % d.cycle_time })) of.has in
-    let same : d.cycle_time ≡ plan.cycle_time = ap (λ (there : Domain). there.cycle_time) (plan.domain_is ∙ plan.are_placed.domain) in
+    let same : d.cycle_time ≡ plan.cycle_time = ap (λ (there : Domain). there.cycle_time) (plan.domain_is ∙ (tried_known sketch streams tries plan.cycle_time plan.placed plan.are_placed).domain) in
     comes_in_turn d flows flow place until seed x of.t come
-    (named_apart d flows (names d (map asked_in flows) (plan_granted counted sketch streams d flows plan))) there told (omega (arith, same, plan.open_to))
+    (named_apart d flows (names d (map asked_in flows) (plan_granted counted sketch streams tries d flows plan))) there told (omega (arith, same, plan.open_to))
     of.stays of.is_every of.early among at no_sooner no_later

@@ -6,3 +6,6 @@ mod TriedLemmas
 mod TextLemmas
 mod ChoiceLemmas
 pub mod ReadSketches
+mod Orders
+mod Again
+mod Tried

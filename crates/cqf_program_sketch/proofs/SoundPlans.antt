@@ -23,7 +23,8 @@ use Rattle.cqf_program_placing.specs.Settled.{SettledStream}
 use Rattle.cqf_program_sketch.specs.Choosing.{IsPlanned}
 use Rattle.cqf_program_sketch.specs.Judging.{deadlines_placed, first_late, first_unplaced, flow_of, flows_placed, latencies_placed, those_placed}
 use Rattle.cqf_program_sketch.specs.PlanLaws.{IsSoundPlan, ReservesEnough, ToldPlanIsAdmitted, deadlines_of}
-use Rattle.cqf_program_sketch.proofs.AllPlaced.{AreAllGranted, all_granted, all_in_time, neither, none_late}
+use Rattle.cqf_program_sketch.proofs.Tried.{tried_known}
+use Rattle.cqf_program_sketch.proofs.AllPlaced.{AreAllGranted, all_in_time, neither, none_late}
 
 -- the strict answer of `latency` for a plan that is admitted, if no frame may be late
 strict_ok : (d : Domain) (flows : List FlowText) (entries : List Recorded) → admitted_from d [] 1 (map asked_in flows) ≡ Ok entries →
@@ -77,24 +78,24 @@ sound_of streams placed all in_time =
     }
 
 -- the streams of a plan are all granted
-planned_granted : SealsAreCounted → (sketch : SketchDomain) (streams : List SettledStream) (d : Domain) (flows : List FlowText)
-    (plan : IsPlanned sketch streams d flows) →
+planned_granted : SealsAreCounted → (sketch : SketchDomain) (streams : List SettledStream) (tries : ℕ) (d : Domain) (flows : List FlowText)
+    (plan : IsPlanned sketch streams tries d flows) →
     AreAllGranted plan.placed.domain [] streams (flows_placed plan.placed.domain.cycle_time streams plan.placed.outcomes) plan.placed.entries
-planned_granted counted sketch streams d flows plan =
+planned_granted counted sketch streams tries d flows plan =
     let placed = plan.placed in
     let good = neither (first_unplaced streams placed.outcomes) (first_late (latencies_placed streams placed)) plan.good in
-    all_granted placed.domain streams [] placed.entries placed.outcomes counted good.0 plan.are_placed.placed_are
+    (tried_known sketch streams tries plan.cycle_time placed plan.are_placed).granted counted good.0
 
-pub plan_granted : SealsAreCounted → (sketch : SketchDomain) (streams : List SettledStream) (d : Domain) (flows : List FlowText) →
-    IsPlanned sketch streams d flows → AreGranted d [] (map asked_in flows)
-plan_granted counted sketch streams d flows plan =
+pub plan_granted : SealsAreCounted → (sketch : SketchDomain) (streams : List SettledStream) (tries : ℕ) (d : Domain) (flows : List FlowText) →
+    IsPlanned sketch streams tries d flows → AreGranted d [] (map asked_in flows)
+plan_granted counted sketch streams tries d flows plan =
     subst₂ (λ (there : Domain) (those : List FlowText). AreGranted there [] (map asked_in those)) (sym plan.domain_is) (sym plan.flows_are)
-    (planned_granted counted sketch streams d flows plan).granted
+    (planned_granted counted sketch streams tries d flows plan).granted
 
 pub told_plan_is_admitted : SealsAreCounted → ToldPlanIsAdmitted
-told_plan_is_admitted counted sketch streams d flows plan =
+told_plan_is_admitted counted sketch streams tries d flows plan =
     let placed = plan.placed in
     let good = neither (first_unplaced streams placed.outcomes) (first_late (latencies_placed streams placed)) plan.good in
-    let all = planned_granted counted sketch streams d flows plan in
+    let all = planned_granted counted sketch streams tries d flows plan in
     subst (λ (there : Domain). IsSoundPlan streams there flows) (sym plan.domain_is)
     (subst (λ (those : List FlowText). IsSoundPlan streams placed.domain those) (sym plan.flows_are) (sound_of streams placed all good.1))

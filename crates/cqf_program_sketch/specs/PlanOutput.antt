@@ -34,7 +34,7 @@ use Rattle.cqf_program_placing.specs.Settled.{SettledStream, settled_of}
 use Rattle.cqf_program_placing.specs.Placing.{is_chosen_on}
 use Rattle.cqf_program_sketch.specs.declared.candidates.Candidate.{Candidate}
 use Rattle.cqf_program_sketch.specs.Choosing.{IsPlanned, IsUnplanned}
-use Rattle.cqf_program_sketch.specs.Judging.{AreJudgedBy}
+use Rattle.cqf_program_sketch.specs.Orders.{AreJudgedBy}
 use Rattle.cqf_program_sketch.specs.TableText.{text_of_candidates}
 
 -- the line of a refused domain of a network file

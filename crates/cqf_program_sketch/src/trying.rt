@@ -2,8 +2,7 @@
 ghost use Rattle.std.specs.Prelude.{◌≡◌, IfOk, length, map, option_map};
 ghost use Rattle.cqf_program_placing.specs.Placing.{ArePlaced, PlacedStreams};
 ghost use Rattle.cqf_program_placing.specs.Settled.{settled_value};
-ghost use Rattle.cqf_program_sketch.specs.Judging.{AreJudgedBy, IsJudgedBy};
-ghost use Rattle.cqf_program_sketch.specs.Orders.{order_after};
+ghost use Rattle.cqf_program_sketch.specs.Orders.{AreJudgedBy, IsJudgedBy, order_after};
 ghost use Rattle.cqf_program_sketch.specs.Steps.{AreSettled};
 ghost use Rattle.cqf_program_sketch.specs.Trying.{IsTried, IsTriedBy};
 ghost use Rattle.cqf_sketch.specs.SketchDomain.{IsCycleTime, IsOpenCycle};
