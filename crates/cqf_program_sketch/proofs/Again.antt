@@ -19,7 +19,7 @@ use Rattle.cqf_program_placing.proofs.Stepping.{first_is_early}
 use Rattle.cqf_program_sketch.specs.Judging.{candidate_of, flows_placed}
 use Rattle.cqf_program_sketch.specs.Orders.{all_placed, all_placed_by, asked_at, asked_in_outcome, before_more, good_in, if_good, requests_from}
 use Rattle.cqf_program_sketch.proofs.AllPlaced.{AreAllGranted, IsGranted, granted_by, no_stream, one_stream}
-use Rattle.cqf_program_sketch.proofs.Orders.{AreInside, IsGoodOrder}
+use Rattle.cqf_program_sketch.proofs.OrderLemmas.{AreInside, IsGoodOrder}
 
 -- ---- one stream
 

@@ -6,6 +6,6 @@ mod TriedLemmas
 mod TextLemmas
 mod ChoiceLemmas
 pub mod ReadSketches
-mod Orders
+mod OrderLemmas
 mod Again
 mod Tried

@@ -10,7 +10,7 @@ use Rattle.cqf_program_sketch.specs.Judging.{ArePlacedAt, candidate_of, first_un
 use Rattle.cqf_program_sketch.specs.Orders.{AreTriedAt, IsSearchedFrom, first_order, next_order, order_after}
 use Rattle.cqf_program_sketch.proofs.AllPlaced.{AreAllGranted, all_granted}
 use Rattle.cqf_program_sketch.proofs.Again.{placed_again}
-use Rattle.cqf_program_sketch.proofs.Orders.{AreInside, first_inside, next_inside, searched_order}
+use Rattle.cqf_program_sketch.proofs.OrderLemmas.{AreInside, first_inside, next_inside, searched_order}
 use Rattle.cqf_program_sketch.proofs.TriedLemmas.{early_placed, length-placed}
 
 -- their domain; each has an outcome, and begins early if it is placed; and they are all granted if all are placed
