@@ -7,5 +7,5 @@ mod TextLemmas
 mod ChoiceLemmas
 pub mod ReadSketches
 mod OrderLemmas
-mod Again
+mod OtherOrders
 mod Tried

@@ -9,7 +9,7 @@ use Rattle.cqf_sketch.specs.SketchDomain.{SketchDomain, domain_at}
 use Rattle.cqf_program_sketch.specs.Judging.{ArePlacedAt, candidate_of, first_unplaced, flows_placed}
 use Rattle.cqf_program_sketch.specs.Orders.{AreTriedAt, IsSearchedFrom, first_order, next_order, order_after}
 use Rattle.cqf_program_sketch.proofs.AllPlaced.{AreAllGranted, all_granted}
-use Rattle.cqf_program_sketch.proofs.Again.{placed_again}
+use Rattle.cqf_program_sketch.proofs.OtherOrders.{placed_again}
 use Rattle.cqf_program_sketch.proofs.OrderLemmas.{AreInside, first_inside, next_inside, searched_order}
 use Rattle.cqf_program_sketch.proofs.TriedLemmas.{early_placed, length-placed}
 
