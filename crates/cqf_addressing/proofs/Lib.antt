@@ -1,3 +1,4 @@
 pub mod Seen
 mod Apart
 mod MacLemmas
+pub mod Behind

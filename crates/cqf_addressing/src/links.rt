@@ -1,14 +1,16 @@
 //! The interfaces of links.
-ghost use Rattle.std.specs.Prelude.{◌≡◌, ok_or, option_map};
-ghost use Rattle.toml.specs.Data.{as_table};
+ghost use Rattle.std.specs.Prelude.{◌≡◌, bytes_eq, codes, false, option_map};
+ghost use Rattle.std.specs.Option.{option_map_or};
+ghost use Rattle.toml.specs.Data.{as_str, get_member};
 ghost use Rattle.toml.specs.View.{items_view, table_view, view};
-ghost use Rattle.cqf_lists.specs.Results.{and_then};
+ghost use Rattle.cqf_topology.specs.DomainText.{with_front};
 ghost use Rattle.cqf_topology.specs.Fields.{Gives};
-ghost use Rattle.cqf_addressing.specs.Links.{far_interface, interfaces_from, interfaces_in, interfaces_of_text, link_from, near_interface};
+ghost use Rattle.cqf_addressing.specs.Links.{back_from, back_too, directions_from, element_from, far_interface, interfaces_from, interfaces_in};
+ghost use Rattle.cqf_addressing.specs.Links.{interfaces_of_text, is_duplex, is_named, is_station, link_from, near_interface, stations_in, there_from};
 
 use crate::values::interface_at;
 use crate::{AddressKey, AddressingFault, InterfaceName};
-use cqf_topology::{Key, TomlFault, are_all_tables, array_at, read_document};
+use cqf_topology::{Key, TomlFault, are_all_tables, array_at, read_document, value_at};
 use std::alloc::Global;
 use toml::{Table, Value};
 
@@ -30,26 +32,155 @@ fn read_link(table: &Table) -> Result<LinkInterfaces, AddressingFault>
     Ok(LinkInterfaces { near, far })
 }
 
-/// Reads the interfaces of a link, as an element of the array of links.
-fn link_in(value: &Value) -> Result<LinkInterfaces, AddressingFault>
-    ensures { result ≡ and_then (ok_or (as_table (view value.now)) (AddressingFault.Text (TomlFault.BadValue Key.Links))) link_from }
+/// The interfaces of the same link back.
+fn read_back(table: &Table) -> Result<LinkInterfaces, AddressingFault>
+    ensures { result ≡ back_from (table_view table.now) }
+{
+    let LinkInterfaces { near, far } = read_link(table)?;
+    Ok(LinkInterfaces {
+        near: far,
+        far: near,
+    })
+}
+
+/// Whether a value is this text.
+fn is_text(value: &Value, text: &str) -> bool
+    ensures { result ≡ option_map_or (bytes_eq text.now) (as_str (view value.now)) false }
+{
+    match value.as_str() {
+        Some(other) => text == other,
+        None => false,
+    }
+}
+
+/// Whether the name is one of the stations.
+fn is_named(name: &str, stations: &[Value]) -> bool
+    ensures { result ≡ is_named name.now (items_view stations.now) }
+{
+    for station in stations {
+        if is_text(station, name) {
+            return true;
+        }
+    }
+    false
+}
+
+/// Returns whether the value at a key of a link's table is the name of a station.
+fn is_station(stations: &[Value], table: &Table, key: Key) -> bool
+    ensures { result ≡ is_station (items_view stations.now) key (table_view table.now) }
+{
+    match value_at(table, key).and_then(Value::as_str) {
+        Some(name) => is_named(name, stations),
+        None => false,
+    }
+}
+
+/// Returns the value at `duplex` of a link's table.
+fn duplex_value(table: &Table) -> Option<&Value>
+    ensures { option_map (λ v. view v.now) result ≡ get_member (codes "duplex") (table_view table.now) }
+{
+    table.get("duplex")
+}
+
+/// Returns whether a link's table is a link in each direction.
+fn is_duplex(table: &Table) -> bool
+    ensures { result ≡ is_duplex (table_view table.now) }
+{
+    match duplex_value(table).and_then(Value::as_bool) {
+        Some(duplex) => duplex,
+        None => false,
+    }
+}
+
+/// Puts the interfaces of a link after others, unless it begins at a station.
+fn put_there(
+    links: &mut Vec<LinkInterfaces>,
+    stations: &[Value],
+    table: &Table,
+) -> Result<(), AddressingFault>
+    ensures { Gives (AddressingFault.Text TomlFault.Memory) (λ _. links.new.items) result
+        (with_front links.old.items (there_from (items_view stations.now) (table_view table.now))) }
+{
+    let there = read_link(table)?;
+    if is_station(stations, table, Key::From) {
+        return Ok(());
+    }
+    links.push(there)?;
+    Ok(())
+}
+
+/// Puts those of the same link back, where it has that direction and that begins at no station.
+fn put_back(
+    links: &mut Vec<LinkInterfaces>,
+    stations: &[Value],
+    table: &Table,
+) -> Result<(), AddressingFault>
+    ensures { Gives (AddressingFault.Text TomlFault.Memory) (λ _. links.new.items) result
+        (with_front links.old.items (back_too (items_view stations.now) (table_view table.now))) }
+{
+    if !is_duplex(table) {
+        return Ok(());
+    }
+    if is_station(stations, table, Key::To) {
+        return Ok(());
+    }
+    let back = read_back(table)?;
+    links.push(back)?;
+    Ok(())
+}
+
+/// Puts the interfaces of a link after others, in each direction that begins at no station.
+fn put_link(
+    links: &mut Vec<LinkInterfaces>,
+    stations: &[Value],
+    table: &Table,
+) -> Result<(), AddressingFault>
+    ensures { Gives (AddressingFault.Text TomlFault.Memory) (λ _. links.new.items) result
+        (with_front links.old.items (directions_from (items_view stations.now) (table_view table.now))) }
+{
+    put_there(links, stations, table)?;
+    put_back(links, stations, table)
+}
+
+/// Puts those of an element of the array of links.
+fn put_element(
+    links: &mut Vec<LinkInterfaces>,
+    stations: &[Value],
+    value: &Value,
+) -> Result<(), AddressingFault>
+    ensures { Gives (AddressingFault.Text TomlFault.Memory) (λ _. links.new.items) result
+        (with_front links.old.items (element_from (items_view stations.now) (view value.now))) }
 {
     match value.as_table() {
-        Some(table) => read_link(table),
+        Some(table) => put_link(links, stations, table),
         None => Err(AddressingFault::Text(TomlFault::BadValue(Key::Links))),
     }
 }
 
 /// Reads the elements of the array of links.
-fn all_links_in(alloc: Global, values: &[Value]) -> Result<Vec<LinkInterfaces>, AddressingFault>
-    ensures { Gives (AddressingFault.Text TomlFault.Memory) (λ list. list.items) result (interfaces_from (items_view values.now)) }
+fn all_links_in(
+    alloc: Global,
+    stations: &[Value],
+    values: &[Value],
+) -> Result<Vec<LinkInterfaces>, AddressingFault>
+    ensures { Gives (AddressingFault.Text TomlFault.Memory) (λ list. list.items) result
+        (interfaces_from (items_view stations.now) (items_view values.now)) }
 {
     let mut links = Vec::new(alloc);
     for value in values {
-        let link = link_in(value)?;
-        links.push(link)?;
+        put_element(&mut links, stations, value)?;
     }
     Ok(links)
+}
+
+/// Returns the stations of a document; none if the value there is no array.
+fn stations_of(table: &Table) -> &[Value]
+    ensures { items_view result.now ≡ stations_in (table_view table.now) }
+{
+    match value_at(table, Key::Stations).and_then(Value::as_array) {
+        Some(values) => values.as_slice(),
+        None => &[],
+    }
 }
 
 /// Reads the interfaces of the links of a document.
@@ -60,13 +191,14 @@ fn interfaces_of_table(alloc: Global, table: &Table) -> Result<Vec<LinkInterface
     if !are_all_tables(values) {
         return Err(AddressingFault::Text(TomlFault::BadValue(Key::Links)));
     }
-    all_links_in(alloc, values)
+    all_links_in(alloc, stations_of(table), values)
 }
 
-/// Returns the interfaces of the links of a text, one element for each link, in its order.
+/// Returns the interfaces of the links of a text that begin at a bridge, by number. An element that is `duplex` is two links, the one back
+/// directly after the other, with its interfaces exchanged. A link that begins at a station has no number.
 ///
-/// The text is that of [`cqf_topology::Domain::read`]. Only the array of links and two keys of each are read: `interface` and
-/// `far-interface`, each a text of the form of an [`InterfaceName`].
+/// Only the stations, the array of links and these keys of each link are read: `from`, `to`,
+/// `duplex`, and `interface` and `far-interface`, each a text of the form of an [`InterfaceName`].
 ///
 /// # Errors
 /// `NotToml`. `Missing` or `BadValue` with `links` if it isn't an array of tables. `BadValue` with the first key, in reading order, that

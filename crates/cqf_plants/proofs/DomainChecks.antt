@@ -73,7 +73,7 @@ finds_none p links none = by (position p links) refl
         absurd (true≢false (sym at.1 ∙ none i (get_or links i some_link) (slice_get-get_or links i some_link at.0)))
 
 -- numbers below a limit, or not above it, fail these tests
-unreached : (most n : ℕ) → n < most → nat_le most n ≡ false
+pub unreached : (most n : ℕ) → n < most → nat_le most n ≡ false
 unreached most n below = grind (arith, nat_tests)
 
 within : (most n : ℕ) → n ≤ most → nat_lt most n ≡ false

@@ -1,3 +1,9 @@
+pub mod NetworkReading
+pub mod StreamChosen
+pub mod Puts
+pub mod TablesRead
+pub mod CycleChosen
+pub mod FilledLists
 pub mod Putting
 pub mod NamesApart
 pub mod DomainChecks

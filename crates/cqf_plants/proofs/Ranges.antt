@@ -1,6 +1,5 @@
 -- The numbers of a stream that is read from a table fit in a text.
 use Rattle.std.proofs.Common.{◌≡◌, ◌≤◌, ℕ, Bool, true, false, cond, Option, Some, None, Result, Ok, Err, IfSome, List, [], All, ok_or, subst, ap, arith}
-use Rattle.std.specs.Result.{result_map_both}
 use Rattle.toml.specs.Data.{Data, Items, Members, as_array, as_str, as_table, member, no_members}
 use Rattle.cqf_lists.specs.Results.{and_then}
 use Rattle.cqf_topology.specs.declared.keys.Key.{Key}
@@ -20,7 +19,8 @@ use Rattle.cqf_traffic.specs.FlowsText.{FlowText, first_lack_of, flow_from, flow
 use Rattle.cqf_traffic.specs.Keys.{default_of, least_of, most_of}
 use Rattle.cqf_traffic.specs.TrafficText.{IsInRange, IsTrafficText, TrafficText, has_traffic, number_at, number_by, numbers_from, traffic_from}
 use Rattle.cqf_traffic.specs.TrafficText.{value_at as traffic_at}
-use Rattle.cqf_plants.specs.Plants.{IsTellable, ReadStreamsAreTellable}
+use Rattle.cqf_plants.proofs.TablesRead.{map_both-Ok}
+use Rattle.cqf_plants.specs.Plants.{IsTellable, IsTellableNumber, IsTellableTraffic, ReadStreamsAreTellable}
 
 -- a number that is read is in its range
 number_in_range : (least most : ℕ) (d : Data) (n : ℕ) → number_from least most d ≡ Some n → (least ≤ n) × (n ≤ most)
@@ -28,17 +28,20 @@ number_in_range least most d n h =
     number-range key.Octets least most (member (key_text key.Octets) d no_members) n (ap (λ o. ok_or o (BadValue key.Octets)) h)
 
 -- and so is the default of an absent number
-default_in_range : (at : TrafficKey) (n : ℕ) → default_of at ≡ Some n → IsInRange at n
+default_in_range : (at : TrafficKey) (n : ℕ) → default_of at ≡ Some n → IsTellableNumber at n
 default_in_range Interval n h = absurd (cc)
-default_in_range Frames n h = let e : 1 ≡ n = cc in subst (IsInRange Frames) e (record { least = omega arith; most = omega arith })
+default_in_range Frames n h = let e : 1 ≡ n = cc in subst (IsTellableNumber Frames) e (record { least = omega arith; most = omega arith })
 default_in_range Size n h = absurd (cc)
-default_in_range Jitter n h = let e : 0 ≡ n = cc in subst (IsInRange Jitter) e (record { least = omega arith; most = omega arith })
-default_in_range Offset n h = let e : 0 ≡ n = cc in subst (IsInRange Offset) e (record { least = omega arith; most = omega arith })
+default_in_range Jitter n h = let e : 0 ≡ n = cc in subst (IsTellableNumber Jitter) e (record { least = omega arith; most = omega arith })
+default_in_range Offset n h = let e : 0 ≡ n = cc in subst (IsTellableNumber Offset) e (record { least = omega arith; most = omega arith })
 
--- if a mapped result is a value, so was the result before its error was mapped
-map_both-Ok : {A E F : Type 0} (f : E → F) (r : Result A E) (x : A) → result_map_both (λ y. y) f r ≡ Ok x → r ≡ Ok x
-map_both-Ok f (Ok y) x h = cc
-map_both-Ok f (Err e) x h = absurd (cc)
+-- a number that can be written is represented
+represented : (at : TrafficKey) (n : ℕ) → IsTellableNumber at n → IsInRange at n
+represented Interval n told = record { least = told.least; most = told.most }
+represented Frames n told = record { least = told.least; most = told.most }
+represented Size n told = record { least = told.least; most = told.most }
+represented Jitter n told = record { least = told.least; most = omega (arith, told.most) }
+represented Offset n told = record { least = told.least; most = omega (arith, told.most) }
 
 -- a request's numbers are at most 2^32 - 1
 record HasFew (request : PacedText) : Type 0 where
@@ -48,17 +51,17 @@ record HasFew (request : PacedText) : Type 0 where
 
 module _ (table : Members) where
   -- each number of traffic
-  number_in : (at : TrafficKey) (n : ℕ) → number_at at table ≡ Ok n → IsInRange at n
+  number_in : (at : TrafficKey) (n : ℕ) → number_at at table ≡ Ok n → IsTellableNumber at n
   number_in at n h = by (traffic_at at table) h
     where
       -- whether or not the key is there
-      by : (o : Option Data) → number_by o at ≡ Ok n → IsInRange at n
+      by : (o : Option Data) → number_by o at ≡ Ok n → IsTellableNumber at n
       by None h = default_in_range at n (ok_or-Ok (default_of at) at n h)
       by (Some d) h =
           let range = number_in_range (least_of at) (most_of at) d n (ok_or-Ok (number_from (least_of at) (most_of at) d) at n h) in
           record { least = range.0; most = range.1 }
 
-  numbers_in : (t : TrafficText) → numbers_from table ≡ Ok t → IsTrafficText t
+  numbers_in : (t : TrafficText) → numbers_from table ≡ Ok t → IsTellableTraffic t
   numbers_in t h =
       let (interval, at_interval, h1) = and_then-Ok (number_at Interval table) _ t h in
       let (frames, at_frames, h2) = and_then-Ok (number_at Frames table) _ t h1 in
@@ -67,26 +70,40 @@ module _ (table : Members) where
       let (offset, at_offset, h5) = and_then-Ok (number_at Offset table) _ t h4 in
       let read : TrafficText = record { interval = interval; frames = frames; size = size; jitter = jitter; offset = offset } in
       let same : read ≡ t = cc in
-      let good : IsTrafficText read = record {
+      let good : IsTellableTraffic read = record {
         interval = number_in Interval interval at_interval;
         frames = number_in Frames frames at_frames;
         size = number_in Size size at_size;
         jitter = number_in Jitter jitter at_jitter;
         offset = number_in Offset offset at_offset;
       } in
-      subst IsTrafficText same good
+      subst IsTellableTraffic same good
 
-  -- traffic that is read is in the ranges of its keys
-  pub traffic_in_range : (traffic : Option TrafficText) → traffic_from table ≡ Ok traffic → IfSome traffic IsTrafficText
-  traffic_in_range traffic h = by (has_traffic table) h
+  -- traffic that is read can be written
+  traffic_is_tellable : (traffic : Option TrafficText) → traffic_from table ≡ Ok traffic → IfSome traffic IsTellableTraffic
+  traffic_is_tellable traffic h = by (has_traffic table) h
     where
       -- whether or not there is traffic
-      by : (b : Bool) → cond b (and_then (numbers_from table) (λ t. Ok (Some t))) (Ok None) ≡ Ok traffic → IfSome traffic IsTrafficText
+      by : (b : Bool) → cond b (and_then (numbers_from table) (λ t. Ok (Some t))) (Ok None) ≡ Ok traffic → IfSome traffic IsTellableTraffic
       by true h =
           let (t, read, some) = and_then-Ok (numbers_from table) (λ t. Ok (Some t)) traffic h in
           let same : Some t ≡ traffic = cc in
-          subst (λ (o : Option TrafficText). IfSome o IsTrafficText) same (numbers_in t read)
-      by false h = let same : None ≡ traffic = cc in subst (λ (o : Option TrafficText). IfSome o IsTrafficText) same tt
+          subst (λ (o : Option TrafficText). IfSome o IsTellableTraffic) same (numbers_in t read)
+      by false h = let same : None ≡ traffic = cc in subst (λ (o : Option TrafficText). IfSome o IsTellableTraffic) same tt
+
+  -- so it is represented
+  pub traffic_in_range : (traffic : Option TrafficText) → traffic_from table ≡ Ok traffic → IfSome traffic IsTrafficText
+  traffic_in_range None h = tt
+  traffic_in_range (Some t) h =
+      let told : IsTellableTraffic t = traffic_is_tellable (Some t) h in
+      let good : IsTrafficText t = record {
+        interval = represented Interval t.interval told.interval;
+        frames = represented Frames t.frames told.frames;
+        size = represented Size t.size told.size;
+        jitter = represented Jitter t.jitter told.jitter;
+        offset = represented Offset t.offset told.offset;
+      } in
+      good
 
   -- so is a deadline
   pub deadline_in_range : (deadline : Option ℕ) → deadline_from table ≡ Ok deadline → IfSome deadline (λ n. (1 ≤ n) × (n ≤ 4294967295))
@@ -133,7 +150,7 @@ module _ (table : Members) where
         every = few.every;
         phase = few.phase;
         deadline = deadline_in_range deadline at_deadline;
-        traffic = traffic_in_range traffic (map_both-Ok flows_fault.BadValue (traffic_from table) traffic at_traffic);
+        traffic = traffic_is_tellable traffic (map_both-Ok flows_fault.BadValue (traffic_from table) traffic at_traffic);
       } in
       subst IsTellable same good
 

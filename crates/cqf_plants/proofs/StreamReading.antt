@@ -1,6 +1,6 @@
 -- Reading a stream's table.
 use Rattle.std.proofs.Common.{◌≡◌, ◌==◌, ◌≤◌, ◌∙◌, ℕ, List, [], ◌∷◌, ◌||◌, ◌&&◌, Bool, true, false, cond, Option, Some, None, Ok, IfSome, option_map}
-use Rattle.std.proofs.Common.{find, is_none, is_some, map, ok_or, unwrap_or, refl, ap, sym, arith}
+use Rattle.std.proofs.Common.{find, is_none, is_some, map, ok_or, unwrap_or, refl, ap, arith}
 use Rattle.std.proofs.lemmas.Bool.{and_parts}
 use Rattle.std.proofs.lemmas.Bool.Decides.{nat_tests}
 use Rattle.std.specs.Option.{option_and_then, option_or}
@@ -20,12 +20,12 @@ use Rattle.cqf_traffic.specs.declared.faults.FlowsFault.TheVariants as flows_fau
 use Rattle.cqf_traffic.specs.declared.keys.TrafficKey.{TrafficKey}
 use Rattle.cqf_traffic.specs.declared.keys.TrafficKey.TheVariants.{Interval, Frames, Size, Jitter, Offset}
 use Rattle.cqf_traffic.specs.Keys.{least_of, most_of, traffic_keys}
-use Rattle.cqf_traffic.specs.TrafficText.{IsInRange, IsTrafficText, TrafficText, first_owed, has_traffic, is_lacked, number_at, number_by, numbers_from}
+use Rattle.cqf_traffic.specs.TrafficText.{TrafficText, first_owed, has_traffic, is_lacked, number_at, number_by, numbers_from}
 use Rattle.cqf_traffic.specs.TrafficText.{traffic_from, value_at as traffic_at}
 use Rattle.cqf_traffic.specs.FlowsText.{FlowText, first_lack, flow_from, or_streams}
 use Rattle.cqf_plants.specs.DomainMembers.{texts_data}
 use Rattle.cqf_plants.specs.StreamMembers.{branches_data, every_told, is_each_cycle, number_of_traffic, phase_told, stream_members}
-use Rattle.cqf_plants.specs.Plants.{IsTellable, unpaced}
+use Rattle.cqf_plants.specs.Plants.{IsTellable, IsTellableNumber, IsTellableTraffic, unpaced}
 use Rattle.cqf_plants.proofs.DomainReading.{number_if_reads, number_reads, told_or}
 use Rattle.cqf_plants.proofs.StreamValues.{HasStream, has_stream, number_data, path_data, paths_data}
 
@@ -45,8 +45,7 @@ each_every every phase is = let parts = and_parts (every == 1) (phase == 0) is i
 each_phase : (every phase : ℕ) → is_each_cycle every phase ≡ true → phase ≡ 0
 each_phase every phase is = let parts = and_parts (every == 1) (phase == 0) is in let none : (phase == 0) ≡ true = parts.1 in grind (arith, nat_tests)
 
-module _ (table : Members) (request : PacedText) (deadline : Option ℕ) (traffic : Option TrafficText)
-    (has : HasStream table request deadline traffic) where
+module _ (table : Members) where
   -- the texts at `path`, and the branches at `paths`
   path_reads : (path : List (List ℕ)) → value_at key.Path table ≡ Some (texts_data path) → texts_at key.Path table ≡ Ok path
   path_reads path at =
@@ -57,13 +56,15 @@ module _ (table : Members) (request : PacedText) (deadline : Option ℕ) (traffi
       ap (λ o. and_then (ok_or (option_and_then as_array o) (BadValue key.Paths)) (text_lists_from key.Paths)) at ∙ branches_read key.Paths some
 
   -- so the branches of a stream are read
-  branches_by_read : (some : List (List (List ℕ))) → value_at key.Path table ≡ path_data some → value_at key.Paths table ≡ paths_data some
+  pub branches_by_read : (some : List (List (List ℕ))) → value_at key.Path table ≡ path_data some → value_at key.Paths table ≡ paths_data some
       → branches_from table ≡ Ok some
   branches_by_read [] at_path at_paths = (λ i. branches_by (at_path i) (at_paths i) table) ∙ paths_read [] at_paths
   branches_by_read (path ∷ []) at_path at_paths =
       (λ i. branches_by (at_path i) (at_paths i) table) ∙ ap (λ r. and_then r (λ branch. Ok (branch ∷ []))) (path_reads path at_path)
   branches_by_read (path ∷ other ∷ more) at_path at_paths = (λ i. branches_by (at_path i) (at_paths i) table) ∙ paths_read (path ∷ other ∷ more) at_paths
 
+module _ (table : Members) (request : PacedText) (deadline : Option ℕ) (traffic : Option TrafficText)
+    (has : HasStream table request deadline traffic) where
   -- its name, reservation and branches
   name_read : read_at key.Name as_str table ≡ Ok request.name
   name_read = ap (λ o. ok_or (option_and_then as_str o) (BadValue key.Name)) has.name_at
@@ -74,7 +75,7 @@ module _ (table : Members) (request : PacedText) (deadline : Option ℕ) (traffi
       ∙ ap (λ o. ok_or o (BadValue key.Octets)) (number_reads 0 4294967295 request.octets (omega arith) few)
 
   branches_are : branches_from table ≡ Ok request.paths
-  branches_are = branches_by_read request.paths has.path_at has.paths_at
+  branches_are = branches_by_read table request.paths has.path_at has.paths_at
 
   -- a number that may be absent
   number_or_reads : (at : Key) (default : ℕ) (some : Option ℕ) → value_at at table ≡ option_map number_data some → IfSome some (λ n. n ≤ 4294967295)
@@ -114,12 +115,12 @@ module _ (table : Members) (request : PacedText) (deadline : Option ℕ) (traffi
       Ok (record { name = name; octets = octets; every = every; phase = phase; paths = paths })))))))
 
   -- a number of traffic
-  number_is_read : (at : TrafficKey) (n : ℕ) → traffic_at at table ≡ Some (number_data n) → IsInRange at n → number_at at table ≡ Ok n
+  number_is_read : (at : TrafficKey) (n : ℕ) → traffic_at at table ≡ Some (number_data n) → IsTellableNumber at n → number_at at table ≡ Ok n
   number_is_read at n is good =
       ap (λ o. number_by o at) is ∙ ap (λ o. ok_or o at) (number_reads (least_of at) (most_of at) n good.least good.most)
 
   -- all of them
-  numbers_read : (t : TrafficText) → IsTrafficText t → ((at : TrafficKey) → traffic_at at table ≡ Some (number_data (number_of_traffic at t)))
+  numbers_read : (t : TrafficText) → IsTellableTraffic t → ((at : TrafficKey) → traffic_at at table ≡ Some (number_data (number_of_traffic at t)))
       → numbers_from table ≡ Ok t
   numbers_read t good at =
       let interval_is = number_is_read Interval t.interval (at Interval) good.interval in
@@ -142,7 +143,7 @@ module _ (table : Members) (request : PacedText) (deadline : Option ℕ) (traffi
       || (is_some (traffic_at Jitter table) || (is_some (traffic_at Offset table) || false)))))
 
   -- the traffic
-  traffic_by_reads : (some : Option TrafficText) → IfSome some IsTrafficText
+  traffic_by_reads : (some : Option TrafficText) → IfSome some IsTellableTraffic
       → ((at : TrafficKey) → traffic_at at table ≡ option_map (λ t. number_data (number_of_traffic at t)) some) → traffic_from table ≡ Ok some
   traffic_by_reads None good at = ap (λ b. cond b (and_then (numbers_from table) (λ t. Ok (Some t))) (Ok None)) (no_traffic at)
   traffic_by_reads (Some t) good at =

@@ -1,3 +1,5 @@
 pub mod DomainMembers
 pub mod StreamMembers
 pub mod Plants
+pub mod Networks
+pub mod NetworkLaws

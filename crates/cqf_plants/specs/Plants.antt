@@ -10,7 +10,10 @@ use Rattle.cqf_topology.specs.PacedText.{PacedText, paced_of_text}
 use Rattle.cqf_topology.specs.PlannedText.{planned_of_text}
 use Rattle.cqf_topology.specs.StreamsText.{RequestText, streams_of_text}
 use Rattle.cqf_traffic.specs.FlowsText.{FlowText, flows_of_text}
-use Rattle.cqf_traffic.specs.TrafficText.{IsTrafficText}
+use Rattle.cqf_traffic.specs.declared.keys.TrafficKey.{TrafficKey}
+use Rattle.cqf_traffic.specs.declared.keys.TrafficKey.TheVariants.{Interval, Frames, Size, Jitter, Offset}
+use Rattle.cqf_traffic.specs.Keys.{least_of, most_of}
+use Rattle.cqf_traffic.specs.TrafficText.{TrafficText}
 use Rattle.cqf_plants.specs.DomainMembers.{domain_members}
 use Rattle.cqf_plants.specs.StreamMembers.{streams_data}
 
@@ -24,13 +27,25 @@ pub record IsToldPlant (d : Domain) (flows : List FlowText) (text : List ℕ) : 
   pub written : IsDocumentText false (plant_members d flows) text
   pub document : parse_document text ≡ Some (plant_members d flows)
 
+-- a number may stand in a text at a key of traffic, and so may each of some traffic
+pub record IsTellableNumber (key : TrafficKey) (n : ℕ) : Type 0 where
+  pub least : least_of key ≤ n
+  pub most : n ≤ most_of key
+
+pub record IsTellableTraffic (t : TrafficText) : Type 0 where
+  pub interval : IsTellableNumber Interval t.interval
+  pub frames : IsTellableNumber Frames t.frames
+  pub size : IsTellableNumber Size t.size
+  pub jitter : IsTellableNumber Jitter t.jitter
+  pub offset : IsTellableNumber Offset t.offset
+
 -- a stream's numbers fit in a text: each is at most 2^32 - 1, a deadline is at least 1, and traffic is in its ranges
 pub record IsTellable (flow : FlowText) : Type 0 where
   pub octets : flow.0.0.octets ≤ 4294967295
   pub every : flow.0.0.every ≤ 4294967295
   pub phase : flow.0.0.phase ≤ 4294967295
   pub deadline : IfSome flow.0.1 (λ deadline. (1 ≤ deadline) × (deadline ≤ 4294967295))
-  pub traffic : IfSome flow.1 IsTrafficText
+  pub traffic : IfSome flow.1 IsTellableTraffic
 
 -- a request without its cycles: its name, octets and branches
 abbrev pub unpaced : PacedText → RequestText

@@ -2,7 +2,6 @@
 use Rattle.std.specs.Prelude.{ℕ, pos, List, [], ◌∷◌, ◌&&◌, ◌==◌, Bool, if◌then◌else◌, Option, Some, None, map}
 use Rattle.toml.specs.Data.{Data, string, integer, array, table, Members, no_members, member}
 use Rattle.toml.specs.View.{items_of}
-use Rattle.cqf_topology.specs.declared.keys.Key.{Key}
 use Rattle.cqf_topology.specs.declared.keys.Key.TheVariants.{Deadline, Every, Name, Octets, Path, Paths, Phase}
 use Rattle.cqf_topology.specs.Fields.{key_text}
 use Rattle.cqf_topology.specs.PacedText.{PacedText}

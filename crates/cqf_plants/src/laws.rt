@@ -1,4 +1,5 @@
-//! What the readers of a plan's text get.
+//! Laws: readers find what was written.
+ghost use Rattle.cqf_plants.specs.NetworkLaws.{FilledNetworksReadBack};
 ghost use Rattle.cqf_plants.specs.Plants.{ReadStreamsAreTellable, ToldPlantsReadBack};
 
 /// Law: the text of an accepted domain and of streams whose numbers fit in a text is read as exactly that domain and
@@ -12,4 +13,10 @@ pub fn told_plants_read_back()
 /// read as the same plan.
 pub fn read_streams_are_tellable()
     ensures { ReadStreamsAreTellable }
+{}
+
+/// Law: every reader finds in the text of a planned network the network of its file, with the chosen cycle time, and the file's streams, with
+/// what was chosen for each. So every command reads what was planned.
+pub fn filled_networks_read_back()
+    ensures { FilledNetworksReadBack }
 {}

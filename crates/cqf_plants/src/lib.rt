@@ -1,7 +1,10 @@
-//! The text of a plan: an accepted domain and its streams, with their deadlines and traffic, in TOML.
+//! Networks as texts in TOML.
 //!
-//! [`write_plant`] returns the text of a plan. By the law [`told_plants_read_back`], every command reads such a text as
-//! exactly that domain and these streams.
+//! [`write_network`] returns the text of a planned network: the tables of its file, with what was chosen filled in.
+//! [`filled_networks_read_back`] is the law that every command reads such a text as the file's network, with what was chosen.
+//!
+//! [`write_plant`] returns the text of an accepted domain and its streams, with their deadlines and traffic.
+//! [`told_plants_read_back`] is the law that every command reads such a text as exactly that domain and these streams.
 //!
 //! ```text
 //! bridges = ["stage"]
@@ -33,10 +36,14 @@
 #![tactic(auto)]
 
 mod domain;
+mod filling;
 mod laws;
+mod ordered;
 mod plant;
+mod same;
 mod streams;
 mod tables;
 
-pub use laws::{read_streams_are_tellable, told_plants_read_back};
+pub use filling::{FilledStream, write_network};
+pub use laws::{filled_networks_read_back, read_streams_are_tellable, told_plants_read_back};
 pub use plant::write_plant;

@@ -41,7 +41,11 @@ fn branches_value(alloc: Global, paths: &[Vec<String>]) -> Result<Value, Memory>
 
 /// Puts the branches of a stream into its table: a single branch as its `path`, none or several as its `paths`. Returns
 /// `Memory` if an allocation fails.
-fn put_branches(alloc: Global, table: &mut Table, paths: &[Vec<String>]) -> Result<(), Memory>
+pub(crate) fn put_branches(
+    alloc: Global,
+    table: &mut Table,
+    paths: &[Vec<String>],
+) -> Result<(), Memory>
     ensures { OnOk result (table_view table.new ≡ put_branches (map (λ path. map string_bytes path.items) paths.now) (table_view table.old)) }
 {
     match paths {

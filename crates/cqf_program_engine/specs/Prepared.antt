@@ -13,7 +13,7 @@ use Rattle.cqf_program_runs.specs.Deliveries.Following.{AreDeliveriesTold}
 use Rattle.cqf_program_summary.specs.Summary.Text.{text_of_summary}
 use Rattle.cqf_program_plans.specs.Latency.Text.{text_of_latency}
 use Rattle.cqf_program_runs.specs.Line.Told.{IsLineTold}
-use Rattle.cqf_program_plans.specs.Load.Text.{text_of_load}
+use Rattle.cqf_program_plans.specs.Load.Told.{text_of_load}
 use Rattle.cqf_program_plans.specs.Port.Told.{text_of_port}
 use Rattle.cqf_program_runs.specs.Run.Told.{IsRunTold}
 use Rattle.cqf_program_tc.specs.Output.{text_of_env, text_of_tc}

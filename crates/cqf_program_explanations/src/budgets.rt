@@ -1,7 +1,8 @@
 //! Streams that are refused because of earlier ones: names that are held, and budgets.
 
+use crate::access::{Promise, edge_promise};
 use crate::given::CommandInput;
-use crate::network::Network;
+use crate::network::{LinkWay, Network};
 use crate::places::Grouped;
 use crate::plant::WrittenItem;
 use crate::stream_faults::{MOST_EVERY, WrittenPace, WrittenStream, streams_of};
@@ -37,14 +38,14 @@ struct Placed<'p> {
 /// A link of a stream's tree, and how many links lead to it there.
 #[derive(Clone, Copy)]
 struct TreeLink {
-    link: usize,
+    link: LinkWay,
     depth: u64,
 }
 
 /// A link that has too little left for a stream.
 #[derive(Clone, Copy)]
 struct Short {
-    link: usize,
+    link: LinkWay,
     left: u64,
     budget: u64,
 }
@@ -76,7 +77,7 @@ fn tree_of(
     for path in &asked.paths {
         let behind = path.iter().skip(1);
         for (depth, (from, to)) in path.iter().zip(behind).enumerate() {
-            if let Some(link) = network.link_between(from, to) {
+            if let Some(link) = network.way_between(from, to) {
                 if !tree.iter().any(|hop| hop.link == link) {
                     let depth = depth as u64;
                     tree.push(TreeLink { link, depth })?;
@@ -88,8 +89,11 @@ fn tree_of(
 }
 
 /// Returns the index of what a link holds in a cycle.
-fn spot(link: usize, cycle: u64) -> usize {
-    link.saturating_mul(MOST_EVERY as usize)
+fn spot(link: LinkWay, cycle: u64) -> usize {
+    link.place
+        .saturating_mul(2)
+        .saturating_add(usize::from(link.is_back))
+        .saturating_mul(MOST_EVERY as usize)
         .saturating_add(cycle as usize)
 }
 
@@ -109,7 +113,7 @@ impl<'p> Placed<'p> {
     /// Returns what a link has left for a stream, with the link's budget.
     fn left_on(&self, hop: TreeLink, pace: WrittenPace) -> Short {
         let held = self.held_beside(hop, pace);
-        let budget = match self.network.links.get(hop.link) {
+        let budget = match self.network.links.get(hop.link.place) {
             Some(link) => self.network.budget(link),
             None => 0,
         };
@@ -179,7 +183,7 @@ impl<'p> Placed<'p> {
         let mut least: u64 = 0;
         for hop in tree {
             let held = self.held_beside(*hop, pace);
-            if let Some(link) = self.network.links.get(hop.link) {
+            if let Some(link) = self.network.links.get(hop.link.place) {
                 let ticks = held.saturating_add(cost).saturating_mul(link.shortest());
                 let open = ticks.div_ceil(2100);
                 least = least.max(open.saturating_add(link.guard));
@@ -189,10 +193,24 @@ impl<'p> Placed<'p> {
     }
 }
 
+/// Returns whether octets are what a stream's traffic needs in a cycle of this length, in ns.
+fn are_enough(promise: Option<Promise>, octets: u64, cycle: u64) -> bool {
+    match promise {
+        Some(promise) => promise.needed(cycle) <= octets,
+        None => true,
+    }
+}
+
 /// Returns with which octets or cycle time a stream would fit, in words.
-fn remedy(alloc: Global, octets: u64, cycle: u64) -> Result<String, AllocError> {
+fn remedy(
+    alloc: Global,
+    octets: u64,
+    cycle: u64,
+    are_good: (bool, bool),
+) -> Result<String, AllocError> {
     let (fewer, longer) = (Grouped(octets), Grouped(cycle));
-    match (octets > 0, cycle <= LONGEST_CYCLE) {
+    let (octets_are, cycle_is) = are_good;
+    match (octets > 0 && octets_are, cycle <= LONGEST_CYCLE && cycle_is) {
         (true, true) => format!(in alloc;
             "; it fits with {fewer} octets or a cycle of {longer} ns"
         ),
@@ -200,6 +218,23 @@ fn remedy(alloc: Global, octets: u64, cycle: u64) -> Result<String, AllocError> 
         (false, true) => format!(in alloc; "; it fits with a cycle of {longer} ns"),
         (false, false) => Ok(String::new(alloc)),
     }
+}
+
+/// Returns the same for a stream that isn't placed. Its traffic has to have room too.
+fn remedy_of(
+    given: &CommandInput<'_>,
+    placed: &Placed<'_>,
+    asked: &WrittenStream<'_>,
+    tree: &[TreeLink],
+) -> Result<String, AllocError> {
+    let promise = edge_promise(given, &placed.network, &asked.item)?.map(|edge| edge.reserved);
+    let fewer = placed.greatest_on(tree, asked.pace);
+    let longer = placed.least_cycle(tree, asked.pace, cost_of(asked.octets));
+    let are_good = (
+        are_enough(promise, fewer, placed.network.cycle),
+        are_enough(promise, asked.octets, longer),
+    );
+    remedy(given.alloc, fewer, longer, are_good)
 }
 
 /// Reports a stream for which a link has too little left.
@@ -211,20 +246,20 @@ fn tell_short(
     tree: &[TreeLink],
     short: Short,
 ) -> Result<(), AllocError> {
-    let Some(link) = placed.network.links.get(short.link) else {
+    let Some(link) = placed.network.links.get(short.link.place) else {
         return Ok(());
     };
     let cost = cost_of(asked.octets);
-    let remedy = remedy(
-        given.alloc,
-        placed.greatest_on(tree, asked.pace),
-        placed.least_cycle(tree, asked.pace, cost),
-    )?;
+    let remedy = remedy_of(given, placed, asked, tree)?;
     let (place, label) = (
         asked.item.place_of("octets"),
         asked.item.counted(given.alloc)?,
     );
-    let (from, to) = (link.from, link.to);
+    let (from, to) = if short.link.is_back {
+        (link.to, link.from)
+    } else {
+        (link.from, link.to)
+    };
     let (cost, left, budget) = (Grouped(cost), Grouped(short.left), Grouped(short.budget));
     told.tell(format!(in given.alloc;
         "{place}: {label} needs {cost} octets a cycle on {from}>{to}, {left} are left of {budget}{remedy}"
@@ -318,7 +353,7 @@ fn tell_refused_by(
     let network = given.network()?;
     let mut held = Vec::new(given.alloc);
     for _ in &network.links {
-        for _ in 0..MOST_EVERY {
+        for _ in 0..2 * MOST_EVERY {
             held.push(0)?;
         }
     }

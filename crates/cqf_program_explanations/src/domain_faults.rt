@@ -1,11 +1,10 @@
 //! Domains that no network can have.
 
 use crate::given::CommandInput;
-use crate::hints::{is_open, plan_hint};
 use crate::network::{Network, WrittenLink};
 use crate::places::{Grouped, Place};
 use crate::plant::{FoundKey, KeyOwner, WrittenItem};
-use crate::sketch::{candidates_of, is_duplex, is_of_plant, reads_sketch, talker_of};
+use crate::sketch::{candidates_of, is_duplex, is_of_plant, talker_of};
 use crate::told::ToldLines;
 use crate::words::shortened;
 use cqf_model::{LARGE, Limits};
@@ -60,22 +59,7 @@ pub(crate) fn tell_name_taken(
     tell_taken(given, told, &mut firsts, "stations", stations.as_slice())
 }
 
-/// Returns why a name isn't a bridge at which a link begins.
-fn no_beginning(alloc: Global, network: &Network<'_>, name: &str) -> Result<String, AllocError> {
-    let shown = shortened(alloc, name)?;
-    if network.is_node(name) {
-        return format!(in alloc; "{shown} is a station: a link begins at a bridge");
-    }
-    let question = network.bridge_question(alloc, name)?;
-    format!(in alloc; "no bridge {shown}{question}")
-}
-
-/// Returns whether a link may begin at a node: at a bridge, and in a network file at a station too, from which it then leads to a bridge.
-fn may_begin(given: &CommandInput<'_>, network: &Network<'_>, link: &WrittenLink<'_>) -> bool {
-    network.is_bridge(link.from) || reads_sketch(given) && network.is_node(link.from)
-}
-
-/// Reports a talker's link that doesn't lead to a bridge.
+/// Reports an access link that doesn't lead to a bridge.
 fn tell_talkers_end(
     given: &CommandInput<'_>,
     told: &mut ToldLines,
@@ -95,25 +79,24 @@ fn tell_talkers_end(
     )?)
 }
 
-/// Reports a link that begins where none may begin.
+/// Reports a link that begins at what isn't a node.
 fn tell_beginning(
     given: &CommandInput<'_>,
     told: &mut ToldLines,
     network: &Network<'_>,
     link: &WrittenLink<'_>,
 ) -> Result<(), AllocError> {
-    if may_begin(given, network, link) || told.is_counted() {
+    if network.is_node(link.from) || told.is_counted() {
         return Ok(());
     }
-    let (alloc, label) = (given.alloc, link.item.label(given.alloc)?);
-    let place = link.item.place_of("from");
-    let why = no_beginning(alloc, network, link.from)?;
-    let hint = if network.is_node(link.from) && is_open(given)? {
-        plan_hint(given)?
-    } else {
-        String::new(alloc)
-    };
-    told.tell(format!(in alloc; "{place}: {label}: from: {why}{hint}")?)
+    let (place, label) = (link.item.place_of("from"), link.item.label(given.alloc)?);
+    let (shown, question) = (
+        shortened(given.alloc, link.from)?,
+        network.node_question(given.alloc, link.from)?,
+    );
+    told.tell(format!(in given.alloc;
+        "{place}: {label}: from: no bridge or station {shown}{question}"
+    )?)
 }
 
 /// Reports a link that ends at what isn't a node.
@@ -148,11 +131,7 @@ fn tell_ends(
         return tell_no_end(given, told, network, link);
     }
     if link.from != link.to {
-        return if reads_sketch(given) {
-            tell_talkers_end(given, told, network, link)
-        } else {
-            Ok(())
-        };
+        return tell_talkers_end(given, told, network, link);
     }
     if told.is_counted() {
         return Ok(());
@@ -178,7 +157,7 @@ pub(crate) fn tell_unknown_names(
 /// Returns the name of a link that may be two: its number and its ends, in both directions.
 fn both_ways(given: &CommandInput<'_>, link: &WrittenLink<'_>) -> Result<String, AllocError> {
     let label = link.item.label(given.alloc)?;
-    if !reads_sketch(given) || !is_duplex(link) {
+    if !is_duplex(link) {
         return Ok(label);
     }
     let (from, to) = (
@@ -201,7 +180,7 @@ fn tell_twice(
     }
     let (place, label) = (link.item.place(), both_ways(given, link)?);
     let (number, first_place) = (first.item.number, first.item.place());
-    if !reads_sketch(given) || !is_duplex(link) && !is_duplex(first) {
+    if !is_duplex(link) && !is_duplex(first) {
         return told.tell(format!(in given.alloc;
             "{place}: {label}: link {number} at {first_place} already has these ends"
         )?);
@@ -240,36 +219,31 @@ pub(crate) fn tell_links_twice(
     let mut firsts: BTreeMap<(&str, &str), WrittenLink<'_>> = BTreeMap::new(given.alloc);
     for link in &network.links {
         tell_if_twice(given, told, &mut firsts, link, (link.from, link.to))?;
-        if reads_sketch(given) && is_duplex(link) {
+        if is_duplex(link) {
             tell_if_twice(given, told, &mut firsts, link, (link.to, link.from))?;
         }
     }
     Ok(())
 }
 
-/// Reports each station that gets a second talker's link.
-pub(crate) fn tell_two_talkers(
+/// Reports each link that has `other` and leaves no station.
+pub(crate) fn tell_misplaced_others(
     given: &CommandInput<'_>,
     told: &mut ToldLines,
 ) -> Result<(), AllocError> {
     let network = given.network()?;
-    let mut firsts: BTreeMap<&str, WrittenItem<'_>> = BTreeMap::new(given.alloc);
     for link in &network.links {
-        let Some(station) = talker_of(&network, link) else {
+        if link.item.get("other").is_none() || talker_of(&network, link).is_some() {
             continue;
-        };
-        if let Some(first) = firsts.get(station) {
-            if told.is_counted() {
-                continue;
-            }
-            let (place, label) = (link.item.place(), link.item.label(given.alloc)?);
-            let (number, first) = (first.number, first.place());
-            told.tell(format!(in given.alloc;
-                "{place}: {label}: {station} already has link {number} at {first}: a station sends by one link"
-            )?)?;
-        } else {
-            firsts.insert(station, link.item)?;
         }
+        if told.is_counted() {
+            continue;
+        }
+        let (place, label) = (link.item.place_of("other"), link.item.label(given.alloc)?);
+        let other = Grouped(link.item.number("other"));
+        told.tell(format!(in given.alloc;
+            "{place}: {label}: other = {other}: only a link from a station has it"
+        )?)?;
     }
     Ok(())
 }
@@ -283,9 +257,9 @@ fn greatest_cycle(given: &CommandInput<'_>) -> Result<u64, AllocError> {
     Ok(most)
 }
 
-/// Returns whether delays and gaps are checked for a link: in a network file a talker's link isn't one of the domain's.
-fn is_checked(given: &CommandInput<'_>, network: &Network<'_>, link: &WrittenLink<'_>) -> bool {
-    !reads_sketch(given) || is_of_plant(network, link)
+/// Returns whether delays and gaps are checked for a link: an access link isn't one of the domain's.
+fn is_checked(network: &Network<'_>, link: &WrittenLink<'_>) -> bool {
+    is_of_plant(network, link)
 }
 
 /// Reports a guard band that isn't shorter than a cycle time.
@@ -326,7 +300,7 @@ pub(crate) fn tell_link_guards_at(
     let network = given.network()?;
     for link in &network.links {
         let is_own = link.item.get("guard").is_some();
-        let is_long = is_own && link.guard >= cycle && is_checked(given, &network, link);
+        let is_long = is_own && link.guard >= cycle && is_checked(&network, link);
         if is_long && !told.is_counted() {
             let (place, label) = (link.item.place_of("guard"), link.item.label(given.alloc)?);
             let (guard, cycle) = (Grouped(link.guard), Grouped(cycle));
@@ -360,7 +334,7 @@ pub(crate) fn tell_delays(
     let network = given.network()?;
     for link in &network.links {
         let together = link.delay.saturating_add(network.sync);
-        let is_long = together >= link.guard && is_checked(given, &network, link);
+        let is_long = together >= link.guard && is_checked(&network, link);
         if is_long && !told.is_counted() {
             let (place, label) = (link.item.place_of("delay"), link.item.label(given.alloc)?);
             let why = delay_words(given.alloc, link.delay, network.sync, link.guard)?;
@@ -375,7 +349,7 @@ pub(crate) fn tell_gaps(given: &CommandInput<'_>, told: &mut ToldLines) -> Resul
     let network = given.network()?;
     for link in &network.links {
         let gap = link.time_of(GAP_OCTETS);
-        let is_long = gap > link.guard && is_checked(given, &network, link);
+        let is_long = gap > link.guard && is_checked(&network, link);
         if is_long && !told.is_counted() {
             let (place, label) = (link.item.place_of("rate"), link.item.label(given.alloc)?);
             let (rate, gap, guard) = (link.rate, Grouped(gap), Grouped(link.guard));
@@ -393,7 +367,7 @@ pub(crate) fn tell_syncs(given: &CommandInput<'_>, told: &mut ToldLines) -> Resu
     for link in &network.links {
         let shortest = link.time_of(SHORTEST_OCTETS);
         let most = shortest.saturating_add(link.least);
-        let is_long = network.sync > most && is_checked(given, &network, link);
+        let is_long = network.sync > most && is_checked(&network, link);
         if is_long && !told.is_counted() {
             let (place, label) = (link.item.place_of("delay"), link.item.label(given.alloc)?);
             let (shortest, least) = (Grouped(shortest), Grouped(link.least));
@@ -404,6 +378,12 @@ pub(crate) fn tell_syncs(given: &CommandInput<'_>, told: &mut ToldLines) -> Resu
         }
     }
     Ok(())
+}
+
+/// Returns the most access links that some limits allow: four for each station.
+fn access_links_within(limits: Limits) -> u64 {
+    let stations = limits.stations_within() as u64;
+    stations.saturating_mul(4)
 }
 
 /// Returns how many links the domain of a network file has.
@@ -420,14 +400,10 @@ fn count_of_plant(given: &CommandInput<'_>) -> Result<u64, AllocError> {
 
 /// Returns how many elements the arrays at a key of the top level have together.
 fn count_of(given: &CommandInput<'_>, key: &str) -> Result<u64, AllocError> {
-    if key == "links" && reads_sketch(given) {
+    if key == "links" {
         return count_of_plant(given);
     }
-    let count = if key == "links" {
-        given.plant.items(KeyOwner::Link)?.len()
-    } else {
-        given.plant.names(key)?.len()
-    };
+    let count = given.plant.names(key)?.len();
     Ok(count as u64)
 }
 
@@ -437,6 +413,34 @@ fn most_of(limits: Limits, key: &str) -> usize {
         "bridges" => limits.bridges_within(),
         "stations" => limits.stations_within(),
         _ => limits.links_within(),
+    }
+}
+
+/// Returns how many access links a network has.
+fn count_of_access(network: &Network<'_>) -> u64 {
+    let mut count: u64 = 0;
+    for link in &network.links {
+        count = count.saturating_add(u64::from(talker_of(network, link).is_some()));
+    }
+    count
+}
+
+/// Reports too many access links.
+fn tell_many_access_links(
+    given: &CommandInput<'_>,
+    told: &mut ToldLines,
+) -> Result<(), AllocError> {
+    let count = count_of_access(&given.network()?);
+    let most = access_links_within(given.limits);
+    match given.plant.top("links") {
+        Some(found) if count > most => {
+            let (place, count, most) = (found.place, Grouped(count), Grouped(most));
+            let larger = given.larger(access_links_within(LARGE))?;
+            told.tell(format!(in given.alloc;
+                "{place}: {count} access links: a network has at most {most}{larger}"
+            )?)
+        }
+        _ => Ok(()),
     }
 }
 
@@ -457,5 +461,5 @@ pub(crate) fn tell_too_many(
             }
         }
     }
-    Ok(())
+    tell_many_access_links(given, told)
 }

@@ -3,13 +3,15 @@ ghost use Rattle.std.specs.Prelude.{IfOk};
 ghost use Rattle.cqf_program_explanations.specs.Explanations.{IsExplanation};
 
 use crate::budgets::{TriedStreams, tell_refused};
+use crate::command_faults::{tell_hops, tell_unknown_bridge};
 use crate::domain_faults::{
-    tell_delays, tell_gaps, tell_guard, tell_link_guards, tell_links_twice, tell_name_taken,
-    tell_syncs, tell_too_many, tell_two_talkers, tell_unknown_names,
+    tell_delays, tell_gaps, tell_guard, tell_link_guards, tell_links_twice, tell_misplaced_others,
+    tell_name_taken, tell_syncs, tell_too_many, tell_unknown_names,
 };
 use crate::given::{CommandInput, given_of};
+use crate::network_faults::tell_network;
 use crate::part_faults::tell_parts;
-use crate::plan_faults::tell_plan;
+use crate::plan_faults::{tell_below_traffic, tell_plan};
 use crate::plant_faults::{tell_key_twice, tell_long_lines, tell_unknown_keys};
 use crate::refusal::{Refusal, refusal_of};
 use crate::script_faults::{
@@ -43,7 +45,7 @@ fn tell_text(
         "UnknownName" => tell_unknown_names(given, told),
         "LinkTwice" => tell_links_twice(given, told),
         "GateTwice" => tell_gates_twice(given, told),
-        "TwoTalkerLinks" => tell_two_talkers(given, told),
+        "NoAccessLink" => tell_misplaced_others(given, told),
         "GuardTooLong" => tell_guard(given, told),
         "LinkGuardTooLong" => tell_link_guards(given, told),
         "DelayTooLong" => tell_delays(given, told),
@@ -63,7 +65,6 @@ fn tell_plant(
     match refusal.fault {
         "UnknownKey" => tell_unknown_keys(given, told),
         "KeyTwice" => tell_key_twice(given, told, refusal.value),
-        "StreamsTwice" => tell_key_twice(given, told, "streams"),
         "LineTooLong" => tell_long_lines(given, told),
         _ => Ok(()),
     }
@@ -90,6 +91,7 @@ fn tell_stream(
     refusal: Refusal<'_>,
 ) -> Result<(), AllocError> {
     match refusal.fault {
+        "BelowTraffic" => tell_below_traffic(given, told, refusal),
         "NameHeld" => tell_refused(given, told, TriedStreams::NameHeld),
         "TooManyStreams" => tell_refused(given, told, TriedStreams::TooManyStreams),
         "BudgetShort" => tell_refused(given, told, TriedStreams::BudgetShort),
@@ -128,8 +130,11 @@ fn tell_refusal(
         "domain" | "streams" => tell_text(given, told, refusal),
         "plant" => tell_plant(given, told, refusal),
         "plan" => tell_plan(given, told, refusal),
+        "network" => tell_network(given, told, refusal),
         "script" => tell_script(given, told, refusal),
         "check" => tell_check(given, told, refusal),
+        "compile" => tell_unknown_bridge(given, told, refusal.value),
+        "hops" => tell_hops(given, told, refusal),
         "parts" => tell_parts(given, told),
         part if part.starts_with("stream ") => tell_stream(given, told, refusal),
         part => match InputTable::of(part) {

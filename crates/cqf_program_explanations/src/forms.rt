@@ -8,6 +8,9 @@ use cqf_units::Name;
 use std::alloc::{AllocError, Global};
 use toml::Value;
 
+/// The form of a stream's talker, in words.
+const TALKER_FORM: &str = "from is a name, or a station's and a bridge's with @ between";
+
 /// The form of a name, in words.
 pub(crate) const NAME_FORM: &str = "a name is 1 to 32 of a to z, 0 to 9, - and _";
 
@@ -54,6 +57,8 @@ pub(crate) enum Form {
     /// A delay, or the least and the greatest.
     Delay,
     Name,
+    /// A name, or two with `@` between.
+    Talker,
     Text,
     /// A name, or an array of 1 to 64 different names.
     Ends,
@@ -119,6 +124,10 @@ fn form_of_link(key: &str) -> Option<(Form, &'static str)> {
         "delay" => Some((Form::Delay, "a delay is a whole number, 0 to 10,000,000 ns")),
         "guard" => form_of_top(key),
         "duplex" => Some((Form::Boolean, "duplex is true or false")),
+        "other" => Some((
+            Form::Number(64, 1522),
+            "a frame has a whole number of octets, 64 to 1,522",
+        )),
         "interface" | "far-interface" => Some((Form::Interface, INTERFACE_FORM)),
         _ => None,
     }
@@ -141,10 +150,14 @@ fn form_of_stream(key: &str) -> Option<(Form, &'static str)> {
             Form::Number(1, 4_294_967_295),
             "a deadline is a whole number, 1 to 4,294,967,295 ns",
         )),
-        "from" => Some((Form::Name, NAME_FORM)),
+        "from" => Some((Form::Talker, TALKER_FORM)),
         "to" => Some((
             Form::Ends,
             "to is a name, or an array of 1 to 64 names, all different",
+        )),
+        "least-size" => Some((
+            Form::Number(64, 1522),
+            "least-size is a whole number of octets, 64 to the stream's size",
         )),
         "mac" => Some((Form::Mac, MAC_FORM)),
         "vlan" => Some((
@@ -202,6 +215,19 @@ pub(crate) fn is_name(value: &Value) -> bool {
     match value.as_str() {
         Some(text) => Name::new(text.as_bytes()).is_some(),
         None => false,
+    }
+}
+
+/// Returns whether the value is a name, or two with `@` between.
+fn is_talker(value: &Value) -> bool {
+    let Some(text) = value.as_str() else {
+        return false;
+    };
+    match text.split_once('@') {
+        Some((node, bridge)) => {
+            Name::new(node.as_bytes()).is_some() && Name::new(bridge.as_bytes()).is_some()
+        }
+        None => Name::new(text.as_bytes()).is_some(),
     }
 }
 
@@ -357,6 +383,7 @@ pub(crate) fn fits(form: Form, value: &Value) -> bool {
         ),
         Form::Delay => is_delay(value) || are_delays(value),
         Form::Name => is_name(value),
+        Form::Talker => is_talker(value),
         Form::Text => value.is_str(),
         Form::Ends => is_name(value) || are_ends(value),
         Form::Path => are_texts(value),

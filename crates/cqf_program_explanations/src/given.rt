@@ -5,7 +5,6 @@ use crate::hints::larger_words;
 use crate::network::{Network, network_of, smallest_network};
 use crate::parts::{Input, input_of};
 use crate::plant::Plant;
-use crate::sketch::reads_sketch;
 use cqf_model::Limits;
 use std::alloc::{AllocError, Global};
 
@@ -69,6 +68,6 @@ impl CommandInput<'_> {
         if self.command == "line" {
             return smallest_network(self.alloc, self.limits);
         }
-        network_of(self.alloc, &self.plant, self.limits, reads_sketch(self))
+        network_of(self.alloc, &self.plant, self.limits)
     }
 }

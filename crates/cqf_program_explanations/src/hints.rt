@@ -4,7 +4,7 @@ use crate::given::CommandInput;
 use crate::parts::takes_domain;
 use crate::places::Grouped;
 use crate::plant::{KeyOwner, WrittenItem};
-use crate::sketch::reads_sketch;
+use crate::sketch::is_planning;
 use cqf_model::PROFILE;
 use std::alloc::AllocError;
 
@@ -48,7 +48,7 @@ pub(crate) fn is_open(given: &CommandInput<'_>) -> Result<bool, AllocError> {
 
 /// Returns the words about an open part, which only `plan` reads; empty for that command.
 pub(crate) fn plan_hint(given: &CommandInput<'_>) -> Result<String, AllocError> {
-    if reads_sketch(given) {
+    if is_planning(given) {
         return Ok(String::new(given.alloc));
     }
     let files = plant_files(given)?;

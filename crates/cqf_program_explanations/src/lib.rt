@@ -13,7 +13,9 @@
 //! is found anew in the texts by plain code, and the lines of keys by a scan of its own. No result of a command depends on it.
 #![tactic(auto)]
 
+mod access;
 mod budgets;
+mod command_faults;
 mod domain_faults;
 mod explaining;
 mod forms;
@@ -22,6 +24,7 @@ mod hints;
 mod lexer;
 mod lines;
 mod network;
+mod network_faults;
 mod noting;
 mod outline;
 mod part_faults;

@@ -1,7 +1,7 @@
 //! The network of a plan: its nodes and links by name.
 
 use crate::plant::{FoundKey, KeyOwner, Plant, WrittenItem, number_of};
-use crate::sketch::{is_duplex, talker_of};
+use crate::sketch::is_duplex;
 use crate::words::question;
 use cqf_model::Limits;
 use std::alloc::{AllocError, Global};
@@ -23,6 +23,13 @@ pub(crate) struct WrittenLink<'p> {
     pub guard: u64,
 }
 
+/// A direction of a link as it is written: the link's index, and whether it is the way back of a duplex link.
+#[derive(Clone, Copy, Debug, PartialEq, Eq)]
+pub(crate) struct LinkWay {
+    pub place: usize,
+    pub is_back: bool,
+}
+
 /// Indexes by the name of a node and that of another.
 type EndsMap<'p> = BTreeMap<&'p str, BTreeMap<&'p str, usize>>;
 
@@ -36,18 +43,14 @@ pub(crate) struct Network<'p> {
     are_bridges: BTreeMap<&'p str, bool>,
     /// The index of the first link between two nodes, as it is written.
     ends: EndsMap<'p>,
-    /// In a network file, the same for the opposite direction of a link that is two.
+    /// The same for the way back of a duplex link.
     back: EndsMap<'p>,
-    /// In a network file, the index of the first talker's link of a station.
-    talkers: BTreeMap<&'p str, usize>,
     /// In ns.
     pub cycle: u64,
     pub guard: u64,
     /// How far any two clocks may differ.
     pub sync: u64,
     pub limits: Limits,
-    /// Whether it is a network file's, in which a link may be two, one in each direction.
-    pub is_sketch: bool,
 }
 
 /// Appends the texts of an array to others.
@@ -91,12 +94,11 @@ fn link_of<'p>(item: &WrittenItem<'p>, guard: u64) -> WrittenLink<'p> {
     }
 }
 
-/// Returns the network of a plan, or of a network file.
+/// Returns the network that files have.
 pub(crate) fn network_of<'p>(
     alloc: Global,
     plant: &'p Plant<'_>,
     limits: Limits,
-    is_sketch: bool,
 ) -> Result<Network<'p>, AllocError> {
     let (bridge_names, station_names) = (plant.names("bridges")?, plant.names("stations")?);
     let (mut bridges, mut nodes) = (Vec::new(alloc), Vec::new(alloc));
@@ -109,7 +111,6 @@ pub(crate) fn network_of<'p>(
     let guard = plant.number("guard");
     network.guard = guard;
     network.sync = plant.number("sync");
-    network.is_sketch = is_sketch;
     for item in &items {
         network.put_link(alloc, link_of(item, guard))?;
     }
@@ -136,12 +137,10 @@ fn nodes_alone<'p>(
         are_bridges,
         ends: BTreeMap::new(alloc),
         back: BTreeMap::new(alloc),
-        talkers: BTreeMap::new(alloc),
         cycle: 0,
         guard: 0,
         sync: 0,
         limits,
-        is_sketch: false,
     })
 }
 
@@ -211,15 +210,8 @@ impl<'p> Network<'p> {
     fn put_link(&mut self, alloc: Global, link: WrittenLink<'p>) -> Result<(), AllocError> {
         let place = self.links.len();
         put_first(alloc, &mut self.ends, link.from, link.to, place)?;
-        if self.is_sketch {
-            if is_duplex(&link) {
-                put_first(alloc, &mut self.back, link.to, link.from, place)?;
-            }
-            if let Some(station) = talker_of(&*self, &link) {
-                if !self.talkers.contains_key(station) {
-                    self.talkers.insert(station, place)?;
-                }
-            }
+        if is_duplex(&link) {
+            put_first(alloc, &mut self.back, link.to, link.from, place)?;
         }
         self.links.push(link)?;
         Ok(())
@@ -230,14 +222,8 @@ impl<'p> Network<'p> {
         self.are_bridges.get(name).copied().unwrap_or(false)
     }
 
-    /// Returns the link on which a station's talker sends, in a network file.
-    pub(crate) fn talkers_link(&self, station: &str) -> Option<&WrittenLink<'p>> {
-        let place = self.talkers.get(station)?;
-        self.links.get(*place)
-    }
-
-    /// Returns the bridge at which a talker's link ends; the link is a talker's, or one of its directions is.
-    pub(crate) fn edge_of(&self, link: &WrittenLink<'p>) -> &'p str {
+    /// Returns the bridge at which an access link ends; the link is one, or one of its directions is.
+    pub(crate) fn edge_of<'l>(&self, link: &WrittenLink<'l>) -> &'l str {
         if self.is_bridge(link.from) {
             link.from
         } else {
@@ -250,15 +236,26 @@ impl<'p> Network<'p> {
         self.are_bridges.contains_key(name)
     }
 
-    /// Returns the index of the link between two nodes.
-    pub(crate) fn link_between(&self, from: &str, to: &str) -> Option<usize> {
-        place_at(&self.ends, from, to)
+    /// Returns the link of the domain that leads from one node to another.
+    pub(crate) fn way_between(&self, from: &str, to: &str) -> Option<LinkWay> {
+        if !self.is_bridge(from) {
+            return None;
+        }
+        match place_at(&self.ends, from, to) {
+            Some(place) => Some(LinkWay {
+                place,
+                is_back: false,
+            }),
+            None => Some(LinkWay {
+                place: place_at(&self.back, from, to)?,
+                is_back: true,
+            }),
+        }
     }
 
-    /// Returns whether a link of the plan leads from one node to another.
+    /// Returns whether a link of the domain leads from one node to another.
     pub(crate) fn leads(&self, from: &str, to: &str) -> bool {
-        self.is_bridge(from)
-            && (self.link_between(from, to).is_some() || place_at(&self.back, from, to).is_some())
+        self.way_between(from, to).is_some()
     }
 
     /// Returns the question whether a bridge was meant.

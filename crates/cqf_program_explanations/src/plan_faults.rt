@@ -1,12 +1,18 @@
 //! Streams of a network file that aren't placed, or may be late.
 
+use crate::access::edge_promise;
 use crate::domain_faults::{tell_guard_at, tell_link_guards_at};
 use crate::given::CommandInput;
 use crate::network::Network;
+use crate::network_faults::{
+    access_link_of, ends_of_talker, is_talker, links_words, tell_entering,
+};
 use crate::places::Grouped;
 use crate::plant::{KeyOwner, WrittenItem};
 use crate::refusal::Refusal;
-use crate::sketch::{candidates_of, is_in_step, listeners_of, longest_frame, time_on};
+use crate::sketch::{
+    candidates_of, is_in_step, listeners_of, longest_frame, nanos_question, time_on,
+};
 use crate::stream_faults::{FormFault, form_fault_of, tell_form_faults};
 use crate::told::ToldLines;
 use crate::words::{question, shortened};
@@ -61,28 +67,45 @@ fn number_in(text: Option<&str>) -> u64 {
 }
 
 /// Returns why a stream's `from` names no talker.
-fn no_talker(alloc: Global, network: &Network<'_>, name: &str) -> Result<String, AllocError> {
+fn no_talker(alloc: Global, network: &Network<'_>, talker: &str) -> Result<String, AllocError> {
+    let (name, bridge) = ends_of_talker(talker);
     let shown = shortened(alloc, name)?;
+    if let Some(bridge) = bridge {
+        if network.is_bridge(name) {
+            return format!(in alloc; "{shown} is a bridge: name it alone");
+        }
+        if access_link_of(network, name).is_some() {
+            let (bridge, words) = (
+                shortened(alloc, bridge)?,
+                links_words(alloc, network, name)?,
+            );
+            return format!(in alloc; "no access link leads from {shown} to {bridge}{words}");
+        }
+    }
     if network.is_node(name) {
-        return format!(in alloc; "the station {shown} has no link to a bridge");
+        return format!(in alloc;
+            "the station {shown} has no access link: add a link from it to a bridge"
+        );
     }
     let question = network.node_question(alloc, name)?;
     format!(in alloc; "no bridge or station {shown}{question}")
 }
 
 /// Reports each stream whose `from` names no talker.
-fn tell_no_talkers(given: &CommandInput<'_>, told: &mut ToldLines) -> Result<(), AllocError> {
+pub(crate) fn tell_no_talkers(
+    given: &CommandInput<'_>,
+    told: &mut ToldLines,
+) -> Result<(), AllocError> {
     let network = given.network()?;
     for item in &given.plant.items(KeyOwner::Stream)? {
-        let Some(name) = item.text("from") else {
+        let Some(talker) = item.text("from") else {
             continue;
         };
-        let is_there = network.is_bridge(name) || network.talkers_link(name).is_some();
-        if is_there || told.is_counted() {
+        if is_talker(&network, talker) || told.is_counted() {
             continue;
         }
         let (place, label) = (item.place_of("from"), item.label(given.alloc)?);
-        let why = no_talker(given.alloc, &network, name)?;
+        let why = no_talker(given.alloc, &network, talker)?;
         told.tell(format!(in given.alloc; "{place}: {label}: from: {why}")?)?;
     }
     Ok(())
@@ -155,16 +178,21 @@ fn tell_too_soon(
 ) -> Result<(), AllocError> {
     let network = given.network()?;
     let (place, label) = (item.place_of("deadline"), item.label(given.alloc)?);
-    let Some(link) = network.talkers_link(item.text("from").unwrap_or("")) else {
+    let talker = item.text("from").unwrap_or("");
+    let Some(link) = access_link_of(&network, talker) else {
         return Ok(());
     };
-    let (from, to) = (item.text("from").unwrap_or(""), network.edge_of(link));
-    let (taken, deadline) = (
-        Grouped(time_on(link, longest_frame(item))),
-        Grouped(item.number("deadline")),
-    );
+    let (from, to) = (ends_of_talker(talker).0, network.edge_of(link));
+    let (taken, deadline) = (time_on(link, longest_frame(item)), item.number("deadline"));
+    let waits = if taken < deadline {
+        " beside what it waits for there"
+    } else {
+        ""
+    };
+    let (taken, deadline) = (Grouped(taken), Grouped(deadline));
+    let question = nanos_question(given.alloc, item, "deadline")?;
     told.tell(format!(in given.alloc;
-        "{place}: {label}: a frame takes {taken} ns on the talker's link {from}>{to}, and its deadline is {deadline} ns"
+        "{place}: {label}: a frame takes {taken} ns on the access link {from}>{to}{waits}, and its deadline is {deadline} ns{question}"
     )?)
 }
 
@@ -177,16 +205,38 @@ fn tell_needs(
 ) -> Result<(), AllocError> {
     let label = item.label(given.alloc)?;
     let needed = Grouped(number_in(Some(unplaced.value)));
+    let question = nanos_question(given.alloc, item, "interval")?;
     if unplaced.fault == "TooLittle" {
         let (place, octets) = (item.place_of("octets"), Grouped(item.number("octets")));
         return told.tell(format!(in given.alloc;
-            "{place}: {label} reserves {octets} octets a cycle, and its traffic needs {needed}"
+            "{place}: {label} reserves {octets} octets a cycle, and its traffic needs {needed}{question}"
         )?);
     }
     let place = item.place_of("interval");
     told.tell(format!(in given.alloc;
-        "{place}: {label}: its traffic needs {needed} octets a cycle, and a reservation is at most 1,000,000: a shorter cycle, or several streams"
+        "{place}: {label}: its traffic needs {needed} octets a cycle, and a reservation is at most 1,000,000: a shorter cycle, or several streams{question}"
     )?)
+}
+
+/// Reports the stream of a line `stream 3: BelowTraffic OCTETS NEEDED`, which reserves less than its traffic needs.
+pub(crate) fn tell_below_traffic(
+    given: &CommandInput<'_>,
+    told: &mut ToldLines,
+    refusal: Refusal<'_>,
+) -> Result<(), AllocError> {
+    let number = number_in(refusal.part.strip_prefix("stream "));
+    let (octets, needed) = refusal.value.split_once(' ').unwrap_or(("", ""));
+    let (octets, needed) = (number_in(Some(octets)), Grouped(number_in(Some(needed))));
+    for item in &given.plant.items(KeyOwner::Stream)? {
+        if item.number.saturating_add(1) == number {
+            let (place, label) = (item.place_of("octets"), item.counted(given.alloc)?);
+            let question = nanos_question(given.alloc, item, "interval")?;
+            return told.tell(format!(in given.alloc;
+                "{place}: {label}: octets = {octets}: its traffic needs {needed} octets a cycle at its edge bridge{question}"
+            )?);
+        }
+    }
+    Ok(())
 }
 
 /// Reports a stream for which a link has too little left, by the words of its line: `LISTENER COST LINK LEFT`.
@@ -202,8 +252,9 @@ fn tell_full(
     let link = words.next().unwrap_or("");
     let left = Grouped(number_in(words.next()));
     let (place, label) = (item.place_of("to"), item.label(given.alloc)?);
+    let question = nanos_question(given.alloc, item, "interval")?;
     told.tell(format!(in given.alloc;
-        "{place}: {label} needs {cost} octets a cycle on a path to {listener}; on the shortest one {link} has {left} left"
+        "{place}: {label} needs {cost} octets a cycle on a path to {listener}; on the shortest one {link} has {left} left{question}"
     )?)
 }
 
@@ -217,13 +268,14 @@ fn tell_short(
     let (link, left) = value.split_once(' ').unwrap_or((value, ""));
     let left = Grouped(number_in(Some(left)));
     let (place, label) = (item.place(), item.label(given.alloc)?);
+    let question = nanos_question(given.alloc, item, "interval")?;
     if is_in_step(item) {
         return told.tell(format!(in given.alloc;
-            "{place}: {label} has no phase in which each of its links has room; in the best phase {link} has {left} octets a cycle left"
+            "{place}: {label} has no phase in which each of its links has room; in the best phase {link} has {left} octets a cycle left{question}"
         )?);
     }
     told.tell(format!(in given.alloc;
-        "{place}: {label} needs more octets a cycle than {link} of its path has left, {left}"
+        "{place}: {label} needs more octets a cycle than {link} of its path has left, {left}{question}"
     )?)
 }
 
@@ -240,8 +292,9 @@ fn tell_late(
     let over = Grouped(most.saturating_sub(deadline));
     let (most, deadline) = (Grouped(most), Grouped(deadline));
     let (place, label) = (item.place_of("deadline"), item.label(given.alloc)?);
+    let question = nanos_question(given.alloc, item, "deadline")?;
     told.tell(format!(in given.alloc;
-        "{place}: {label}: a frame takes up to {most} ns from its edge bridge to {listener}, {over} ns more than the {deadline} ns that its deadline leaves"
+        "{place}: {label}: a frame takes up to {most} ns from its edge bridge to {listener}, {over} ns more than the {deadline} ns that its deadline leaves{question}"
     )?)
 }
 
@@ -297,7 +350,7 @@ fn cycle_tried(given: &CommandInput<'_>, refusal: Refusal<'_>) -> Result<u64, Al
 }
 
 /// Returns what in a stream's traffic prevents its talker from being in step on a cycle time, in ns: the key, and words; `None` if nothing
-/// does.
+/// does. Frames are seen where they enter the network.
 fn step_words(
     given: &CommandInput<'_>,
     item: &WrittenItem<'_>,
@@ -308,13 +361,15 @@ fn step_words(
         let words = String::from_str(alloc, "without traffic it can't be in step")?;
         return Ok(Some(("in-step", words)));
     }
-    let interval = item.number("interval");
-    if interval.checked_rem(cycle).unwrap_or(0) != 0 {
-        let words = uneven_words(alloc, interval, cycle)?;
+    if item.number("interval").checked_rem(cycle).unwrap_or(0) != 0 {
+        let words = uneven_words(alloc, item, cycle)?;
         return Ok(Some(("interval", words)));
     }
-    let first = item.number("offset").checked_rem(cycle).unwrap_or(0);
-    let latest = first.saturating_add(item.number("jitter"));
+    let Some(edge) = edge_promise(given, &given.network()?, item)? else {
+        return Ok(None);
+    };
+    let first = edge.in_step.offset.checked_rem(cycle).unwrap_or(0);
+    let latest = first.saturating_add(edge.in_step.jitter);
     if first < sync {
         let words = first_words(alloc, first, sync)?;
         return Ok(Some(("offset", words)));
@@ -342,10 +397,13 @@ fn tell_out_of_step(
     }
 }
 
-/// Returns the words about an interval that isn't a whole number of cycles, in ns.
-fn uneven_words(alloc: Global, interval: u64, cycle: u64) -> Result<String, AllocError> {
-    let (interval, cycle) = (Grouped(interval), Grouped(cycle));
-    format!(in alloc; "an interval of {interval} ns isn't a multiple of the cycle time, {cycle} ns")
+/// Returns the words about a stream's interval that isn't a whole number of cycles, in ns.
+fn uneven_words(alloc: Global, item: &WrittenItem<'_>, cycle: u64) -> Result<String, AllocError> {
+    let question = nanos_question(alloc, item, "interval")?;
+    let (interval, cycle) = (Grouped(item.number("interval")), Grouped(cycle));
+    format!(in alloc;
+        "an interval of {interval} ns isn't a multiple of the cycle time, {cycle} ns{question}"
+    )
 }
 
 /// Returns the words about frames that may arrive so soon after a cycle's beginning that clocks differ by more, in ns.
@@ -422,6 +480,9 @@ pub(crate) fn tell_plan(
     };
     match unplaced.fault {
         "NoTalker" => return tell_no_talkers(given, told),
+        "TwoAccessLinks" | "OtherEdge" | "OtherListeners" => {
+            return tell_entering(given, told, unplaced.stream, unplaced.fault);
+        }
         "NoListener" => return tell_no_listeners(given, told),
         "NameHeld" => return tell_names_twice(given, told),
         "TooManyHops" => return tell_many_hops(given, told, unplaced.stream),

@@ -190,14 +190,6 @@ pub(crate) fn tell_unknown_keys(
     Ok(())
 }
 
-/// Returns where the streams of a file begin.
-fn first_streams<'a>(file: &PlantFile<'a>) -> Place<'a> {
-    match file.outline.streams.first() {
-        Some(element) => file.at(Some(element.line)),
-        None => file.place_of("streams"),
-    }
-}
-
 /// Reports each file that has a key of the top level which an earlier file has.
 pub(crate) fn tell_key_twice(
     given: &CommandInput<'_>,
@@ -209,11 +201,7 @@ pub(crate) fn tell_key_twice(
         if file.get(key).is_none() {
             continue;
         }
-        let place = if key == "streams" {
-            first_streams(file)
-        } else {
-            file.place_of(key)
-        };
+        let place = file.place_of(key);
         match first {
             Some(first) => {
                 told.tell(format!(in given.alloc; "{place}: {key} is already at {first}")?)?;

@@ -284,7 +284,7 @@ fn admitted<'a>(line: &ScriptLine<'a>) -> Option<&'a str> {
 }
 
 /// Returns the names of the plan's streams.
-fn names_of<'p>(given: &'p CommandInput<'_>) -> Result<Vec<&'p str>, AllocError> {
+pub(crate) fn names_of<'p>(given: &'p CommandInput<'_>) -> Result<Vec<&'p str>, AllocError> {
     let mut names = Vec::new(given.alloc);
     for item in &given.plant.items(KeyOwner::Stream)? {
         if let Some(name) = item.text("name") {

@@ -12,8 +12,8 @@ const LONGEST_FRAME: u64 = 1522;
 /// The octets of preamble and start delimiter (IEEE 802.3).
 const PREAMBLE: u64 = 8;
 
-/// Returns whether the command reads a network file.
-pub(crate) fn reads_sketch(given: &CommandInput<'_>) -> bool {
+/// Returns whether the command plans, and so takes a network with open parts.
+pub(crate) fn is_planning(given: &CommandInput<'_>) -> bool {
     given.command == "plan"
 }
 
@@ -52,7 +52,7 @@ pub(crate) fn is_of_plant(network: &Network<'_>, link: &WrittenLink<'_>) -> bool
     network.is_bridge(link.from) || is_duplex(link) && network.is_bridge(link.to)
 }
 
-/// Returns the station that a talker's link leaves; the link is a talker's, or one of its directions is.
+/// Returns the station that an access link leaves; the link is one, or one of its directions is.
 pub(crate) fn talker_of<'p>(network: &Network<'_>, link: &WrittenLink<'p>) -> Option<&'p str> {
     if !network.is_bridge(link.from) {
         Some(link.from)
@@ -61,6 +61,35 @@ pub(crate) fn talker_of<'p>(network: &Network<'_>, link: &WrittenLink<'p>) -> Op
     } else {
         None
     }
+}
+
+/// The keys of a stream's traffic.
+const TRAFFIC: [&str; 5] = ["interval", "frames", "size", "jitter", "offset"];
+
+/// Returns whether a stream has traffic.
+pub(crate) fn has_traffic(item: &WrittenItem<'_>) -> bool {
+    for key in &TRAFFIC {
+        if item.get(*key).is_some() {
+            return true;
+        }
+    }
+    false
+}
+
+/// Below how many ns an interval or a deadline may be meant in microseconds: the shortest cycle time.
+const SHORTEST_CYCLE: u64 = 10_000;
+
+/// Returns the question whether the number at a key of a stream is in microseconds; empty if it isn't below the shortest cycle time.
+pub(crate) fn nanos_question(
+    alloc: Global,
+    item: &WrittenItem<'_>,
+    key: &str,
+) -> Result<String, AllocError> {
+    let number = item.number(key);
+    if number == 0 || number >= SHORTEST_CYCLE {
+        return Ok(String::new(alloc));
+    }
+    format!(in alloc; "; is {key} = {number} in microseconds?")
 }
 
 /// Returns whether a stream's talker is in step with the network.
@@ -80,7 +109,7 @@ pub(crate) fn longest_frame(item: &WrittenItem<'_>) -> u64 {
     }
 }
 
-/// Returns how long a talker's link takes until a frame is whole at the edge bridge, in ns.
+/// Returns how long an access link takes until a frame is whole at the edge bridge, in ns.
 pub(crate) fn time_on(link: &WrittenLink<'_>, octets: u64) -> u64 {
     let octets = octets.saturating_add(PREAMBLE);
     link.time_of(octets).saturating_add(link.delay)

@@ -248,9 +248,9 @@ fn wrong_field<'r>(
 
 /// Returns what is wrong with the ends of a link.
 fn wrong_link<'r>(network: &Network<'_>, from: &'r [u8], to: &'r [u8]) -> Option<Wrong<'r>> {
-    if network.link_between(name_of(from), name_of(to)).is_some() {
+    if network.leads(name_of(from), name_of(to)) {
         None
-    } else if !network.is_node(name_of(from)) {
+    } else if !network.is_bridge(name_of(from)) {
         Some(Wrong::Bridge(from))
     } else if !network.is_node(name_of(to)) {
         Some(Wrong::Node(to))
@@ -281,7 +281,7 @@ fn wrong_row<'r>(
     }
 }
 
-/// Returns why a field doesn't name a bridge to which frames are offered, in words.
+/// Returns why a field doesn't name a bridge, in words.
 fn bridge_words(alloc: Global, network: &Network<'_>, field: &[u8]) -> Result<String, AllocError> {
     let name = shown(alloc, field)?;
     if network.is_node(name_of(field)) {
@@ -368,6 +368,23 @@ pub(crate) fn place_of_offer<'p>(
     };
     let records = records_of(given.alloc, *part)?;
     Ok(records.get(row as usize).map(|record| record.place))
+}
+
+/// Returns how many offers the input has in a table, with the table's place; `None` if it has no such table.
+pub(crate) fn count_of_offers<'p>(
+    given: &'p CommandInput<'_>,
+) -> Result<Option<(Place<'p>, u64)>, AllocError> {
+    let rest = given.input.rest.as_slice();
+    let place = InputTable::Offers.place(given.command, rest);
+    let Some(part) = rest.get(place) else {
+        return Ok(None);
+    };
+    let place = Place {
+        file: part.file,
+        line: None,
+    };
+    let rows = (records_of(given.alloc, *part)?.len() as u64).saturating_sub(1);
+    Ok(Some((place, rows)))
 }
 
 /// Returns the instant of a record.

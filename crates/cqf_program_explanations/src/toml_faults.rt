@@ -9,7 +9,7 @@ use crate::hints::{is_open, plan_hint};
 use crate::outline::{Element, KeyLine, Outline};
 use crate::places::Place;
 use crate::plant::{KeyOwner, PlantFile, WrittenItem};
-use crate::sketch::{is_in_step, reads_sketch};
+use crate::sketch::{has_traffic, is_in_step, is_planning};
 use crate::told::ToldLines;
 use crate::words::{nearest, shown};
 use cqf_program_files::{LINK, STREAM, TOP};
@@ -203,7 +203,8 @@ fn tell_missing_top(
     told: &mut ToldLines,
     key: &str,
 ) -> Result<(), AllocError> {
-    let in_links = tell_misplaced(given, told, KeyOwner::Link, key)?;
+    // a link may have a guard band of its own
+    let in_links = key != GUARD && tell_misplaced(given, told, KeyOwner::Link, key)?;
     let in_streams = tell_misplaced(given, told, KeyOwner::Stream, key)?;
     let near = tell_near_top(given, told, key)?;
     if in_links || in_streams || near {
@@ -238,11 +239,22 @@ fn near_key<'p>(
     Ok(None)
 }
 
-/// Returns whether a link or a stream is a table that lacks a key, and any keys that may replace it.
-fn lacks(item: &WrittenItem<'_>, key: &str) -> bool {
-    item.value.is_table()
-        && item.get(key).is_none()
-        && !(key == "path" && item.get("paths").is_some())
+/// Returns whether a stream may lack a key, because of other keys. `plan` chooses octets for traffic, and takes ends from a path; a key of
+/// traffic is owed by streams with traffic.
+fn may_lack(given: &CommandInput<'_>, item: &WrittenItem<'_>, key: &str) -> bool {
+    let has_path = item.get("path").is_some() || item.get("paths").is_some();
+    match key {
+        "path" => has_path,
+        "octets" => is_planning(given) && has_traffic(item),
+        "from" | "to" => item.kind == KeyOwner::Stream && has_path,
+        "interval" | "size" => !has_traffic(item),
+        _ => false,
+    }
+}
+
+/// Returns whether a link or a stream is a table that lacks a key which it has to have.
+fn lacks(given: &CommandInput<'_>, item: &WrittenItem<'_>, key: &str) -> bool {
+    item.value.is_table() && item.get(key).is_none() && !may_lack(given, item, key)
 }
 
 /// Returns the words about a stream that lacks a key, if `plan` chooses its value.
@@ -267,7 +279,7 @@ fn tell_missing_within(
         key
     };
     for item in &given.plant.items(kind)? {
-        if !lacks(item, key) || told.is_counted() {
+        if !lacks(given, item, key) || told.is_counted() {
             continue;
         }
         let label = item.label(given.alloc)?;
@@ -301,7 +313,7 @@ pub(crate) fn tell_missing(
 
 /// Returns the form of a value of the top level, for the command: a network file may have several cycle times.
 fn form_at_top(given: &CommandInput<'_>, key: &str) -> Option<(Form, &'static str)> {
-    if key == "cycle" && reads_sketch(given) {
+    if key == "cycle" && is_planning(given) {
         Some((Form::Cycles, CYCLES_FORM))
     } else {
         form_of(KeyOwner::Top, key)
@@ -409,13 +421,15 @@ fn form_within(
 fn bad_form(given: &CommandInput<'_>, item: &WrittenItem<'_>, key: &str) -> Option<&'static str> {
     let value = item.get(key)?;
     let (form, words) = form_within(given, item.kind, key)?;
-    let has_path = item.get("path").is_some() || item.get("paths").is_some();
     if key == "paths" && item.get("path").is_some() {
         Some("give path or paths, not both")
-    } else if item.kind == KeyOwner::Stream && matches!(key, "from" | "to") && has_path {
-        Some("give a path, or from and to, not both")
-    } else if matches!(key, "every" | "phase") && is_in_step(item) {
-        Some("give every and phase, or in-step, not both")
+    } else if key == "phase" && is_in_step(item) && item.get("every").is_none() {
+        Some("a phase goes with every: give both, or in-step alone")
+    } else if key == "least-size"
+        && item.get("size").is_some()
+        && item.number(key) > item.number("size")
+    {
+        Some("least-size is no more than the stream's size")
     } else if fits(form, value) {
         None
     } else if key == "delay" && value.is_array() {

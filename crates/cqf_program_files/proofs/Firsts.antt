@@ -1,9 +1,11 @@
 -- The first of some texts that has something, and texts by the names of their files.
-use Rattle.std.proofs.Common.{◌≡◌, ℕ, ◌+◌, ◌<◌, ◌≤◌, List, [], ◌++◌, Option, Some, None, true, get_or, drop, length, map, option_map, is_some, take, ◌-◌, ◌∙◌, arith, refl, sym, ap, inl, inr}
+use Rattle.std.proofs.Common.{◌≡◌, ℕ, ◌+◌, ◌<◌, ◌≤◌, List, [], ◌++◌, Option, Some, None, true, get_or, drop, length, map, option_and_then, option_map, is_some, take, ◌-◌, ◌∙◌, arith, refl, sym, ap, inl, inr}
 use Rattle.std.proofs.lemmas.Bool.{false≢true}
 use Rattle.std.proofs.lemmas.List.{drop-map, drop_all, drop_more, length-drop, take_all}
 use Rattle.std.specs.Option.{option_or}
+use Rattle.toml.specs.Data.{Members}
 use Rattle.cqf_output.specs.declared.stops.Stop.{Stop}
+use Rattle.cqf_program_files.specs.Opening.{network_texts, open_refusal, open_refusal_of}
 use Rattle.cqf_program_files.specs.Plants.{EndsPlant, EndsTogether, IsCheckedPlant, IsPlantText, are_several, first_refusal, first_strange_among, joint_refusal, leading}
 use Rattle.cqf_program_files.specs.Plants.{strange_in, tables_of, texts_refusal, toml_text, toml_texts}
 
@@ -52,6 +54,15 @@ plant_ends names texts stop alone first several ends = record {
   ];
   memory = ends.memory;
 }
+
+-- what is open of a network's tables, where its texts are TOML
+pub open_at : (names texts front : List (List ℕ)) (tables : List Members) → front ≡ network_texts names texts → Some tables ≡ tables_of front
+    → open_refusal tables ≡ open_refusal_of names texts
+open_at names texts front tables is at = ap (λ found. option_and_then open_refusal found) (at ∙ ap tables_of is)
+
+-- and else nothing is known of it
+pub open_nowhere : (names texts front : List (List ℕ)) → front ≡ network_texts names texts → None ≡ tables_of front → None ≡ open_refusal_of names texts
+open_nowhere names texts front is at = ap (λ found. option_and_then open_refusal found) (at ∙ ap tables_of is)
 
 -- what follows some first elements
 pub behind_first : {A : Type 0} (f : A → List ℕ) (xs : List A) (n : ℕ) → map f (take (length xs - n) (drop n xs)) ≡ drop n (map f xs)

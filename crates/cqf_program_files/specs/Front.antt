@@ -9,7 +9,8 @@ use Rattle.cqf_program_words.specs.Composing.{composed_of, is_plant, is_undivide
 use Rattle.cqf_program_words.specs.Words.{takes_domain}
 use Rattle.cqf_program_files.specs.declared.front.Front.{Front}
 use Rattle.cqf_program_files.specs.Calls.{numbers_of_script, script_of_calls, text_of_script}
-use Rattle.cqf_program_files.specs.Plants.{EndsFor, EndsPlant, IsCheckedPlant, leading}
+use Rattle.cqf_program_files.specs.Opening.{closed_refusal}
+use Rattle.cqf_program_files.specs.Plants.{EndsBy, EndsFor, EndsPlant, IsCheckedPlant, leading}
 
 -- the cycles of a job that reads a script
 abbrev pub cycles_of : Job → Option ℕ
@@ -102,6 +103,7 @@ IsJointFor false names texts plant = plant ≡ None
 pub record IsFrontOf (it : Job) (names texts : List (List ℕ)) (front : Front) : Type 0 where
   pub plant : Option (List ℕ)
   pub is_joint : IsJointFor (takes_domain it) names texts plant
+  pub none_open : closed_refusal it names texts ≡ None
   pub headed : is_headless it names texts plant ≡ false
   pub gathered : IsGatheredWith it names texts plant front
 
@@ -110,7 +112,13 @@ abbrev pub EndsJoint : Bool → List (List ℕ) → List (List ℕ) → Stop →
 EndsJoint true names texts stop = EndsPlant names texts stop
 EndsJoint false names texts stop = EndsFor (λ line. ⊥) stop
 
--- and the end if they are good, but the offers lack their header
+-- where they are good, but something is open that this job doesn't choose
+pub record EndsOpen (it : Job) (names texts : List (List ℕ)) (stop : Stop) : Type 0 where
+  pub plant : Option (List ℕ)
+  pub is_joint : IsJointFor (takes_domain it) names texts plant
+  pub ends : EndsBy (closed_refusal it names texts) stop
+
+-- and where nothing is, but the offers lack their header
 abbrev pub headless_line : List ℕ
 headless_line = fault_line (codes "offers") (codes "BadHeader")
 
@@ -120,7 +128,8 @@ EndsHeader it names texts plant = EndsFor (λ line. (is_headless it names texts 
 pub record EndsHeadless (it : Job) (names texts : List (List ℕ)) (stop : Stop) : Type 0 where
   pub plant : Option (List ℕ)
   pub is_joint : IsJointFor (takes_domain it) names texts plant
+  pub none_open : closed_refusal it names texts ≡ None
   pub ends : EndsHeader it names texts plant stop
 
 abbrev pub EndsFront : Job → List (List ℕ) → List (List ℕ) → Stop → Type 0
-EndsFront it names texts stop = EndsJoint (takes_domain it) names texts stop ⊎ EndsHeadless it names texts stop
+EndsFront it names texts stop = EndsJoint (takes_domain it) names texts stop ⊎ (EndsOpen it names texts stop ⊎ EndsHeadless it names texts stop)

@@ -10,12 +10,12 @@ top_keys = codes "cycle" ∷ codes "guard" ∷ codes "sync" ∷ codes "bridges" 
 
 abbrev pub link_keys : List (List ℕ)
 link_keys =
-    codes "from" ∷ codes "to" ∷ codes "rate" ∷ codes "delay" ∷ codes "guard" ∷ codes "duplex" ∷ codes "interface" ∷ codes "far-interface" ∷ []
+    codes "from" ∷ codes "to" ∷ codes "rate" ∷ codes "delay" ∷ codes "guard" ∷ codes "duplex" ∷ codes "other" ∷ codes "interface" ∷ codes "far-interface" ∷ []
 
 abbrev pub stream_keys : List (List ℕ)
 stream_keys =
     codes "name" ∷ codes "octets" ∷ codes "every" ∷ codes "phase" ∷ codes "in-step" ∷ codes "path" ∷ codes "paths" ∷ codes "deadline"
-    ∷ codes "from" ∷ codes "to" ∷ codes "interval" ∷ codes "frames" ∷ codes "size" ∷ codes "jitter" ∷ codes "offset"
+    ∷ codes "from" ∷ codes "to" ∷ codes "interval" ∷ codes "frames" ∷ codes "size" ∷ codes "least-size" ∷ codes "jitter" ∷ codes "offset"
     ∷ codes "mac" ∷ codes "vlan" ∷ []
 
 -- the user's own keys begin so, and are ignored

@@ -4,3 +4,4 @@ pub mod Plants
 pub mod Calls
 pub mod Front
 pub mod Numbers
+pub mod Opening

@@ -90,14 +90,6 @@ stands_twice tables key = nat_le 2 (count_by (λ table. is_some (get_member key 
 abbrev pub key_twice : List Members → Option (List ℕ)
 key_twice tables = find (stands_twice tables) single_keys
 
--- the first of them has streams, and the second too
-abbrev pub has_streams : Members → Bool
-has_streams table = is_some (get_member (codes "streams") table)
-
-abbrev pub streams_twice : List Members → Bool
-streams_twice (first ∷ second ∷ more) = has_streams first && has_streams second
-streams_twice tables = false
-
 -- the tables of some texts, if each is TOML
 abbrev pub tables_of : List (List ℕ) → Option (List Members)
 tables_of [] = Some []
@@ -139,7 +131,8 @@ abbrev pub plant_fault_text : PlantFault → List ℕ
 plant_fault_text (fault.LineTooLong line) = long_text line
 plant_fault_text (fault.UnknownKey key) = unknown_text (string_bytes key)
 plant_fault_text fault.NotToml = codes "NotToml"
-plant_fault_text fault.StreamsTwice = codes "StreamsTwice"
+plant_fault_text fault.OpenCycle = codes "OpenCycle"
+plant_fault_text (fault.Open name) = codes "Open " ++ string_bytes name
 plant_fault_text (fault.KeyTwice key) = twice_text key.now
 plant_fault_text fault.NoHeader = codes "BadHeader"
 
@@ -147,6 +140,8 @@ plant_fault_text fault.NoHeader = codes "BadHeader"
 abbrev pub part_of_fault : PlantFault → List ℕ
 part_of_fault fault.NotToml = codes "domain"
 part_of_fault fault.NoHeader = codes "offers"
+part_of_fault fault.OpenCycle = codes "network"
+part_of_fault (fault.Open name) = codes "network"
 part_of_fault other = codes "plant"
 
 abbrev pub plant_fault_line : PlantFault → List ℕ
@@ -181,7 +176,7 @@ not_toml_line = fault_line (codes "domain") (codes "NotToml")
 
 abbrev pub tables_refusal : List Members → Option (List ℕ)
 tables_refusal tables =
-    if streams_twice tables then Some (plant_line (codes "StreamsTwice")) else option_map (λ key. plant_line (twice_text key)) (key_twice tables)
+    option_map (λ key. plant_line (twice_text key)) (key_twice tables)
 
 abbrev pub joint_refusal : Option (List Members) → Option (List ℕ)
 joint_refusal None = Some not_toml_line

@@ -1,8 +1,9 @@
 //! The files of a plan, checked and joined.
-ghost use Rattle.std.specs.Prelude.{◌≡◌, ◌++◌, IfOk, IfErr, None, OnOk, length, map, option_map, string_bytes, take};
+ghost use Rattle.std.specs.Prelude.{◌≡◌, ◌≤◌, ◌++◌, IfOk, IfErr, None, OnOk, length, map, option_map, string_bytes, take};
 ghost use Rattle.toml.specs.View.{table_view};
 ghost use Rattle.cqf_output.specs.Stops.{EndsWith};
 ghost use Rattle.cqf_program_files.specs.Keys.{strange_key};
+ghost use Rattle.cqf_program_files.specs.Opening.{count_of_network, count_of_plain, open_refusal, open_refusal_of};
 ghost use Rattle.cqf_program_files.specs.Plants.{EndsBy, EndsPlant, EndsTogether, EndsUnwritten, IsCheckedPlant, IsPlantText, IsTextOf};
 ghost use Rattle.cqf_program_files.specs.Plants.{first_long_among, first_refusal, first_strange_among, is_plain, joint_refusal, most_shown};
 ghost use Rattle.cqf_program_files.specs.Plants.{plain_fault, plant_fault_line};
@@ -11,7 +12,8 @@ ghost use Rattle.cqf_program_files.specs.Plants.{shown_key, shown_octet, strange
 use crate::faults::PlantFault;
 use crate::keys::strange_key;
 use crate::lines::first_long_line;
-use crate::plants::{are_several, key_twice, leading, plant_of, streams_twice};
+use crate::open::{first_open_stream, has_open_cycle};
+use crate::plants::{are_several, key_twice, leading, plant_of};
 use cqf_output::Stop;
 use cqf_program_words::{is_toml, is_undivided};
 use cqf_units::Memory;
@@ -223,9 +225,6 @@ fn first_refusal(
 fn tables_refusal(tables: &[Table]) -> Option<PlantFault>
     ensures { option_map plant_fault_line result ≡ tables_refusal (map table_view tables.now) }
 {
-    if streams_twice(tables) {
-        return Some(PlantFault::StreamsTwice);
-    }
     match key_twice(tables) {
         Some(key) => Some(PlantFault::KeyTwice(key)),
         None => None,
@@ -239,6 +238,7 @@ pub(crate) fn stop_of(alloc: Global, fault: &PlantFault) -> Stop
     match fault {
         PlantFault::NotToml => Stop::refused(alloc, "domain", fault),
         PlantFault::NoHeader => Stop::refused(alloc, "offers", fault),
+        PlantFault::OpenCycle | PlantFault::Open(_) => Stop::refused(alloc, "network", fault),
         _ => Stop::refused(alloc, "plant", fault),
     }
 }
@@ -322,5 +322,83 @@ pub(crate) fn check_plant(
     match joined(alloc, &texts[..leading(names)]) {
         Ok(text) => Ok(Some(text)),
         Err(stop) => Err(stop),
+    }
+}
+
+/// What is open of a network's tables, as a fault. The error is want of memory.
+fn open_fault(alloc: Global, tables: &[Table]) -> Result<Option<PlantFault>, Memory>
+    ensures { IfOk result (λ found. option_map plant_fault_line found ≡ open_refusal (map table_view tables.now)) }
+{
+    if has_open_cycle(tables) {
+        return Ok(Some(PlantFault::OpenCycle));
+    }
+    match first_open_stream(tables) {
+        Some(name) => {
+            let shown = shown_key(alloc, name)?;
+            Ok(Some(PlantFault::Open(shown)))
+        }
+        None => Ok(None),
+    }
+}
+
+/// How many of the first texts are a network's where none is that of a TOML file: the first, where no line divides it. The error is want of
+/// memory.
+fn count_of_plain(alloc: Global, names: &[&str], texts: &[&[u8]]) -> Result<usize, Memory>
+    ensures value { IfOk result (λ count. count ≡ count_of_plain (map (λ name. name.now) names.now) (map (λ text. text.now) texts.now)) }
+    ensures inside { IfOk result (λ count. count ≤ length texts.now) }
+{
+    match (names, texts) {
+        ([name, ..], [text, ..]) => {
+            if is_plain(alloc, name, text)? {
+                Ok(1)
+            } else {
+                Ok(0)
+            }
+        }
+        _ => Ok(0),
+    }
+}
+
+/// How many of the first texts are a network's: those of the TOML files that come first, or else the first, where no line divides it. The
+/// error is want of memory.
+fn count_of_network(alloc: Global, names: &[&str], texts: &[&[u8]]) -> Result<usize, Memory>
+    requires { length names.now ≡ length texts.now }
+    ensures value { IfOk result (λ count. count ≡ count_of_network (map (λ name. name.now) names.now) (map (λ text. text.now) texts.now)) }
+    ensures inside { IfOk result (λ count. count ≤ length texts.now) }
+{
+    let count = leading(names);
+    if count > 0 {
+        return Ok(count);
+    }
+    count_of_plain(alloc, names, texts)
+}
+
+/// What is open of a network's files, as a fault. The error is want of memory.
+fn open_fault_of(
+    alloc: Global,
+    names: &[&str],
+    texts: &[&[u8]],
+) -> Result<Option<PlantFault>, Memory>
+    requires { length names.now ≡ length texts.now }
+    ensures { IfOk result (λ found. option_map plant_fault_line found
+        ≡ open_refusal_of (map (λ name. name.now) names.now) (map (λ text. text.now) texts.now)) }
+{
+    let count = count_of_network(alloc, names, texts)?;
+    match tables_of(alloc, &texts[..count])? {
+        Some(tables) => open_fault(alloc, tables.as_slice()),
+        None => Ok(None),
+    }
+}
+
+/// Looks whether nothing of a network's files is open. `Err` with status 1 and the line of what is, and with status 3 for want of memory.
+pub(crate) fn check_open(alloc: Global, names: &[&str], texts: &[&[u8]]) -> Result<(), Stop>
+    requires { length names.now ≡ length texts.now }
+    ensures ok { OnOk result (open_refusal_of (map (λ name. name.now) names.now) (map (λ text. text.now) texts.now) ≡ None) }
+    ensures err { IfErr result (EndsBy (open_refusal_of (map (λ name. name.now) names.now) (map (λ text. text.now) texts.now))) }
+{
+    match open_fault_of(alloc, names, texts) {
+        Ok(None) => Ok(()),
+        Ok(Some(fault)) => Err(stop_of(alloc, &fault)),
+        Err(_) => Err(Stop::memory(alloc)),
     }
 }

@@ -16,8 +16,10 @@ pub enum PlantFault {
     UnknownKey(String),
     /// One of several files isn't TOML.
     NotToml,
-    /// The first two of several files have streams.
-    StreamsTwice,
+    /// The cycle time is open, and the command takes a plan.
+    OpenCycle,
+    /// Something of the first such stream is, by its name as a line shows it.
+    Open(String),
     /// The first key that may occur once and occurs in two of several files.
     KeyTwice(&'static str),
     /// The only file after a plan is empty, where offers are expected.
@@ -32,7 +34,8 @@ impl fmt::Display for PlantFault {
             PlantFault::LineTooLong(line) => write!(f, "LineTooLong {line}"),
             PlantFault::UnknownKey(key) => write!(f, "UnknownKey {key}"),
             PlantFault::NotToml => f.write_str("NotToml"),
-            PlantFault::StreamsTwice => f.write_str("StreamsTwice"),
+            PlantFault::OpenCycle => f.write_str("OpenCycle"),
+            PlantFault::Open(name) => write!(f, "Open {name}"),
             PlantFault::KeyTwice(key) => write!(f, "KeyTwice {key}"),
             PlantFault::NoHeader => f.write_str("BadHeader"),
         }

@@ -1,13 +1,15 @@
 //! The input that is made from the texts of files.
-ghost use Rattle.std.specs.Prelude.{◌≡◌, ◌∷◌, IfOk, IfErr, OnOk, Some, false, length, map, option_map, string_bytes};
+ghost use Rattle.std.specs.Prelude.{◌≡◌, ◌∷◌, IfOk, IfErr, OnOk, None, Some, false, length, map, option_map, string_bytes};
 ghost use Rattle.cqf_program_words.specs.Composing.{composed_of};
 ghost use Rattle.cqf_program_words.specs.Words.{takes_domain};
 ghost use Rattle.cqf_program_files.specs.Front.{EndsFront, EndsHeader, EndsJoint, IsFrontOf, IsGathered, IsGatheredWith, IsJointFor, begins_as_offers};
 ghost use Rattle.cqf_program_files.specs.Front.{called_script, cycles_of, has_fields, is_between, is_digit, is_headless, is_mark, joint_names};
 ghost use Rattle.cqf_program_files.specs.Front.{lacks_header, parts_of_script, script_at, with_first};
+ghost use Rattle.cqf_program_files.specs.Opening.{closed_refusal, takes_closed};
+ghost use Rattle.cqf_program_files.specs.Plants.{EndsBy};
 
 use crate::calls::{CallsScript, script_of_calls};
-use crate::checking::{check_plant, stop_of};
+use crate::checking::{check_open, check_plant, stop_of};
 use crate::faults::PlantFault;
 use crate::plants::leading;
 use cqf_output::Stop;
@@ -310,6 +312,29 @@ fn check_header(
     }
 }
 
+/// Whether nothing may be open for the job: it takes a domain, and isn't `plan`, which chooses what is.
+fn takes_closed(job: &Job) -> bool
+    ensures { result ≡ takes_closed job.now }
+{
+    match *job {
+        Job::Plan { .. } => false,
+        _ => job.takes_domain(),
+    }
+}
+
+/// Looks whether nothing is open that the job doesn't choose. `Err` where something is, and for want of memory.
+fn check_closed(alloc: Global, job: &Job, names: &[&str], texts: &[&[u8]]) -> Result<(), Stop>
+    requires { length names.now ≡ length texts.now }
+    ensures ok { OnOk result (closed_refusal job.now (map (λ name. name.now) names.now) (map (λ text. text.now) texts.now) ≡ None) }
+    ensures err { IfErr result (EndsBy (closed_refusal job.now (map (λ name. name.now) names.now) (map (λ text. text.now) texts.now))) }
+{
+    if takes_closed(job) {
+        check_open(alloc, names, texts)
+    } else {
+        Ok(())
+    }
+}
+
 /// Returns the input that is made from the texts of files with these names, for a job.
 ///
 /// If the job takes a domain, the first 2 to 16 names that end with `.toml` are those of one plan. Its text has everything in these texts
@@ -317,14 +342,14 @@ fn check_header(
 /// [`script_of_calls`] reads, unless it begins as offers do. All else is as in [`cqf_program_words::composed`].
 ///
 /// # Errors
-/// If the job takes a domain, status 1 and the line of the first fault:
+/// With status 1 and the line of the first fault, if the job takes a domain, in this order:
+/// - in the files whose names end with `.toml`, and in the first file if no line divides it: a line that is too long to be parsed, then a key
+///   that no command knows;
+/// - in several files of one network: one that isn't TOML, then `cycle`, `guard` or `sync` in two of them;
+/// - unless the job is `plan`: several cycle times, then a stream that leaves something open for `plan`;
+/// - if the job reads a script: an empty file that is the only one after the network.
 ///
-/// - in files whose names end with `.toml`, and then in the first file if no line divides it: a line that is too long to be parsed, and
-///   then a key that no command knows;
-/// - of several files that are one plan: one that isn't TOML, streams in the first two, or `cycle`, `guard` or `sync` in two;
-/// - an empty file that is the only one after a plan, of a job that reads a script.
-///
-/// Status 3 if an allocation fails.
+/// With status 3 if an allocation fails.
 pub fn front_of(alloc: Global, job: &Job, names: &[&str], texts: &[&[u8]]) -> Result<Front, Stop>
     requires { length names.now ≡ length texts.now }
     ensures ok { IfOk result (IsFrontOf job.now (map (λ name. name.now) names.now) (map (λ text. text.now) texts.now)) }
@@ -334,6 +359,10 @@ pub fn front_of(alloc: Global, job: &Job, names: &[&str], texts: &[&[u8]]) -> Re
         Ok(plant) => plant,
         Err(stop) => return Err(stop),
     };
+    match check_closed(alloc, job, names, texts) {
+        Ok(()) => {}
+        Err(stop) => return Err(stop),
+    }
     match check_header(alloc, job, names, texts, plant.as_deref()) {
         Ok(()) => {}
         Err(stop) => return Err(stop),

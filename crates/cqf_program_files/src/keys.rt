@@ -14,21 +14,38 @@ pub const TOP: [&str; 7] = [
 ];
 
 /// Those of a link.
-pub const LINK: [&str; 8] = [
+pub const LINK: [&str; 9] = [
     "from",
     "to",
     "rate",
     "delay",
     "guard",
     "duplex",
+    "other",
     "interface",
     "far-interface",
 ];
 
 /// Those of a stream.
-pub const STREAM: [&str; 17] = [
-    "name", "octets", "every", "phase", "in-step", "path", "paths", "deadline", "from", "to",
-    "interval", "frames", "size", "jitter", "offset", "mac", "vlan",
+pub const STREAM: [&str; 18] = [
+    "name",
+    "octets",
+    "every",
+    "phase",
+    "in-step",
+    "path",
+    "paths",
+    "deadline",
+    "from",
+    "to",
+    "interval",
+    "frames",
+    "size",
+    "least-size",
+    "jitter",
+    "offset",
+    "mac",
+    "vlan",
 ];
 
 /// The beginning of a key that is the user's own, which no command reads.

@@ -24,6 +24,7 @@ mod front;
 mod keys;
 mod lines;
 mod numbers;
+mod open;
 mod plants;
 
 pub use front::{Front, begins_as_offers, cycles_of, front_of};

@@ -3,7 +3,7 @@ ghost use Rattle.std.specs.Prelude.{◌≡◌, ◌≤◌, IfOk, OnOk, Some, is_s
 ghost use Rattle.toml.specs.Data.{get_member};
 ghost use Rattle.toml.specs.View.{items_view, table_view, view};
 ghost use Rattle.cqf_program_files.specs.Plants.{append_items, are_several, behind_items, joined_at, joined_values, key_twice};
-ghost use Rattle.cqf_program_files.specs.Plants.{leading, plant_by, plant_of, put_found, stands_twice, streams_twice};
+ghost use Rattle.cqf_program_files.specs.Plants.{leading, plant_by, plant_of, put_found, stands_twice};
 
 use crate::keys::{TOP, value_at};
 use cqf_program_words::is_toml;
@@ -65,21 +65,6 @@ pub(crate) fn key_twice(tables: &[Table]) -> Option<&'static str>
         return Some("sync");
     }
     None
-}
-
-/// Returns whether the first two of the tables have streams.
-pub(crate) fn streams_twice(tables: &[Table]) -> bool
-    ensures { result ≡ streams_twice (map table_view tables.now) }
-{
-    match tables {
-        [first, second, ..] => {
-            if !has(first, "streams") {
-                return false;
-            }
-            has(second, "streams")
-        }
-        _ => false,
-    }
 }
 
 /// Appends copies of the values to the items. Returns `Memory` if an allocation fails.

@@ -21,25 +21,21 @@ use Rattle.cqf_laws_history.proofs.Granted.{granted}
 use Rattle.cqf_laws_timing.specs.Streams.{AdmitsOnly}
 use Rattle.cqf_text.specs.Lines.{lines_of}
 use Rattle.cqf_text.specs.Parts.{parts_of}
-use Rattle.cqf_topology.specs.DomainText.{domain_within}
-use Rattle.cqf_topology.specs.PlannedText.{PlannedText, planned_of_text}
 use Rattle.cqf_admission.specs.Script.{Called, administrators, script_of}
 use Rattle.cqf_output.specs.Stops.{or_line}
-use Rattle.cqf_program_scenario.specs.Lines.{domain_line, script_line, streams_line}
+use Rattle.cqf_program_scenario.specs.Lines.{script_line}
+use Rattle.cqf_program_scenario.specs.Networks.{domain_of}
 use Rattle.cqf_program_scenario.specs.Parts.{RunTexts, run_parts}
 use Rattle.cqf_program_scenario.specs.Scenario.{Scenario, frames_of_part, scenario_behind}
 use Rattle.cqf_program_plans.specs.Latency.Input.{asked_in}
 use Rattle.cqf_program_plans.proofs.CompileLemmas.{same_ok}
 use Rattle.cqf_program_runs.specs.Deliveries.PlannedScenario.{planned_scenario, planned_scenario_of}
 use Rattle.cqf_program_laws.specs.ScriptLaws.{AskOnly, ScriptsAskOnly}
-use Rattle.cqf_program_laws.proofs.Scripts.{lined, stepped}
+use Rattle.cqf_program_laws.proofs.Scripts.{Read, lined, read_of_parts, stepped}
 use Rattle.cqf_program_summary.specs.Summary.Told.{is_good, told_streams}
 use Rattle.cqf_program_laws.proofs.Firsts.{firsts, script_first, told_has}
 
 -- the calls of a scenario that was read are those of its script
-abbrev Read : Type 0
-Read = Scenario × List PlannedText
-
 abbrev made_of : RunTexts → Domain → List Called → List Offer × List Background → Scenario
 made_of texts d calls frames = record {
   domain = d;
@@ -66,29 +62,12 @@ module _ (asks : ScriptsAskOnly) where
       (asks (firsts streams) cycles texts.script b.0
       (sym (script_first streams cycles texts.script) ∙ lined script_line (script_of streams cycles texts.script) b.0 b.1))
 
-  read_ask : (cycles : ℕ) (texts : RunTexts) (d : Domain) (found : List PlannedText) (s : Scenario) (read : Read) →
-      scenario_behind cycles d (asked_in found) texts ≡ Ok s → ◌≡◌ {A = Result Read (List ℕ)} (Ok (s, found)) (Ok read) →
-      AskOnly (firsts (asked_in read.1)) read.0.calls
-  read_ask cycles texts d found s read h is =
-      let made : Read = (s, found) in
-      subst (λ (z : Read). AskOnly (firsts (asked_in z.1)) z.0.calls) (same_ok made read is) (behind_ask cycles d (asked_in found) texts s h)
-
-  abbrev with_scenario : List PlannedText → Scenario → Result Read (List ℕ)
-  with_scenario found scenario = Ok (scenario, found)
-
-  abbrev with_streams : ℕ → RunTexts → Domain → List PlannedText → Result Read (List ℕ)
-  with_streams cycles texts d found = and_then (scenario_behind cycles d (asked_in found) texts) (with_scenario found)
-
   pub asks_firsts : (limits : Limits) (cycles : ℕ) (input : List ℕ) (read : Read) → planned_scenario limits cycles input ≡ Ok read →
       AskOnly (firsts (asked_in read.1)) read.0.calls
   asks_firsts limits cycles input read h =
       let t = stepped {B = Read} (run_parts (parts_of input)) (planned_scenario_of limits cycles) read h in
-      let texts : RunTexts = t.0 in
-      let a = stepped {B = Read} (or_line domain_line (domain_within limits texts.domain))
-      (λ (d : Domain). and_then (or_line streams_line (planned_of_text texts.streams)) (with_streams cycles texts d)) read t.2 in
-      let b = stepped {B = Read} (or_line streams_line (planned_of_text texts.streams)) (with_streams cycles texts a.0) read a.2 in
-      let c = stepped {B = Read} (scenario_behind cycles a.0 (asked_in b.0) texts) (with_scenario b.0) read b.2 in
-      read_ask cycles texts a.0 b.0 c.0 read c.1 c.2
+      let of = read_of_parts limits cycles t.0 read t.2 in
+      behind_ask cycles (domain_of of.network) (asked_in read.1) t.0 read.0 of.scenario
 
 -- a stream that isn't refused is good, and named by a name
 refused_none : (number effect : ℕ) (refused : Option Refused) (receipt : Receipt) → admit_reply number effect refused ≡ Accepted receipt → refused ≡ None

@@ -1,5 +1,5 @@
 -- There is room for the calls of a script: it has no more Seals than cycles, and no more than 100,000 other calls.
-use Rattle.std.proofs.Common.{◌≡◌, ◌∙◌, ◌+◌, ◌≤◌, ◌<◌, ◌∷◌, [], ℕ, Bool, true, false, List, Option, Some, None, Result, Ok, Err, ap, arith, refl, subst, sym}
+use Rattle.std.proofs.Common.{◌≡◌, ◌∙◌, ◌+◌, ◌≤◌, ◌<◌, ◌∷◌, [], ℕ, Bool, true, false, List, Option, Some, None, Ok, Err, ap, arith, refl, subst, sym}
 use Rattle.std.specs.Prelude.{codes, if◌then◌else◌, not, nat_le, ok_or, option_and_then, option_map}
 use Rattle.std.proofs.lemmas.Bool.{leb-false}
 use Rattle.std.proofs.lemmas.Option.{same_Some}

@@ -53,12 +53,12 @@ use Rattle.cqf_program_laws.proofs.Deadlines.{deadline_is}
 
 -- ---- verdicts by numbers
 
-said_in_time : (sure : Sure) → said_of_latency sure ≡ told.InTime → sure ≡ InTime
+pub said_in_time : (sure : Sure) → said_of_latency sure ≡ told.InTime → sure ≡ InTime
 said_in_time InTime e = refl
 said_in_time Late e = absurd (cc)
 said_in_time MayBeLate e = absurd (cc)
 
-said_late : (sure : Sure) → said_of_latency sure ≡ told.Late → sure ≡ Late
+pub said_late : (sure : Sure) → said_of_latency sure ≡ told.Late → sure ≡ Late
 said_late InTime e = absurd (cc)
 said_late Late e = refl
 said_late MayBeLate e = absurd (cc)

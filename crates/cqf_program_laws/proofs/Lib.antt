@@ -6,7 +6,7 @@ pub mod PlannedRows
 pub mod InPlan
 pub mod Promised
 pub mod Loosely
-pub mod Sketched
+pub mod FromTalkers
 mod Firsts
 mod Admitted
 mod Balance
@@ -17,8 +17,9 @@ mod EachRow
 mod Bounded
 mod FewCalls
 mod Readers
+mod ReadNetworks
 mod MayRun
-mod Tellable
 mod PlanTexts
+mod JudgedFrom
 mod Outputs
 mod Repeated

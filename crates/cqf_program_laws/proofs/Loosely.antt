@@ -1,5 +1,5 @@
 -- A written plan keeps its word in every loose network.
-use Rattle.std.proofs.Common.{◌≡◌, ◌∙◌, [], ℕ, List, Contains, ap, map, subst, sym}
+use Rattle.std.proofs.Common.{◌≡◌, ◌∙◌, ℕ, List, Contains, ap, map, subst, sym}
 use Rattle.cqf_model.specs.declared.frames.Background.{Background}
 use Rattle.cqf_model.specs.declared.frames.Offer.{Offer}
 use Rattle.cqf_model.specs.declared.frames.Offered.{Offered}
@@ -51,7 +51,7 @@ module _ (held : GrantedIsHeld) (goes_on : HistoryGoesOn) (counted : SealsAreCou
       (enough held goes_on counted room of_list names d flows entries offers background cycles plan only flow t x row promised) promised.at_edge
 
   -- and is heard in time
-  pub is_heard : (branch : Branch) → Contains flow.0.0.paths branch → IsHeardLoosely d all (asked_in flow) cycles net carries x branch flow.0.1
+  pub is_heard : (branch : Branch) → Contains flow.0.0.paths branch → IsHeardLoosely d all (asked_in flow) cycles net carries x branch x.offer.at.0 flow.0.1
   is_heard branch c =
       let place = its_place held goes_on counted room of_list names d flows entries offers background cycles plan only flow t x row promised in
       let listener = ends d row_there.beside (asked_in flow) branch row_there.free c in

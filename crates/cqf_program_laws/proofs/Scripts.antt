@@ -18,9 +18,9 @@ use Rattle.cqf_model.specs.History.{Act, Admits, Asked, Seals, Withdraws, seals}
 use Rattle.cqf_model.specs.Limits.{most_calls}
 use Rattle.cqf_text.specs.Lines.{lines_of}
 use Rattle.cqf_text.specs.Parts.{parts_of}
-use Rattle.cqf_topology.specs.DomainText.{domain_within}
-use Rattle.cqf_topology.specs.PlannedText.{PlannedText, planned_of_text}
+use Rattle.cqf_topology.specs.PlannedText.{PlannedText}
 use Rattle.cqf_topology.specs.PacedText.{PacedText, paced_of_text}
+use Rattle.cqf_sketch.specs.SketchDomain.{SketchDomain}
 use Rattle.cqf_admission.specs.Asking.{asked_by}
 use Rattle.cqf_admission.specs.declared.faults.ScriptFault.{ScriptFault}
 use Rattle.cqf_admission.specs.declared.faults.ScriptFault.TheVariants.{BadLine, UnknownStream, TooMany}
@@ -31,13 +31,14 @@ use Rattle.cqf_laws_timing.proofs.Listed.{none_admits_only}
 use Rattle.cqf_laws_timing.specs.Asking.{AsksOnly, CallsAdmitOnly, SeatsAdmitOnly}
 use Rattle.cqf_output.specs.Stops.{or_line}
 use Rattle.cqf_program_scenario.specs.Calls.{called_for, seals_by, with_calls}
-use Rattle.cqf_program_scenario.specs.Lines.{domain_line, script_line, streams_line}
+use Rattle.cqf_program_scenario.specs.Lines.{script_line, streams_line}
+use Rattle.cqf_program_scenario.specs.Networks.{domain_of, domain_of_part, network_of_part}
 use Rattle.cqf_program_scenario.specs.Parting.{calls_from_seal, closes, commands_by, is_command_of, opening_calls}
 use Rattle.cqf_program_scenario.specs.Parts.{RunTexts, run_parts}
 use Rattle.cqf_program_scenario.specs.Scenario.{Scenario, calls_in, frames_of_part, scenario_behind}
 use Rattle.cqf_program_plans.specs.Latency.Input.{asked_in}
 use Rattle.cqf_program_plans.proofs.CompileLemmas.{same_ok}
-use Rattle.cqf_program_runs.specs.Deliveries.PlannedScenario.{planned_scenario, planned_scenario_of}
+use Rattle.cqf_program_runs.specs.Deliveries.PlannedScenario.{planned_of_part, planned_scenario, planned_scenario_of}
 use Rattle.cqf_program_laws.specs.ScriptLaws.{AccountsAdmitOnly, AskOnly, HistoriesAdmitOnly, PlannedScenariosAskOnly, ScenariosAskOnly, ScriptsAskOnly}
 
 -- ---- steps of reading
@@ -189,8 +190,7 @@ made_calls texts d calls s h =
 
 pub scenarios_ask_only : ScenariosAskOnly
 scenarios_ask_only limits cycles texts s requests h streams =
-    let a = stepped {B = Scenario} (or_line domain_line (domain_within limits texts.domain))
-    (λ (d : Domain). and_then (calls_in cycles texts) (made_by texts d)) s h in
+    let a = stepped {B = Scenario} (domain_of_part limits texts.domain) (λ (d : Domain). and_then (calls_in cycles texts) (made_by texts d)) s h in
     let b = stepped {B = Scenario} (calls_in cycles texts) (made_by texts a.0) s a.2 in
     let e = stepped {B = List Called} (or_line streams_line (paced_of_text texts.streams)) (λ (found : List PacedText).
     or_line script_line (script_of (map asked_by found) cycles texts.script)) b.0 b.1 in
@@ -208,31 +208,39 @@ behind_ask cycles d streams texts s h =
     (scripts_ask_only streams cycles texts.script b.0 (lined script_line (script_of streams cycles texts.script) b.0 b.1))
 
 -- what is read of an input with its deadlines
-abbrev Read : Type 0
+abbrev pub Read : Type 0
 Read = Scenario × List PlannedText
 
-abbrev with_scenario : List PlannedText → Scenario → Result Read (List ℕ)
+abbrev pub with_scenario : List PlannedText → Scenario → Result Read (List ℕ)
 with_scenario found scenario = Ok (scenario, found)
 
-abbrev with_streams : ℕ → RunTexts → Domain → List PlannedText → Result Read (List ℕ)
+abbrev pub with_streams : ℕ → RunTexts → Domain → List PlannedText → Result Read (List ℕ)
 with_streams cycles texts d found = and_then (scenario_behind cycles d (asked_in found) texts) (with_scenario found)
 
--- what is read after the domain and the streams
-read_ask : (cycles : ℕ) (texts : RunTexts) (d : Domain) (found : List PlannedText) (s : Scenario) (read : Read) →
-    scenario_behind cycles d (asked_in found) texts ≡ Ok s → with_scenario found s ≡ Ok read → AskOnly (asked_in read.1) read.0.calls
-read_ask cycles texts d found s read h is =
-    let made : Read = (s, found) in
-    subst (λ (z : Read). AskOnly (asked_in z.1) z.0.calls) (same_ok made read is) (behind_ask cycles d (asked_in found) texts s h)
+abbrev pub with_network : ℕ → RunTexts → SketchDomain → Result Read (List ℕ)
+with_network cycles texts network = and_then (planned_of_part network texts.streams) (with_streams cycles texts (domain_of network))
+
+-- what is read of its parts
+pub record IsReadOf (limits : Limits) (cycles : ℕ) (texts : RunTexts) (read : Read) : Type 0 where
+  pub network : SketchDomain
+  pub is_network : network_of_part limits texts.domain ≡ Ok network
+  pub streams : planned_of_part network texts.streams ≡ Ok read.1
+  pub scenario : scenario_behind cycles (domain_of network) (asked_in read.1) texts ≡ Ok read.0
+
+pub read_of_parts : (limits : Limits) (cycles : ℕ) (texts : RunTexts) (read : Read) → planned_scenario_of limits cycles texts ≡ Ok read →
+    IsReadOf limits cycles texts read
+read_of_parts limits cycles texts read h =
+    let a = stepped {B = Read} (network_of_part limits texts.domain) (with_network cycles texts) read h in
+    let b = stepped {B = Read} (planned_of_part a.0 texts.streams) (with_streams cycles texts (domain_of a.0)) read a.2 in
+    let c = stepped {B = Read} (scenario_behind cycles (domain_of a.0) (asked_in b.0) texts) (with_scenario b.0) read b.2 in
+    let made : Read = (c.0, b.0) in
+    subst (IsReadOf limits cycles texts) (same_ok made read c.2) (record { network = a.0; is_network = a.1; streams = b.1; scenario = c.1 })
 
 planned_ask : (limits : Limits) (cycles : ℕ) (input : List ℕ) (read : Read) → planned_scenario limits cycles input ≡ Ok read → AskOnly (asked_in read.1) read.0.calls
 planned_ask limits cycles input read h =
     let t = stepped {B = Read} (run_parts (parts_of input)) (planned_scenario_of limits cycles) read h in
-    let texts : RunTexts = t.0 in
-    let a = stepped {B = Read} (or_line domain_line (domain_within limits texts.domain))
-    (λ (d : Domain). and_then (or_line streams_line (planned_of_text texts.streams)) (with_streams cycles texts d)) read t.2 in
-    let b = stepped {B = Read} (or_line streams_line (planned_of_text texts.streams)) (with_streams cycles texts a.0) read a.2 in
-    let c = stepped {B = Read} (scenario_behind cycles a.0 (asked_in b.0) texts) (with_scenario b.0) read b.2 in
-    read_ask cycles texts a.0 b.0 c.0 read c.1 c.2
+    let of = read_of_parts limits cycles t.0 read t.2 in
+    behind_ask cycles (domain_of of.network) (asked_in read.1) t.0 read.0 of.scenario
 
 pub planned_scenarios_ask_only : PlannedScenariosAskOnly
 planned_scenarios_ask_only limits cycles input s streams h = planned_ask limits cycles input (s, streams) h

@@ -6,3 +6,4 @@ pub mod ReaderLaws
 pub mod ToldPlans
 pub mod OutputLaws
 pub mod CostLaws
+pub mod TalkerLaws

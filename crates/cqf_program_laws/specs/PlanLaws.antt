@@ -1,5 +1,5 @@
 -- A written plan keeps its word: of a stream whose talker keeps its own word, no frame is lost and none is late.
-use Rattle.std.specs.Prelude.{ℕ, ◌≡◌, ◌⊎◌, ◌+◌, ◌<◌, ◌≤◌, List, [], All, Contains, false, map, Option, Some, Ok, option_map, slice_get, true}
+use Rattle.std.specs.Prelude.{ℕ, ◌≡◌, ◌⊎◌, ◌+◌, ◌<◌, ◌≤◌, List, [], All, Contains, false, map, Option, Some, Ok, true}
 use Rattle.std.specs.Option.{ForSome}
 use Rattle.cqf_model.specs.declared.frames.Background.{Background}
 use Rattle.cqf_model.specs.declared.frames.Offer.{Offer}
@@ -26,11 +26,8 @@ use Rattle.cqf_laws_timing.specs.LooseInTime.{IsHeardInTime}
 use Rattle.cqf_laws_timing.specs.LooseStreams.{IsLooseHistory}
 use Rattle.cqf_laws_timing.specs.Streams.{AdmitsOnly}
 use Rattle.cqf_laws_timing.specs.Traffic.{Conforms, IsTraffic, needed, offers_named}
-use Rattle.cqf_sketch.specs.declared.domain.TalkerLink.{TalkerLink}
-use Rattle.cqf_sketch.specs.SketchDomain.{SketchDomain}
 use Rattle.cqf_traffic.specs.FlowsText.{FlowText}
 use Rattle.cqf_traffic.specs.TrafficText.{TrafficText, promise_of}
-use Rattle.cqf_sketch.specs.StreamsText.{StreamText}
 use Rattle.cqf_program_scenario.specs.Books.{IsBookOfScenario}
 use Rattle.cqf_program_scenario.specs.Closing.{MayBeRun}
 use Rattle.cqf_program_scenario.specs.Opening.{opening_history}
@@ -40,7 +37,6 @@ use Rattle.cqf_program_plans.specs.declared.latency.latencies.Latency.{Latency}
 use Rattle.cqf_program_plans.specs.Compile.Output.{admitted_from}
 use Rattle.cqf_program_plans.specs.Latency.Text.{is_not_sure, latencies_of}
 use Rattle.cqf_program_offers.specs.OffersOutput.{asked_in}
-use Rattle.cqf_program_placing.specs.Settled.{SettledStream, deadline_behind, deadline_of_stream, open_domain, settled_of, taken_on, talker_of_stream}
 use Rattle.cqf_program_runs.specs.Deliveries.PlannedScenario.{planned_scenario, run_of_scenario}
 
 -- what each written plan has: its streams are all admitted before cycle 0, each reserves what its talker needs in a cycle, and no frame of
@@ -88,16 +84,11 @@ pub record ComesAsPromised (run : Run) (flows : List FlowText) (flow : FlowText)
   pub heard : (branch : Branch) → Contains flow.0.0.paths branch →
       IsHeardWithin run.domain (map asked_in flows) (asked_in flow) cycles book x branch since deadline
 
--- a plan keeps its word in the book of a run over `cycles` cycles: each promised frame arrives within the plan's deadline after its offer.
--- Moreover, let the plan's deadline be what is left of a wished one when the longest frame that the traffic allows is whole at its edge
--- bridge. Then the frame arrives within the wished deadline after the instant at which the talker begins to send it, either on a talker's
--- link, or at once if the talker is the edge bridge itself
-pub record PlanKeepsItsWord (run : Run) (flows : List FlowText) (cycles : ℕ) (book : Contents) : Type 0 where
-  pub from_edge : (flow : FlowText) (t : TrafficText) (x : Offered) (row : Row) → IsPromised run flows flow t x row →
-      ComesAsPromised run flows flow cycles book x row x.offer.at.0 flow.0.1
-  pub from_talker : (flow : FlowText) (t : TrafficText) (x : Offered) (row : Row) (talker : Option TalkerLink) (wished : Option ℕ) (sent : ℕ) →
-      IsPromised run flows flow t x row → deadline_behind (taken_on talker t.size) wished ≡ Ok flow.0.1 →
-      x.offer.at.0 ≡ sent + taken_on talker x.offer.octets → ComesAsPromised run flows flow cycles book x row sent wished
+-- a plan keeps its word in the book of a run over `cycles` cycles: each promised frame arrives within the plan's deadline after its offer
+abbrev pub PlanKeepsItsWord : Run → List FlowText → ℕ → Contents → Type 0
+PlanKeepsItsWord run flows cycles book =
+    (flow : FlowText) (t : TrafficText) (x : Offered) (row : Row) → IsPromised run flows flow t x row →
+    ComesAsPromised run flows flow cycles book x row x.offer.at.0 flow.0.1
 
 -- a plan keeps its word in the book of each history that admits streams of the plan alone, with any withdrawals, any offers of others and
 -- any background frames
@@ -107,25 +98,24 @@ PlansKeepTheirWord =
     IsKeptPlan d flows → IsBookOverList d (map asked_in flows) entries offers background cycles book →
     PlanKeepsItsWord (run_of_history d entries offers background cycles) flows cycles book
 
--- in a loose network the frame leaves on a link with this hop number as many cycles after its own cycle, and is whole at the link's end
--- within the plan's bounds; and within the plan's deadline, if there is one. The time runs from its offer, by the edge bridge's clock,
--- until it is whole, by the clock at the link's end
-pub record HearsWithin (d : Domain) (streams : List Asked) (asked : Asked) (net : Network) (heard : Carried) (x : Offered) (depth link : ℕ) (deadline : Option ℕ) :
-    Type 0 where
+-- in a loose network the frame leaves on a link with this hop number as many cycles after its own cycle, and is whole at the link's end, by the
+-- clock there, within the plan's bounds; and within the given deadline after an instant by the edge bridge's clock, if there is a deadline
+pub record HearsWithin (d : Domain) (streams : List Asked) (asked : Asked) (net : Network) (heard : Carried) (x : Offered) (depth link since : ℕ)
+    (deadline : Option ℕ) : Type 0 where
   pub hearing : IsHeardInTime d streams asked net heard x depth link
-  pub within : ForSome deadline (λ (most : ℕ). whole_at d link hearing.h ≤ x.offer.at.0 + most)
+  pub within : ForSome deadline (λ (most : ℕ). whole_at d link hearing.h ≤ since + most)
 
 -- the same at the listener of a branch, if the run is long enough
 pub record IsHeardLoosely (d : Domain) (streams : List Asked) (asked : Asked) (cycles : ℕ) (net : Network) (heard : Carried) (x : Offered) (branch : Branch)
-    (deadline : Option ℕ) : Type 0 where
+    (since : ℕ) (deadline : Option ℕ) : Type 0 where
   pub bridges : ℕ
   pub link : ℕ
   pub station : ℕ
   pub ends_at : EndsAtListener d branch bridges link station
-  pub hears : offer_cycle d x + bridges < cycles → HearsWithin d streams asked net heard x bridges link deadline
+  pub hears : offer_cycle d x + bridges < cycles → HearsWithin d streams asked net heard x bridges link since deadline
 
 -- in every loose network of such a history, with the slack that the domain states, each promised frame is heard at each of its stream's
--- listeners within the plan's deadline, if the talker keeps its word in all offers of the stream's name
+-- listeners within the plan's deadline after its offer, if the talker keeps its word in all offers of the stream's name
 abbrev pub PlansKeepTheirWordLoosely : Type 0
 PlansKeepTheirWordLoosely =
     (d : Domain) (flows : List FlowText) (entries : List Recorded) (offers : List Offer) (background : List Background) (cycles : ℕ) (net : Network)
@@ -133,7 +123,7 @@ PlansKeepTheirWordLoosely =
     AdmitsOnly (map asked_in flows) entries → (flow : FlowText) (t : TrafficText) (x : Offered) (row : Row) →
     IsPromised (run_of_history d entries offers background cycles) flows flow t x row → Conforms (promise_of t) (offers_named flow.0.0.name offers) →
     (branch : Branch) → Contains flow.0.0.paths branch →
-    IsHeardLoosely d (map asked_in flows) (asked_in flow) cycles net heard x branch flow.0.1
+    IsHeardLoosely d (map asked_in flows) (asked_in flow) cycles net heard x branch x.offer.at.0 flow.0.1
 
 -- a plan keeps its word in the book of each script over the plan
 abbrev pub PlansKeepTheirWordToScripts : Type 0
@@ -151,35 +141,3 @@ PlansKeepTheirWordOnThreads =
     IsKeptPlan s.domain flows → AreCommandsBehind s.calls s.sealer asked →
     IsAccountOf s.domain (opening_history s) s.offers s.background cycles asked entries book →
     PlanKeepsItsWord (run_of_history s.domain entries s.offers s.background cycles) flows cycles book
-
--- the deadline that is left when the longest frame is whole at its edge bridge is enough for each frame: if a frame is whole within it
--- after the instant at which the talker's link has brought it there, then it is whole within the wished deadline after the instant at which
--- the talker begins to send it
-abbrev pub DeadlinesRunFromTalkers : Type 0
-DeadlinesRunFromTalkers =
-    (talker : Option TalkerLink) (octets longest wished deadline sent at whole : ℕ) →
-    deadline_behind (taken_on talker longest) (Some wished) ≡ Ok (Some deadline) → octets ≤ longest → at ≡ sent + taken_on talker octets →
-    whole ≤ at + deadline → whole ≤ sent + wished
-
--- a settled stream has its name and its traffic from the network file, and its deadline is what is left of the network file's at its edge
--- bridge
-pub record IsOfSketch (sketch : SketchDomain) (stream : StreamText) (settled : SettledStream) : Type 0 where
-  pub name : settled.name ≡ stream.name
-  pub traffic : settled.traffic ≡ stream.traffic
-  pub deadline : deadline_of_stream sketch (open_domain sketch) stream ≡ Ok settled.deadline
-
--- each settled stream is so, at its index
-abbrev pub SettledStreamsAreOfSketches : Type 0
-SettledStreamsAreOfSketches =
-    (sketch : SketchDomain) (streams : List StreamText) (all : List SettledStream) (place : ℕ) (stream : StreamText) (settled : SettledStream) →
-    settled_of sketch streams ≡ Ok all → slice_get streams place ≡ Some stream → slice_get all place ≡ Some settled → IsOfSketch sketch stream settled
-
--- if a stream of a plan that keeps its word has its talker's promise and its deadline from a settled one, each promised frame arrives
--- within the network file's deadline after the instant at which the talker begins to send it
-abbrev pub DeadlinesOfSketchesAreKept : Type 0
-DeadlinesOfSketchesAreKept =
-    (sketch : SketchDomain) (stream : StreamText) (settled : SettledStream) (run : Run) (flows : List FlowText) (cycles : ℕ) (book : Contents)
-    (flow : FlowText) (t : TrafficText) (x : Offered) (row : Row) (sent : ℕ) → IsOfSketch sketch stream settled → flow.0.1 ≡ settled.deadline →
-    option_map promise_of flow.1 ≡ option_map promise_of settled.traffic → PlanKeepsItsWord run flows cycles book → IsPromised run flows flow t x row →
-    x.offer.at.0 ≡ sent + taken_on (talker_of_stream sketch (open_domain sketch) stream.way) x.offer.octets →
-    ComesAsPromised run flows flow cycles book x row sent stream.deadline

@@ -1,34 +1,52 @@
 -- What the text of a plan that `plan` writes ensures, if any cycle times that it is given are in their range.
-use Rattle.std.specs.Prelude.{ℕ, ◌≡◌, All, IfSome, List, Option, Ok, false}
+use Rattle.std.specs.Prelude.{ℕ, ◌≡◌, IfSome, List, Option, Ok, false}
 use Rattle.cqf_model.specs.declared.limits.Limits.{Limits}
 use Rattle.cqf_model.specs.Domain.{Domain}
+use Rattle.cqf_text.specs.Parts.{parts_of}
 use Rattle.cqf_topology.specs.DomainText.{IsDomain}
-use Rattle.cqf_sketch.specs.SketchDomain.{AreCandidates}
+use Rattle.cqf_sketch.specs.NetworkFlows.{NetworkFlowText, network_flows_of_text}
+use Rattle.cqf_sketch.specs.SketchDomain.{AreCandidates, SketchDomain}
 use Rattle.cqf_traffic.specs.FlowsText.{FlowText}
-use Rattle.cqf_plants.specs.Plants.{IsTellable, ReadsAsPlant}
+use Rattle.cqf_edge.specs.EdgeFlows.{EdgeFlowsText}
+use Rattle.cqf_program_plans.specs.Edges.{open_edges_of_part}
+use Rattle.cqf_program_scenario.specs.Networks.{domain_of, network_of_part}
+use Rattle.cqf_program_scenario.specs.Parts.{two_parts}
 use Rattle.cqf_program_sketch.specs.Choosing.{IsPlanned}
 use Rattle.cqf_program_sketch.specs.PlanOutput.{IsPlanOf, Sketched, sketch_input}
-use Rattle.cqf_program_laws.specs.PlanLaws.{IsKeptPlan}
+use Rattle.cqf_program_sketch.specs.ReadPlans.{ComeAsPlaced, IsShallow}
+use Rattle.cqf_program_laws.specs.TalkerLaws.{IsKeptNetwork}
 
--- a text that every command reads as a plan that keeps its word, within the given limits
-pub record ReadsAsKeptPlan (limits : Limits) (text : List ℕ) (d : Domain) (flows : List FlowText) : Type 0 where
-  pub limits_are : d.limits ≡ limits
-  pub domain : IsDomain d
-  pub tellable : All IsTellable flows
-  pub reads : ReadsAsPlant d flows text
-  pub kept : IsKeptPlan d flows
+-- a text that every command reads as a network with nothing left to choose, and with these streams at their edge bridges. Its domain is well-formed and
+-- has the given limits; no access link is full, and all streams keep the plan's word
+pub record ReadsAsKeptPlan (limits : Limits) (text : List ℕ) (network : SketchDomain) (found : List NetworkFlowText) (edge : EdgeFlowsText) : Type 0 where
+  pub is_network : network_of_part limits text ≡ Ok network
+  pub domain : IsDomain (domain_of network)
+  pub limits_are : network.limits ≡ limits
+  pub are_streams : network_flows_of_text text ≡ Ok found
+  pub part_is : open_edges_of_part network text ≡ Ok edge
+  pub kept : IsKeptNetwork network found edge
 
--- the plan that `plan` makes of a network file, and its text
+-- the plan that `plan` makes of a network file, and its text: its domain, and its streams as they were placed, with what remains of their deadlines
+-- at their edge bridges
 pub record HasKeptPlan (limits : Limits) (given : Option (List ℕ)) (input text : List ℕ) : Type 0 where
   pub sketched : Sketched
   pub is_input : sketch_input limits given input ≡ Ok sketched
   pub domain : Domain
   pub flows : List FlowText
   pub planned : IsPlanned sketched.domain sketched.streams domain flows
-  pub is_read : ReadsAsKeptPlan limits text domain flows
+  pub network : SketchDomain
+  pub found : List NetworkFlowText
+  pub edge : EdgeFlowsText
+  pub is_read : ReadsAsKeptPlan limits text network found edge
+  pub domain_is : domain_of network ≡ domain
+  pub as_placed : ComeAsPlaced domain.cycle_time sketched.streams flows edge.flows
 
--- each text that `plan` writes is so. Candidates for the cycle time that are given have to be in their range, and at least one and at most
--- 1,000
+-- the tables of the file aren't nested deeper than the reader of a written text allows
+abbrev pub AreShallow : List ℕ → Type 0
+AreShallow input = (domain streams : List ℕ) → two_parts (parts_of input) ≡ Ok (domain, streams) → IsShallow domain × IsShallow streams
+
+-- each text that `plan` writes is so, if its file's tables aren't nested too deep. Candidates for the cycle time that are given have to be in their
+-- range, and at least one and at most 1,000
 abbrev pub ToldPlansRun : Type 0
-ToldPlansRun = (limits : Limits) (given : Option (List ℕ)) (input text : List ℕ) → IfSome given AreCandidates →
+ToldPlansRun = (limits : Limits) (given : Option (List ℕ)) (input text : List ℕ) → IfSome given AreCandidates → AreShallow input →
     IsPlanOf limits false given input (Ok text) → HasKeptPlan limits given input text

@@ -1,4 +1,4 @@
--- What the verdicts of `latency` say about deliveries.
+-- What latencies from edge bridges, and the verdicts on them, say about deliveries. `latency` adds the times on access links (`OutputLaws`).
 use Rattle.std.specs.Prelude.{ℕ, ◌≡◌, ◌≢◌, ◌≤◌, List, [], true, Some, Ok, Contains}
 use Rattle.cqf_units.specs.declared.timing.Nanos.{Nanos}
 use Rattle.cqf_model.specs.declared.frames.Background.{Background}
@@ -52,12 +52,13 @@ abbrev pub AreAsJudged : List Latency → List Delivery → Type 0
 AreAsJudged latencies deliveries = (latency : Latency) (delivery : Delivery) → Contains latencies latency → Contains deliveries delivery →
     IsDeliveryTo latency delivery → IsAsJudged latency delivery
 
--- the latencies that `latency` writes for streams with their deadlines, if this is the history of their plan
+-- the latencies of streams from their edge bridges, with their deadlines from there, if this is the history of their plan. If no stream enters by an
+-- access link, `latency` writes these
 abbrev pub latencies_told : Domain → List Recorded → List PlannedText → List Latency
 latencies_told d plan streams = latencies_of d (held_in d plan 0) (deadlines_in streams)
 
--- if all streams of a plan are admitted, the deliveries in the book of each history that admits streams of the plan alone are as `latency`
--- says, with any other calls, any offers and any background frames
+-- if all streams of a plan are admitted, the deliveries in the book of each history that admits streams of the plan alone are as these
+-- latencies say, with any other calls, any offers and any background frames
 abbrev pub VerdictsHoldOfDeliveries : Type 0
 VerdictsHoldOfDeliveries =
     (d : Domain) (streams : List PlannedText) (plan entries : List Recorded) (offers : List Offer) (background : List Background) (cycles : ℕ)

@@ -11,12 +11,14 @@
 ghost use Rattle.cqf_program_laws.specs.CostLaws.{HeldCostsRepeat, ListedCostsRepeat};
 ghost use Rattle.cqf_program_laws.specs.OutputLaws.{DeliveriesAreAsWritten, RunsKeepToldPlans, ThreadsAreAsWritten, ThreadsKeepToldPlans};
 ghost use Rattle.cqf_program_laws.specs.OutputLaws.{WrittenLatenciesAreBounded, WrittenOffersCountOnce, WrittenRowsAddUp};
-ghost use Rattle.cqf_program_laws.specs.PlanLaws.{DeadlinesOfSketchesAreKept, DeadlinesRunFromTalkers, PlansKeepTheirWord};
-ghost use Rattle.cqf_program_laws.specs.PlanLaws.{PlansKeepTheirWordLoosely, PlansKeepTheirWordOnThreads, PlansKeepTheirWordToScripts, SettledStreamsAreOfSketches};
-ghost use Rattle.cqf_program_laws.specs.ReaderLaws.{FlowsArePlanned, PlannedScenariosAreScenarios, PlannedStreamsArePaced, ReadersAgreeOnParts, ScenariosMayBeRun};
+ghost use Rattle.cqf_program_laws.specs.PlanLaws.{PlansKeepTheirWord, PlansKeepTheirWordLoosely, PlansKeepTheirWordOnThreads, PlansKeepTheirWordToScripts};
+ghost use Rattle.cqf_program_laws.specs.ReaderLaws.{EdgesArePlanned, FlowsArePlanned, NetworkFlowsAreFlows, PlannedPartsArePaced};
+ghost use Rattle.cqf_program_laws.specs.ReaderLaws.{PlannedScenariosAreScenarios, PlannedStreamsArePaced, ReadersAgreeOnParts, ScenariosMayBeRun};
 ghost use Rattle.cqf_program_laws.specs.ScriptLaws.{AccountsAdmitOnly, HistoriesAdmitOnly, HistoriesAreLegal};
 ghost use Rattle.cqf_program_laws.specs.ScriptLaws.{PlannedScenariosAskOnly, ScenariosAskOnly, ScriptsAskOnly};
 ghost use Rattle.cqf_program_laws.specs.SummaryLaws.{EachListenerHasARow, EachOfferCountsOnce, LatenciesAreBounded, RowsAddUp};
+ghost use Rattle.cqf_program_laws.specs.TalkerLaws.{NetworksKeepTheirWord, NetworksKeepTheirWordLoosely, NetworksKeepTheirWordOnThreads};
+ghost use Rattle.cqf_program_laws.specs.TalkerLaws.{NetworksKeepTheirWordToScripts, WordsHoldFromTalkers};
 ghost use Rattle.cqf_program_laws.specs.ToldPlans.{ToldPlansRun};
 ghost use Rattle.cqf_program_laws.specs.VerdictLaws.{VerdictsHoldOfAccounts, VerdictsHoldOfDeliveries, VerdictsHoldOfScripts};
 
@@ -34,8 +36,8 @@ pub fn scripts_admit_only()
     cqf_laws_history::state_follows_history();
 }
 
-/// If `latency` says `in-time` for a stream and a listener, no delivery of a frame of that stream to that listener is late; if it says
-/// `late`, each delivery that has arrived is late. This holds in the book of each history that admits streams of the plan alone, as those
+/// If the verdict on the latency from a stream's edge bridge to a listener is `in-time`, no delivery of a frame of that stream to that listener is late; if
+/// it is `late`, each delivery that has arrived is late. This holds in the book of each history that admits streams of the plan alone, as those
 /// of a script over them do, on one thread and on threads, with any withdrawals, offers and background frames.
 pub fn told_verdicts_hold()
     ensures deliveries { VerdictsHoldOfDeliveries }
@@ -57,15 +59,20 @@ pub fn told_verdicts_hold()
 /// listeners within its deadline after its offer, if the run is long enough. The same holds in each script over the plan, on one thread and
 /// on threads.
 ///
-/// If the plan's deadline is what a talker's link leaves of the network file's, as it is for each stream that was settled, the frame is
-/// there within the network file's deadline after the instant at which the talker begins to send it.
+/// If no access link is full, and the streams make such a plan at their edge bridges, the network keeps its word from the hand-over.
+/// Take a station that hands frames of its streams to an access link as the file promises. The link sends them one after the other, in any order, and is
+/// never idle while one waits. Beside them at most one frame at a time of no promise is under way, which is no larger than the file allows. Each frame
+/// that is whole at its edge bridge in a cycle of its stream, while that is live, is covered. It is whole at each listener within the deadline
+/// that the file says after it was handed over, if the run is long enough. So it doesn't matter what the station's other streams, other stations and
+/// administrators do.
 pub fn told_plans_keep_their_word()
     ensures runs { PlansKeepTheirWord }
     ensures scripts { PlansKeepTheirWordToScripts }
     ensures accounts { PlansKeepTheirWordOnThreads }
-    ensures talkers { DeadlinesRunFromTalkers }
-    ensures settled { SettledStreamsAreOfSketches }
-    ensures sketches { DeadlinesOfSketchesAreKept }
+    ensures talkers { WordsHoldFromTalkers }
+    ensures networks { NetworksKeepTheirWord }
+    ensures network_scripts { NetworksKeepTheirWordToScripts }
+    ensures network_accounts { NetworksKeepTheirWordOnThreads }
 {
     scripts_admit_only();
     cqf_laws_history::state_follows_history();
@@ -73,18 +80,26 @@ pub fn told_plans_keep_their_word()
     cqf_laws_timing::branches_end_at_listeners();
     cqf_laws_timing::conforming_stream_is_covered();
     cqf_laws_timing::conforming_stream_is_in_time();
+    cqf_access::access_link_bounds_queueing();
+    cqf_access::edge_conforms_closer();
+    cqf_edge::streams_come_by_links();
 }
 
 /// The same holds in every loose network, in which clocks and delays vary within the bounds that the domain states. If all offers of a
 /// stream's name keep its talker's word, each of them in a cycle of the stream while it is live is whole at each of its listeners, by the
-/// clock there, within the plan's deadline after its offer by the edge bridge's clock, if the run is long enough.
+/// clock there, within the plan's deadline after its offer by the edge bridge's clock, if the run is long enough. If they come by an access link, each is
+/// there within the deadline that the file says after it was handed over, by the edge bridge's clock.
 pub fn told_plans_keep_their_word_loosely()
-    ensures { PlansKeepTheirWordLoosely }
+    ensures edges { PlansKeepTheirWordLoosely }
+    ensures talkers { NetworksKeepTheirWordLoosely }
 {
     cqf_laws_history::state_follows_history();
     cqf_laws_timing::lists_bound_costs();
     cqf_laws_timing::branches_end_at_listeners();
     cqf_laws_timing::conforming_stream_is_heard_in_time();
+    cqf_access::access_link_bounds_queueing();
+    cqf_access::edge_conforms_closer();
+    cqf_edge::streams_come_by_links();
 }
 
 /// The offers that a row of `summary` counts are as many as the delivered, late, dropped and under-way ones at the row's listener together.
@@ -122,32 +137,36 @@ pub fn summaries_are_within_bounds()
     cqf_program_runs::arrivals_are_the_shift();
 }
 
-/// What a command reads in a text, those that read fewer of its keys read there too. A streams text that is read with its deadlines is read without them as
-/// the same requests, so an input that `deliveries`, `check` and `summary` accept is accepted by `run`, `report` and `run --threads` as the
-/// same scenario. Each scenario that is accepted may be run: its domain is well-formed, there is room for its calls, its frames are frames
-/// of the domain, and its offers are in order.
+/// What a command reads in a text, those that read fewer of its keys read there too. A streams text that is read with its deadlines is read without
+/// them as the same requests, in a network with access links too. So an input that `deliveries`, `check` and `summary` accept is accepted by `run`,
+/// `report` and `run --threads` as the same scenario. Each scenario that is accepted may be run: its domain is well-formed, there is room for its calls,
+/// its frames are frames of the domain, and its offers are in order.
 pub fn readers_agree()
+    ensures talkers { NetworkFlowsAreFlows }
     ensures flows { FlowsArePlanned }
     ensures streams { PlannedStreamsArePaced }
+    ensures edges { EdgesArePlanned }
+    ensures paced { PlannedPartsArePaced }
     ensures parts { ReadersAgreeOnParts }
     ensures inputs { PlannedScenariosAreScenarios }
     ensures may_run { ScenariosMayBeRun }
 {}
 
-/// Each text that `plan` writes is read as its plan by every command, within the same limits. The plan's domain is well-formed, its streams
-/// are all admitted before cycle 0, each reserves as much as its talker needs in a cycle, and none may miss its deadline. So the laws about
-/// plans that keep their word need only that `plan` wrote the text, and that cycle times which it was given are in their range.
+/// Each text that `plan` writes is read by every command as a network with nothing left to choose, within the same limits. Its domain is well-formed,
+/// and no access link is full. Its streams are those that were placed, with the same deadlines at their edge bridges. They are all admitted before cycle 0,
+/// each reserves as much as its talker needs in a cycle, and none may miss its deadline. So the laws about plans that keep their word need only that
+/// `plan` wrote the text, that cycle times which it was given are in their range, and that its file's tables are nested no deeper than 80.
 pub fn told_plans_run()
     ensures { ToldPlansRun }
 {
-    cqf_plants::told_plants_read_back();
-    cqf_program_sketch::told_plan_is_admitted();
+    cqf_program_sketch::told_plans_read_back();
 }
 
 /// A plan keeps its word in each output of `run` and of `run --threads` whose input begins with a text, for its domain and its streams, that `plan`
-/// wrote within the same limits. Cycle times that `plan` was given are in their range; nothing else is required of the plan or of the scenario.
-/// Each frame that the plan promises is covered, and whole at each of its stream's listeners in time, if the run is long enough. A run has at
-/// most 100,000 cycles.
+/// wrote within the same limits. Cycle times that `plan` was given are in their range, and its file's tables are nested no deeper than 80; nothing else
+/// is required of the plan or of the scenario.
+/// Each frame that the plan promises is covered, and whole at each of its stream's listeners in time, if the run is long enough: from its offer at its
+/// edge bridge, and from its hand-over to an access link. A run has at most 100,000 cycles.
 pub fn outputs_keep_told_plans()
     ensures runs { RunsKeepToldPlans }
     ensures threads { ThreadsKeepToldPlans }
@@ -158,12 +177,14 @@ pub fn outputs_keep_told_plans()
 }
 
 /// What an output of `latency` says about a domain's text and its streams holds for each output of `deliveries` whose input begins with these
-/// texts: no delivery is late for which it says `in-time`, each one that arrives is late for which it says `late`, and each that is whole
-/// within the run takes no less than `least` and no more than `most`. A run of `deliveries` has at most 100,000 cycles. The same holds for the deliveries in the book of each output of `run --threads`.
+/// texts: no delivery is late for which it says `in-time`, and each one that arrives is late for which it says `late`. Each that is whole within the run
+/// takes no less than `least` and no more than `most` from the hand-over, if its access link took no less and no more than it may. A run of `deliveries`
+/// has at most 100,000 cycles. The same holds for the deliveries in the book of each output of `run --threads`.
 pub fn deliveries_are_as_written()
     ensures deliveries { DeliveriesAreAsWritten }
     ensures threads { ThreadsAreAsWritten }
 {
+    cqf_edge::streams_come_by_links();
     readers_agree();
     told_verdicts_hold();
 }

@@ -7,22 +7,23 @@ use Rattle.cqf_lists.specs.Results.{and_then}
 use Rattle.cqf_model.specs.Domain.{Domain}
 use Rattle.cqf_model.specs.History.{Asked}
 use Rattle.cqf_text.specs.Parts.{parts_of}
-use Rattle.cqf_topology.specs.DomainText.{domain_within}
 use Rattle.cqf_topology.specs.PlannedText.{planned_of_text}
 use Rattle.cqf_topology.specs.PacedText.{paced_of_text}
 use Rattle.cqf_admission.specs.Asking.{asked_by}
 use Rattle.cqf_admission.specs.Script.{script_of}
-use Rattle.cqf_traffic.specs.FlowsText.{FlowText, flows_of_text}
+use Rattle.cqf_traffic.specs.FlowsText.{FlowText}
 use Rattle.cqf_output.specs.Stops.{or_line}
 use Rattle.cqf_program_words.specs.Composing.{first_text, text_behind}
 use Rattle.cqf_program_words.specs.declared.words.Job.{Job}
 use Rattle.cqf_program_words.specs.declared.words.Job.TheVariants as job
 use Rattle.cqf_program_files.specs.Front.{begins_as_offers, cycles_of}
-use Rattle.cqf_program_scenario.specs.Lines.{domain_line, script_line, streams_line}
+use Rattle.cqf_program_scenario.specs.Lines.{script_line, streams_line}
+use Rattle.cqf_program_scenario.specs.Networks.{domain_of, network_of_part}
+use Rattle.cqf_sketch.specs.SketchDomain.{SketchDomain}
+use Rattle.cqf_program_plans.specs.Edges.{has_access}
 use Rattle.cqf_program_plans.specs.Compile.Output.{admitted_from}
 use Rattle.cqf_program_plans.specs.Latency.Input.{asked_in as asked_by_planned}
-use Rattle.cqf_program_offers.specs.OffersOutput.{asked_in, offered_of}
-use Rattle.cqf_program_plans.specs.Reserving.{flows_line}
+use Rattle.cqf_program_offers.specs.OffersOutput.{asked_in, flows_of_part, flows_of_parts, offered_of}
 
 -- the script that admits streams before cycle 0
 abbrev pub call_of : Asked → List ℕ
@@ -50,32 +51,38 @@ made_offers d cycles flows = offered_of d ((cycles - bridges_of flows) * d.cycle
 abbrev pub input_of : List ℕ → List (List ℕ) → List ℕ
 input_of first rest = first_text false first ++ flat_map text_behind rest
 
--- the streams of a part, with their deadlines read or not
-abbrev pub asked_of_part : Bool → List ℕ → Result (List Asked) (List ℕ)
-asked_of_part true text = and_then (or_line streams_line (planned_of_text text)) (λ streams. Ok (asked_by_planned streams))
-asked_of_part false text = and_then (or_line streams_line (paced_of_text text)) (λ streams. Ok (map asked_by streams))
+-- the requests for the streams of a part of a network. Where their deadlines are read and a station has an access link, they are read as they
+-- come to their edge bridges
+abbrev pub asked_at_edges : SketchDomain → List ℕ → Result (List Asked) (List ℕ)
+asked_at_edges network text = and_then (flows_of_part network text) (λ flows. Ok (map asked_in flows))
+
+abbrev pub asked_by_deadlines : List ℕ → Result (List Asked) (List ℕ)
+asked_by_deadlines text = and_then (or_line streams_line (planned_of_text text)) (λ streams. Ok (asked_by_planned streams))
+
+abbrev pub asked_of_part : SketchDomain → Bool → List ℕ → Result (List Asked) (List ℕ)
+asked_of_part network true text = if has_access network then asked_at_edges network text else asked_by_deadlines text
+asked_of_part network false text = and_then (or_line streams_line (paced_of_text text)) (λ streams. Ok (map asked_by streams))
 
 -- a plan alone: calls and offers are made
 abbrev pub with_both : Limits → ℕ → List ℕ → List ℕ → Result (List ℕ) (List ℕ)
 with_both limits cycles domain streams =
-    and_then (or_line domain_line (domain_within limits domain)) (λ d.
-    and_then (or_line flows_line (flows_of_text streams)) (λ flows.
-    and_then (made_calls d (map asked_in flows)) (λ script.
-    and_then (made_offers d cycles flows) (λ offers. Ok (input_of domain (streams ∷ script ∷ offers ∷ []))))))
+    and_then (flows_of_parts limits domain streams) (λ found.
+    and_then (made_calls found.0 (map asked_in found.1)) (λ script.
+    and_then (made_offers found.0 cycles found.1) (λ offers. Ok (input_of domain (streams ∷ script ∷ offers ∷ [])))))
 
 -- a plan and a script: offers are made
 abbrev pub with_offers : Limits → ℕ → List ℕ → List ℕ → List ℕ → Result (List ℕ) (List ℕ)
 with_offers limits cycles domain streams script =
-    and_then (or_line domain_line (domain_within limits domain)) (λ d.
-    and_then (or_line flows_line (flows_of_text streams)) (λ flows.
-    and_then (or_line script_line (script_of (map asked_in flows) cycles script)) (λ calls.
-    and_then (made_offers d cycles flows) (λ offers. Ok (input_of domain (streams ∷ script ∷ offers ∷ []))))))
+    and_then (flows_of_parts limits domain streams) (λ found.
+    and_then (or_line script_line (script_of (map asked_in found.1) cycles script)) (λ calls.
+    and_then (made_offers found.0 cycles found.1) (λ offers. Ok (input_of domain (streams ∷ script ∷ offers ∷ [])))))
 
--- the script that is made for a plan and offers, with or without a following part
+-- the script that is made for a network and the streams of a part for it; and for a plan and offers, with or without a following part
+abbrev pub calls_of_network : SketchDomain → Bool → List ℕ → Result (List ℕ) (List ℕ)
+calls_of_network network planned streams = and_then (asked_of_part network planned streams) (made_calls (domain_of network))
+
 abbrev pub calls_for : Limits → Bool → List ℕ → List ℕ → Result (List ℕ) (List ℕ)
-calls_for limits planned domain streams =
-    and_then (or_line domain_line (domain_within limits domain)) (λ d.
-    and_then (asked_of_part planned streams) (made_calls d))
+calls_for limits planned domain streams = and_then (network_of_part limits domain) (λ network. calls_of_network network planned streams)
 
 abbrev pub with_calls : Limits → Bool → List ℕ → List ℕ → List (List ℕ) → Result (List ℕ) (List ℕ)
 with_calls limits planned domain streams rest = and_then (calls_for limits planned domain streams) (λ script. Ok (input_of domain (streams ∷ script ∷ rest)))

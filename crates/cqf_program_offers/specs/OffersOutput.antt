@@ -7,29 +7,39 @@ use Rattle.cqf_model.specs.declared.limits.Limits.{Limits}
 use Rattle.cqf_model.specs.History.{Asked}
 use Rattle.cqf_model.specs.Limits.{rows_within}
 use Rattle.cqf_text.specs.Parts.{parts_of}
-use Rattle.cqf_topology.specs.DomainText.{domain_within}
 use Rattle.cqf_admission.specs.Asking.{asked_by}
 use Rattle.cqf_report.specs.Offers.{as_bridge}
-use Rattle.cqf_traffic.specs.FlowsText.{FlowText, flows_of_text}
+use Rattle.cqf_traffic.specs.FlowsText.{FlowText}
 use Rattle.cqf_traffic.specs.declared.senders.TalkerStream.{TalkerStream}
 use Rattle.cqf_traffic.specs.Offering.{frames_before, offers_before}
-use Rattle.cqf_output.specs.Stops.{fault_line, or_line}
-use Rattle.cqf_program_scenario.specs.Lines.{domain_line}
+use Rattle.cqf_output.specs.Stops.{fault_line}
+use Rattle.cqf_sketch.specs.SketchDomain.{SketchDomain}
+use Rattle.cqf_program_scenario.specs.Networks.{domain_of, network_of_part}
 use Rattle.cqf_program_scenario.specs.Parts.{two_parts}
+use Rattle.cqf_program_plans.specs.Edges.{open_edges_of_part}
 use Rattle.cqf_program_plans.specs.Load.Output.{listed_from}
-use Rattle.cqf_program_plans.specs.Reserving.{flows_line}
 use Rattle.cqf_program_offers.specs.OffersText.{offers_text}
 
 -- the line if too much is offered
 abbrev pub too_many_line : List ℕ
 too_many_line = fault_line (codes "offers") (codes "TooMany")
 
--- the domain and the streams of an input that is read within some limits; or the line of the first fault: of the parts, then of the domain,
--- then of the streams
+-- the streams of a part of a network as they come to their edge bridges, with the rest of their deadlines and the traffic that they have
+-- there; or the line of the part's first fault, or of the first access link that is full
+abbrev pub flows_of_part : SketchDomain → List ℕ → Result (List FlowText) (List ℕ)
+flows_of_part network text = and_then (open_edges_of_part network text) (λ edge. Ok edge.flows)
+
+-- the domain of a network and the streams of a part for it
+abbrev pub flows_of_network : SketchDomain → List ℕ → Result (Domain × List FlowText) (List ℕ)
+flows_of_network network streams = and_then (flows_of_part network streams) (λ flows. Ok (domain_of network, flows))
+
+-- the domain and the streams of two parts that are read within some limits, or the line of the first fault: of the domain, then of the streams
+abbrev pub flows_of_parts : Limits → List ℕ → List ℕ → Result (Domain × List FlowText) (List ℕ)
+flows_of_parts limits domain streams = and_then (network_of_part limits domain) (λ network. flows_of_network network streams)
+
+-- the domain and the streams of an input, or the line of the first fault: of the number of parts, then of the parts
 abbrev pub flows_input : Limits → List ℕ → Result (Domain × List FlowText) (List ℕ)
-flows_input limits input = and_then (two_parts (parts_of input)) (λ parts.
-    and_then (or_line domain_line (domain_within limits parts.0)) (λ domain.
-    and_then (or_line flows_line (flows_of_text parts.1)) (λ flows. Ok (domain, flows))))
+flows_input limits input = and_then (two_parts (parts_of input)) (λ parts. flows_of_parts limits parts.0 parts.1)
 
 -- the request of a stream
 abbrev pub asked_in : FlowText → Asked
@@ -40,7 +50,7 @@ abbrev pub first_name : List (List (List ℕ)) → Option (List ℕ)
 first_name [] = None
 first_name (path ∷ more) = slice_get path 0
 
--- a stream as its talker sees it: its edge bridge is the one with which its branches begin
+-- a stream as its talker sees it: its edge bridge is the one with which its branches begin, and its traffic is that at this bridge
 abbrev pub edge_of : Domain → List (List (List ℕ)) → ℕ
 edge_of d paths = unwrap_or (as_bridge (option_and_then (node_named d) (first_name paths))) 0
 

@@ -4,20 +4,22 @@ ghost use Rattle.std.specs.Option.{option_map_or};
 ghost use Rattle.cqf_admission.specs.Asking.{asked_paced};
 ghost use Rattle.cqf_admission.specs.Script.{script_of};
 ghost use Rattle.cqf_admission.specs.Orders.{ordered_in};
-ghost use Rattle.cqf_program_offers.specs.Made.{calls_for, input_of, is_planned, made_for, made_of_parts, with_both, with_calls, with_offers};
+ghost use Rattle.cqf_program_offers.specs.Made.{calls_for, calls_of_network, input_of, is_planned, made_for, made_of_parts};
+ghost use Rattle.cqf_program_offers.specs.Made.{with_both, with_calls, with_offers};
 ghost use Rattle.cqf_program_scenario.specs.Lines.{script_line};
 ghost use Rattle.cqf_output.specs.Stops.{EndsWith, IsRefused, or_line};
 
 use crate::calls::made_calls;
-use crate::flows_part;
 use crate::offers::made_offers;
 use crate::parts::{copied_requests, requests_part};
+use crate::reading::flows_of_parts;
 use cqf_admission::{Names, Ordered};
 use cqf_model::Limits;
 use cqf_output::Stop;
 use cqf_program_files::{begins_as_offers, cycles_of};
-use cqf_program_scenario::{domain_part, script_part};
+use cqf_program_scenario::{domain_of, network_part, script_part};
 use cqf_program_words::{Job, joined};
+use cqf_sketch::SketchDomain;
 use cqf_text::parts;
 use cqf_topology::PacedRequest;
 use std::alloc::Global;
@@ -54,8 +56,7 @@ fn with_both(
     ensures ok { IfOk result (λ made. with_both limits cycles domain.now streams.now ≡ Ok made.items) }
     ensures err { IfErr result (IsRefused (with_both limits cycles domain.now streams.now)) }
 {
-    let plan = domain_part(alloc, limits, domain)?;
-    let flows = flows_part(alloc, streams)?;
+    let (plan, flows) = flows_of_parts(alloc, limits, domain, streams)?;
     let requests = copied_requests(alloc, flows.as_slice())?;
     let script = made_calls(alloc, &plan, requests.as_slice())?;
     let offers = made_offers(alloc, &plan, cycles, flows.as_slice())?;
@@ -98,12 +99,26 @@ fn with_offers(
     ensures ok { IfOk result (λ made. with_offers limits cycles domain.now streams.now script.now ≡ Ok made.items) }
     ensures err { IfErr result (IsRefused (with_offers limits cycles domain.now streams.now script.now)) }
 {
-    let plan = domain_part(alloc, limits, domain)?;
-    let flows = flows_part(alloc, streams)?;
+    let (plan, flows) = flows_of_parts(alloc, limits, domain, streams)?;
     let requests = copied_requests(alloc, flows.as_slice())?;
     let _orders = check_script(alloc, cycles, requests.as_slice(), script)?;
     let offers = made_offers(alloc, &plan, cycles, flows.as_slice())?;
     input_of(alloc, domain, &[streams, script, offers.as_slice()])
+}
+
+/// Returns the script that is made for a network and the streams of a part for it.
+fn calls_of_network(
+    alloc: Global,
+    network: &SketchDomain,
+    planned: bool,
+    streams: &[u8],
+) -> Result<Vec<u8>, Stop>
+    ensures ok { IfOk result (λ script. calls_of_network network.now planned streams.now ≡ Ok script.items) }
+    ensures err { IfErr result (IsRefused (calls_of_network network.now planned streams.now)) }
+{
+    let requests = requests_part(alloc, network, planned, streams)?;
+    let domain = domain_of(alloc, network)?;
+    made_calls(alloc, &domain, requests.as_slice())
 }
 
 /// Returns the script that is made for a plan.
@@ -117,9 +132,8 @@ fn calls_for(
     ensures ok { IfOk result (λ script. calls_for limits planned domain.now streams.now ≡ Ok script.items) }
     ensures err { IfErr result (IsRefused (calls_for limits planned domain.now streams.now)) }
 {
-    let plan = domain_part(alloc, limits, domain)?;
-    let requests = requests_part(alloc, planned, streams)?;
-    made_calls(alloc, &plan, requests.as_slice())
+    let network = network_part(alloc, limits, domain)?;
+    calls_of_network(alloc, &network, planned, streams)
 }
 
 /// Returns a plan and offers, with calls.
@@ -237,9 +251,9 @@ fn made_of_parts(
 /// early that all arrive.
 ///
 /// # Errors
-/// With status 1 and the line of the first fault: of the domain; of the streams, and of their traffic if offers are made; of the script, or
-/// of the first stream that isn't admitted; of the first stream that is refused as by `load`; or `cqf: offers: TooMany`. With status 3 if
-/// an allocation fails.
+/// With status 1 and the line of the first fault: of the domain; of the streams; if offers are made or the job reads deadlines, of the first
+/// stream that doesn't enter the network as its text says, or of the first access link that is full; of the script, or of the first stream
+/// that isn't admitted; of the first stream that is refused as by `load`; or `cqf: offers: TooMany`. With status 3 if an allocation fails.
 pub fn made_input(
     alloc: Global,
     limits: Limits,

@@ -29,4 +29,3 @@ mod text;
 pub(crate) use command::offered_of;
 pub use command::offers_output;
 pub use completing::made_input;
-pub(crate) use reading::flows_part;

@@ -78,9 +78,9 @@ pub needed_few : (cycle_time : ℕ) (t : TrafficText) → cycle_time ≤ 1000000
 needed_few cycle_time t short inside =
     let intervals : ℕ = intervals_in cycle_time (promise_of t) in
     let some : intervals ≤ cycle_time + t.jitter + t.interval - 1 = div-le_self (cycle_time + t.jitter + t.interval - 1) t.interval in
-    let few : intervals ≤ 2010000000 = omega (arith, some, short, inside.jitter.most, inside.interval.most) in
-    let frames : intervals * t.frames ≤ 2010000000 * t.frames = mul-le-mul_right t.frames few in
-    let octets : intervals * t.frames * t.size ≤ 2010000000000 * t.size = mul-le-mul_right t.size (omega (arith, frames, inside.frames.most)) in
+    let few : intervals ≤ 5010000000 = omega (arith, some, short, inside.jitter.most, inside.interval.most) in
+    let frames : intervals * t.frames ≤ 5010000000 * t.frames = mul-le-mul_right t.frames few in
+    let octets : intervals * t.frames * t.size ≤ 5010000000000 * t.size = mul-le-mul_right t.size (omega (arith, frames, inside.frames.most)) in
     omega (arith, octets, inside.size.most)
 
 -- at least one frame of 64 octets is sent in a cycle

@@ -27,22 +27,12 @@ use Rattle.cqf_sketch.specs.StreamsText.{StreamText, WantedText, Along as AlongT
 use Rattle.cqf_admission.specs.Branches.{tree_refusal}
 use Rattle.cqf_program_placing.specs.declared.faults.PlanFault.TheVariants as fault
 use Rattle.cqf_program_placing.specs.Placing.{if_enough, reserved_by, reserved_on}
+use Rattle.cqf_program_placing.specs.Room.{AreListeners, IsReadStream}
 use Rattle.cqf_program_placing.specs.Settled.{Along, Between, SettledStream, SettledWay, are_reservable, entrance_at, first_apart, is_paced, settled_next, settled_way}
 use Rattle.cqf_program_placing.specs.Settled.{station_by_name, stations_by_name}
 use Rattle.cqf_program_placing.proofs.FirstBranches.{AreBranches, AreFew}
 use Rattle.cqf_program_placing.proofs.PlaceLemmas.{needed_least, reserved_there}
 use Rattle.cqf_program_placing.proofs.SettledLemmas.{and_first-Ok, entrance_there, settled_by, station_named_by}
-
--- some listeners, all different
-abbrev pub AreListeners : WantedText → Type 0
-AreListeners (AlongText paths) = Unit {0}
-AreListeners (BetweenText from to) = (0 < length to) × AllPairs (λ a b. a ≢ b) to
-
--- what a stream has that was read: requested octets, or traffic; traffic within its ranges; and listeners
-pub record IsReadStream (stream : StreamText) : Type 0 where
-  pub reserves : stream.octets ≡ None → stream.traffic ≡ None → ⊥
-  pub traffic : IfSome stream.traffic IsTrafficText
-  pub listeners : AreListeners stream.way
 
 -- from a bridge of the domain to some stations, all different
 pub record IsToStations (d : Domain) (bridge : ℕ) (stations : List ℕ) : Type 0 where

@@ -43,15 +43,14 @@ use Rattle.cqf_program_placing.specs.Placing.{names_along, reserved_on, turns_on
 use Rattle.cqf_program_placing.specs.Hops.{AreLeft, AreLeftBehind}
 use Rattle.cqf_program_placing.specs.Turns.{AreGoodTurns, IsChosenBy, IsLeastLoaded, IsPhaseAlong, IsPhaseOnTree, MayBeFirst, every_in, loads_with, pace_by, shares_with}
 use Rattle.cqf_program_placing.specs.Room.{ArePlacedByRoomFrom, HasNoRoom, HasRoomIn, HaveRoom, IsPlacedAlong, IsPlacedBetween, IsPlacedByRoom, IsPlacedOnWay, IsPlacedWith}
-use Rattle.cqf_program_placing.specs.Room.{MayBeWays, PlacedWhereThereIsRoom}
+use Rattle.cqf_program_placing.specs.Room.{IsReadStream, MayBeWays, PlacedWhereThereIsRoom}
 use Rattle.cqf_program_placing.specs.Settled.{Along, Between, SettledStream, SettledWay, settled_behind, settled_next}
 use Rattle.cqf_program_placing.proofs.Behind.{IsBehind, none_behind, one_behind}
 use Rattle.cqf_program_placing.proofs.FirstBranches.{AreBranches, AreFew, first_branches, first_enough, first_given, none_short, way_there}
 use Rattle.cqf_program_placing.proofs.Loads.{some_as_full}
 use Rattle.cqf_program_placing.proofs.Emptiest.{left_of_hop}
 use Rattle.cqf_program_placing.proofs.PlaceLemmas.{reserved_few, reserved_there}
-use Rattle.cqf_program_placing.proofs.ReadyStreams.{IsGoodWay, IsReadStream, IsReady, IsToStations, next_ready, reserved_least}
-use Rattle.cqf_program_placing.proofs.StreamsRead.{streams_read}
+use Rattle.cqf_program_placing.proofs.ReadyStreams.{IsGoodWay, IsReady, IsToStations, next_ready, reserved_least}
 use Rattle.cqf_program_placing.proofs.SettledLemmas.{and_first-Ok, next_stands}
 use Rattle.cqf_program_placing.proofs.Stepping.{is_good_pace, pace_is_good, turns_good}
 
@@ -447,9 +446,9 @@ module _ (goes_on : HistoryGoesOn) (counted : SealsAreCounted) (grants : Granted
 -- so the streams of a network file are
 pub placed_by_room : HistoryGoesOn → SealsAreCounted → GrantedIsHeld → RefusedChangesNothing → FirstWayIsOne → FirstWaysHaveNoLoop → FirstWaysPartForGood →
     PlacedWhereThereIsRoom
-placed_by_room goes_on counted grants refuses one_way no_loop parts sketch text texts streams cycle placed is_sketch room is_open read settled domain are =
+placed_by_room goes_on counted grants refuses one_way no_loop parts sketch texts streams cycle placed is_sketch room is_open read settled domain are =
     let good = is_sketch.domains cycle is_open in
     subst (λ (d : Domain). ArePlacedByRoomFrom d [] streams placed.outcomes placed.entries) (sym domain)
     (all_streams goes_on counted grants refuses one_way no_loop parts sketch is_sketch room cycle good [] texts streams [] placed.entries placed.outcomes
-    (none_behind (domain_at sketch cycle)) (streams_read text texts read) settled
+    (none_behind (domain_at sketch cycle)) read settled
     (subst (λ (d : Domain). ArePlacedFrom d [] streams placed.outcomes placed.entries) domain are))

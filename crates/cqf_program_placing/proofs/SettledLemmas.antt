@@ -8,6 +8,7 @@ use Rattle.std.specs.declared.alloc.Global.{Global}
 use Rattle.std.proofs.lemmas.List.{length-map}
 use Rattle.std.proofs.lemmas.List.Elements.{All-cons, All-contains, All-nil}
 use Rattle.cqf_lists.proofs.Members.{find_member}
+use Rattle.cqf_lists.specs.Results.{refuse}
 use Rattle.cqf_units.specs.Name.{is_name}
 use Rattle.cqf_model.specs.declared.history.Refused.TheVariants as refused
 use Rattle.cqf_model.specs.declared.topology.Node.{Node}
@@ -34,7 +35,7 @@ use Rattle.cqf_program_placing.specs.declared.settled.Unsettled.TheVariants as u
 use Rattle.cqf_program_placing.specs.Settled.{Along, Between, IsOnWay, IsPlaceable, SettledStream, SettledWay, are_reservable, deadline_behind}
 use Rattle.cqf_program_placing.specs.Settled.{deadline_of_stream, entrance_at, entrance_behind, first_apart, has_way, is_led, is_paced, open_domain, or_unsettled}
 use Rattle.cqf_program_placing.specs.Settled.{refusal_behind, settled_behind, settled_next, settled_of, settled_stream, settled_value, settled_way, station_at}
-use Rattle.cqf_program_placing.specs.Settled.{station_by_name, stations_by_name}
+use Rattle.cqf_program_placing.specs.Settled.{station_by_name, stations_by_name, wanted_stream}
 
 -- what is there was right
 or_unsettled-Ok : {A : Type 0} (name : List ℕ) (r : Result A PlanFault) (x : A) → or_unsettled name r ≡ Ok x → r ≡ Ok x
@@ -285,6 +286,16 @@ settled_more sketch d held held' stream rest done done' one is name holds more =
     (λ i. with_front (more i) (settled_behind sketch d (held_is i) rest))
     ∙ with_more done one (settled_behind sketch d (held ++ stream.name ∷ []) rest)
     ∙ ap (λ r. with_front done (and_first r (settled_behind sketch d (held ++ stream.name ∷ []) rest))) (sym is)
+
+-- a stream whose name has the form of one is settled by what is settled of it
+pub named_settled : (sketch : SketchDomain) (d : Domain) (before : List (List ℕ)) (stream : StreamText) (name : List ℕ) → stream.name ≡ name →
+    is_name name ≡ true → settled_next sketch d before stream ≡
+    or_unsettled name (settled_stream sketch d before (wanted_stream name stream.octets stream.pacing stream.way stream.deadline stream.traffic))
+named_settled sketch d before stream name same form =
+    ap (λ (b : Bool). refuse (if_so (not b)) (λ _. unsettled.BadName (length before + 1)) (or_unsettled stream.name (settled_stream sketch d before stream)))
+    (ap is_name same ∙ form)
+    ∙ ap (λ (n : List ℕ).
+    or_unsettled n (settled_stream sketch d before (wanted_stream n stream.octets stream.pacing stream.way stream.deadline stream.traffic))) same
 
 -- what is given is settled so
 pub given_are_placeable : (sketch : SketchDomain) (plant : Domain) (streams : List StreamText) (given : Result (Vec Settled Global) Unsettled) →

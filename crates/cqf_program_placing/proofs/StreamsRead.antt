@@ -1,6 +1,6 @@
 -- What is read of the streams of a network file's text.
 use Rattle.std.proofs.Common.{◌≡◌, ◌≢◌, ◌∙◌, ◌<◌, ℕ, Bool, true, false, ◌&&◌, ◌++◌, List, [], ◌∷◌, Option, Some, None, Result, Ok, Err, All, AllPairs}
-use Rattle.std.proofs.Common.{cond, find, is_none, length, ok_or, option_map, ap, arith, refl, subst, sym}
+use Rattle.std.proofs.Common.{IfSome, cond, find, is_none, length, ok_or, option_map, ap, arith, refl, subst, sym}
 use Rattle.std.specs.Prelude.{nat_le, option_and_then}
 use Rattle.std.specs.Option.{option_or}
 use Rattle.std.specs.Result.{result_map_both}
@@ -16,7 +16,7 @@ use Rattle.cqf_topology.specs.declared.keys.Key.TheVariants.{From, Name, Octets,
 use Rattle.cqf_topology.specs.Fields.{are_tables, each_from, first_absent, lacks, name_from, names_from, number_from, read_at, value_at, whole_document}
 use Rattle.cqf_topology.specs.DomainText.{first_taken}
 use Rattle.cqf_topology.specs.PlannedText.{deadline_from}
-use Rattle.cqf_topology.specs.StreamsText.{branches_from, streams_keys}
+use Rattle.cqf_topology.specs.StreamsText.{streams_keys}
 use Rattle.cqf_topology.proofs.Distinct.{first_taken-None}
 use Rattle.cqf_topology.proofs.Refusals.{and_then-Ok, ok_or-Ok, refuse-Ok}
 use Rattle.cqf_traffic.specs.declared.faults.FlowsFault.{FlowsFault}
@@ -25,10 +25,11 @@ use Rattle.cqf_traffic.specs.declared.keys.TrafficKey.{TrafficKey}
 use Rattle.cqf_traffic.specs.FlowsText.{or_streams, traffic_or}
 use Rattle.cqf_traffic.specs.TrafficText.{TrafficText, first_owed, has_traffic, numbers_from, traffic_from}
 use Rattle.cqf_plants.proofs.Ranges.{traffic_in_range}
-use Rattle.cqf_sketch.specs.StreamsText.{Along, Between, StreamText, WantedText, along_from, between_from, first_end, first_lack, first_lack_of, first_lack_within}
-use Rattle.cqf_sketch.specs.StreamsText.{has_path, if_listeners, listeners_by, listeners_of, octets_by, octets_from, owed_keys, pacing_from, sketch_streams_of_text, stream_from}
-use Rattle.cqf_sketch.specs.StreamsText.{streams_from, streams_in, streams_of_array, wanted_from}
-use Rattle.cqf_program_placing.proofs.ReadyStreams.{AreListeners, IsReadStream}
+use Rattle.cqf_sketch.specs.declared.talkers.Talker.{Talker}
+use Rattle.cqf_sketch.specs.StreamsText.{Along, Between, StreamText, WantedText, branches_if, first_lack, first_lack_of, first_lack_within, has_path, if_listeners}
+use Rattle.cqf_sketch.specs.StreamsText.{listeners_by, listeners_if, listeners_read, octets_by, octets_from, owed_keys, pacing_from, shortest_read, sketch_streams_of_text}
+use Rattle.cqf_sketch.specs.StreamsText.{stream_from, streams_from, streams_in, streams_of_array, talker_read, way_by}
+use Rattle.cqf_program_placing.specs.Room.{AreListeners, IsReadStream}
 use Rattle.cqf_program_placing.proofs.SettledLemmas.{and_first-Ok, found_none}
 
 -- what was read, before its faults are converted
@@ -73,9 +74,8 @@ listeners_in names to e = by (nat_le 1 (length names) && nat_le (length names) 6
     by false passes h = absurd cc
 
 -- the listeners that a value means
-listeners_read : (found : Option Data) (to : List (List ℕ)) → listeners_of found ≡ Ok to → (0 < length to) × AllPairs (λ a b. a ≢ b) to
-listeners_read None to e = absurd cc
-listeners_read (Some d) to e = by (as_array d) e
+those_read : (d : Data) (to : List (List ℕ)) → listeners_by (as_array d) d ≡ Ok to → (0 < length to) × AllPairs (λ a b. a ≢ b) to
+those_read d to e = by (as_array d) e
   where
     by : (items : Option Items) → listeners_by items d ≡ Ok to → (0 < length to) × AllPairs (λ a b. a ≢ b) to
     by None h =
@@ -84,23 +84,30 @@ listeners_read (Some d) to e = by (as_array d) e
         subst (λ (xs : List (List ℕ)). (0 < length xs) × AllPairs (λ a b. a ≢ b) xs) same (omega arith, pairs_one (λ (a b : List ℕ). a ≢ b) name)
     by (Some items) h = let (names, are, few) = and_then-Ok (names_from To items) if_listeners to h in listeners_in names to few
 
-module _ (table : Members) where
-  -- the path of a stream's table
-  wanted_read : (way : WantedText) → wanted_from table ≡ Ok way → AreListeners way
-  wanted_read way e = by (has_path table) e
-    where
-      by : (b : Bool) → cond b (along_from table) (between_from table) ≡ Ok way → AreListeners way
-      by true h =
-          let (paths, are, alone) = and_then-Ok (branches_from table) _ way h in
-          let parts = refuse-Ok (first_end table) toml_fault.BadValue (Ok (Along paths)) way alone in
-          let is : Along paths ≡ way = let made = parts.1 in cc in
-          subst AreListeners is tt
-      by false h =
-          let (from, at_from, h1) = and_then-Ok (read_at From name_from table) _ way h in
-          let (to, at_to, h2) = and_then-Ok (listeners_of (value_at To table)) _ way h1 in
-          let is : Between from to ≡ way = cc in
-          subst AreListeners is (listeners_read (value_at To table) to at_to)
+-- and those of a stream's table, if it has them
+abbrev AreApart : Option (List (List ℕ)) → Type 0
+AreApart listeners = IfSome listeners (λ to. (0 < length to) × AllPairs (λ a b. a ≢ b) to)
 
+any_read : (found : Option Data) (listeners : Option (List (List ℕ))) → listeners_if found ≡ Ok listeners → AreApart listeners
+any_read None listeners e = let none : None ≡ listeners = cc in subst AreApart none tt
+any_read (Some d) listeners e =
+    let (to, are, some) = and_then-Ok (listeners_by (as_array d) d) (λ names. Ok (Some names)) listeners e in
+    let same : Some to ≡ listeners = cc in
+    subst AreApart same (those_read d to are)
+
+-- the path of a stream, by its branches and its ends
+way_read : (paths : Option (List (List (List ℕ)))) (talker : Option Talker) (listeners : Option (List (List ℕ))) (way : WantedText) → AreApart listeners →
+    way_by paths talker listeners ≡ Ok way → AreListeners way
+way_read (Some paths) talker listeners way apart e = let is : Along paths ≡ way = cc in subst AreListeners is tt
+way_read None None listeners way apart e = absurd cc
+way_read None (Some talker) None way apart e = absurd cc
+way_read None (Some talker) (Some to) way apart e = let is : Between talker.node to ≡ way = cc in subst AreListeners is apart
+
+-- what was read is the stream
+stream_same : (x y : StreamText) → ◌≡◌ {A = Result StreamText FlowsFault} (Ok x) (Ok y) → x ≡ y
+stream_same x y e = cc
+
+module _ (table : Members) where
   -- ---- octets and traffic
 
   -- if the key of octets isn't lacked, octets are there
@@ -146,17 +153,31 @@ module _ (table : Members) where
   stream_read stream lack e =
       let (name, at_name, h1) = and_then-Ok (or_streams (read_at Name as_str table)) _ stream e in
       let (octets, at_octets, h2) = and_then-Ok (or_streams (octets_from table)) _ stream h1 in
-      let (pacing, at_pacing, p3) = and_then-Ok (pacing_from table) _ stream h2 in
-      let (way, at_way, h3) = and_then-Ok (or_streams (wanted_from table)) _ stream p3 in
-      let (deadline, at_deadline, h4) = and_then-Ok (or_streams (deadline_from table)) _ stream h3 in
-      let (traffic, at_traffic, h5) = and_then-Ok (traffic_or table) _ stream h4 in
-      let made : StreamText = record { name = name; octets = octets; pacing = pacing; way = way; deadline = deadline; traffic = traffic } in
-      let same : made ≡ stream = cc in
+      let (pacing, at_pacing, h3) = and_then-Ok (pacing_from table) _ stream h2 in
+      let (paths, at_paths, h4) = and_then-Ok (or_streams (branches_if table)) _ stream h3 in
+      let (talker, at_talker, h5) = and_then-Ok (or_streams (talker_read table)) _ stream h4 in
+      let (listeners, at_listeners, h6) = and_then-Ok (or_streams (listeners_read table)) _ stream h5 in
+      let (way, at_way, h7) = and_then-Ok (or_streams (way_by paths talker listeners)) _ stream h6 in
+      let (deadline, at_deadline, h8) = and_then-Ok (or_streams (deadline_from table)) _ stream h7 in
+      let (traffic, at_traffic, h9) = and_then-Ok (traffic_or table) _ stream h8 in
+      let (shortest, at_shortest, h10) = and_then-Ok (shortest_read traffic table) _ stream h9 in
+      let made : StreamText = record {
+        name = name;
+        octets = octets;
+        pacing = pacing;
+        way = way;
+        talker = talker;
+        listeners = listeners;
+        deadline = deadline;
+        traffic = traffic;
+        shortest = shortest;
+      } in
       let read : traffic_from table ≡ Ok traffic = traffic-Ok (traffic_from table) traffic at_traffic in
-      subst IsReadStream same (record {
+      let apart = any_read (value_at To table) listeners (or_streams-Ok (listeners_read table) listeners at_listeners) in
+      subst IsReadStream (stream_same made stream h10) (record {
         reserves = some_reserved octets traffic lack (or_streams-Ok (octets_from table) octets at_octets) read;
         traffic = traffic_in_range table traffic read;
-        listeners = wanted_read way (or_streams-Ok (wanted_from table) way at_way);
+        listeners = way_read paths talker listeners way apart (or_streams-Ok (way_by paths talker listeners) way at_way);
       })
 
 -- ---- all of them

@@ -1,5 +1,5 @@
 -- Streams are placed if there is room, in a planner's words.
-use Rattle.std.specs.Prelude.{ℕ, ◌≡◌, ◌≤◌, ◌<◌, ◌⊎◌, List, [], ◌∷◌, Contains, Result, Ok, Err, Some, length, map}
+use Rattle.std.specs.Prelude.{ℕ, ◌≡◌, ◌≢◌, ◌≤◌, ◌<◌, ◌⊎◌, ⊤, All, AllPairs, IfSome, List, [], ◌∷◌, Contains, Result, Ok, Err, Some, None, length, map}
 use Rattle.cqf_units.specs.Timing.{cost_of}
 use Rattle.cqf_model.specs.declared.history.Refused.TheVariants as refused
 use Rattle.cqf_model.specs.declared.limits.Limits.{Limits}
@@ -14,7 +14,8 @@ use Rattle.cqf_model.specs.Table.{links_in}
 use Rattle.cqf_admission.specs.Asking.{asked_with}
 use Rattle.cqf_topology.specs.NodeNames.{name_of_bridge}
 use Rattle.cqf_sketch.specs.SketchDomain.{IsOpenCycle, IsSketch, SketchDomain, domain_at}
-use Rattle.cqf_sketch.specs.StreamsText.{StreamText, sketch_streams_of_text}
+use Rattle.cqf_sketch.specs.StreamsText.{StreamText, WantedText, Along as AlongText, Between as BetweenText}
+use Rattle.cqf_traffic.specs.TrafficText.{IsTrafficText}
 use Rattle.cqf_sketch.specs.Listeners.{AreFirstWays, IsFirstWithout}
 use Rattle.cqf_sketch.specs.Ways.{has_room, most_links}
 use Rattle.cqf_program_plans.specs.EndNames.{name_of_end}
@@ -108,10 +109,22 @@ ArePlacedByRoomFrom d entries (stream ∷ streams) (become ∷ more) end =
 abbrev pub ArePlacedByRoom : List SettledStream → PlacedStreams → Type 0
 ArePlacedByRoom streams placed = ArePlacedByRoomFrom placed.domain [] streams placed.outcomes placed.entries
 
--- the settled streams of a network file's text are placed if there is room, on each cycle time that is open to its domain, if a branch may
--- have as many nodes as the longest path
+-- some listeners, all different; branches that are given have their own
+abbrev pub AreListeners : WantedText → Type 0
+AreListeners (AlongText paths) = ⊤
+AreListeners (BetweenText from to) = (0 < length to) × AllPairs (λ a b. a ≢ b) to
+
+-- what a stream has that is read from a network file, by its text and at its edge bridge: octets that it requests, or traffic; traffic in its
+-- ranges; and listeners
+pub record IsReadStream (stream : StreamText) : Type 0 where
+  pub reserves : stream.octets ≡ None → stream.traffic ≡ None → ⊥
+  pub traffic : IfSome stream.traffic IsTrafficText
+  pub listeners : AreListeners stream.way
+
+-- such streams that are settled are placed if there is room, on each cycle time that is open to their domain, if a branch may have as many
+-- nodes as the longest path
 abbrev pub PlacedWhereThereIsRoom : Type 0
 PlacedWhereThereIsRoom =
-    (sketch : SketchDomain) (text : List ℕ) (texts : List StreamText) (streams : List SettledStream) (cycle_time : ℕ) (placed : PlacedStreams) →
-    IsSketch sketch → MayBeWays sketch.limits → IsOpenCycle sketch cycle_time → sketch_streams_of_text text ≡ Ok texts → settled_of sketch texts ≡ Ok streams →
+    (sketch : SketchDomain) (texts : List StreamText) (streams : List SettledStream) (cycle_time : ℕ) (placed : PlacedStreams) →
+    IsSketch sketch → MayBeWays sketch.limits → IsOpenCycle sketch cycle_time → All IsReadStream texts → settled_of sketch texts ≡ Ok streams →
     placed.domain ≡ domain_at sketch cycle_time → ArePlaced streams placed → ArePlacedByRoom streams placed

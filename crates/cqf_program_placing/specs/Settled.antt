@@ -212,3 +212,19 @@ pub record IsPlaceable (d : Domain) (stream : SettledStream) : Type 0 where
   pub reservable : IsTrue (are_reservable stream.octets)
   pub paced : IsTrue (is_paced stream.pacing)
   pub some_deadline : ForSome stream.deadline (λ deadline. 1 ≤ deadline)
+
+-- ---- what inner functions need
+
+-- a stream by what is settled of it. Where its frames come from means nothing from its edge bridge on
+abbrev pub wanted_stream : List ℕ → Option ℕ → Pacing → WantedText → Option ℕ → Option TrafficText → StreamText
+wanted_stream name octets pacing way deadline traffic = record {
+  name = name;
+  octets = octets;
+  pacing = pacing;
+  way = way;
+  talker = None;
+  listeners = None;
+  deadline = deadline;
+  traffic = traffic;
+  shortest = None;
+}

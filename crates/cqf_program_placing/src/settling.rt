@@ -5,7 +5,7 @@ ghost use Rattle.cqf_model.specs.Limits.{most_streams};
 ghost use Rattle.cqf_sketch.specs.StreamsText.{stream_text, wanted_text};
 ghost use Rattle.cqf_topology.specs.Fields.{Gives};
 ghost use Rattle.cqf_program_placing.specs.Settled.{are_reservable, is_paced, or_unsettled, refusal_behind, settled_next, settled_stream, settled_value};
-ghost use Rattle.cqf_program_placing.specs.Settled.{IsPlaceable, deadline_behind, open_domain, settled_behind, settled_of, way_value, with_deadline};
+ghost use Rattle.cqf_program_placing.specs.Settled.{IsPlaceable, deadline_behind, open_domain, settled_behind, settled_of, wanted_stream, way_value, with_deadline};
 
 use crate::deadlines::{deadline_behind, longest_of, taken_on};
 use crate::entrances::{OpenSketch, find_talker};
@@ -111,7 +111,7 @@ fn settle_named(
 ) -> Result<Settled, Unsettled>
     requires { at.sketch.now.links ≡ at.plant.now.links }
     ensures { Gives Unsettled.Memory settled_value result (or_unsettled name.now (settled_stream at.entry.sketch.now at.entry.plant.now held.now.keys
-        (record { name = name.now; octets = terms.octets; pacing = terms.pacing; way = wanted_text way; deadline = terms.deadline; traffic = terms.traffic }))) }
+        (wanted_stream name.now terms.octets terms.pacing (wanted_text way) terms.deadline terms.traffic))) }
 {
     if !are_reservable(terms.octets) {
         return Err(unsettled(name, Refused::BadOctets));
@@ -193,6 +193,8 @@ fn settle_all(
 /// - `TooSoon` if nothing is left of its deadline when a frame is whole at its edge bridge. The frame has the size in the stream's traffic,
 ///   or without traffic the octets of its reservation, and at most 1,522. It takes the time of these octets and of 8 octets of preamble on
 ///   the talker's link, and that link's delay.
+///
+/// Nothing is taken off the deadline of a stream from a bridge, so streams may be given as they come to their edge bridges.
 ///
 /// `Memory` if an allocation fails.
 pub fn settle(

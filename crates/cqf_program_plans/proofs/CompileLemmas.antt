@@ -1,7 +1,6 @@
 -- Streams admitted in turn; each is held from cycle 0 on.
 use Rattle.std.proofs.Common.{◌≡◌, ◌≢◌, ◌⊎◌, ◌∙◌, ◌<◌, ◌+◌, ◌++◌, ℕ, true, List, [], ◌∷◌, Option, Some, None, Result, Ok, Err, length, map, arith, ap, subst}
 use Rattle.std.proofs.Common.{refl, sym, length-append, inl, inr}
-use Rattle.cqf_model.specs.declared.limits.Limits.{Limits}
 use Rattle.cqf_model.specs.declared.history.Receipt.{Receipt}
 use Rattle.cqf_model.specs.declared.history.Refused.{Refused}
 use Rattle.cqf_model.specs.declared.history.Refused.TheVariants.{BadName, BadOctets, BadPace, UnknownNode, BrokenPath, LoopingPath, NotATree, TooManyHops, NameHeld, TooManyStreams}
@@ -14,17 +13,15 @@ use Rattle.cqf_topology.specs.declared.paced.PacedRequest.{PacedRequest}
 use Rattle.cqf_laws_history.specs.StateLaws.{AreHeld, GrantedFindsRoom, GrantedIsHeld, HeldAreSound, HistoryGoesOn, SealsAreCounted, granted_row, with_entry}
 use Rattle.cqf_admission.specs.Admission.{Administration, Answers, is_entered}
 use Rattle.cqf_admission.specs.Asking.{asked_by, asked_paced}
-use Rattle.cqf_text.specs.Parts.{parts_of}
-use Rattle.cqf_topology.specs.DomainText.{domain_within}
 use Rattle.cqf_topology.specs.PacedText.{paced_text}
 use Rattle.cqf_lists.specs.Results.{and_then, refuse}
 use Rattle.cqf_output.specs.Stops.{EndsWith}
-use Rattle.cqf_program_plans.specs.Compile.Output.{AreAllHeld, admitted_from, compile_input, stream_line, with_asked}
-use Rattle.cqf_program_plans.specs.Reserving.{requests_in}
+use Rattle.cqf_program_plans.specs.Compile.Output.{AreAllHeld, admitted_from, plan_of_network, stream_line, with_asked}
+use Rattle.cqf_program_plans.specs.NetworkRequests.{requests_of_network}
 use Rattle.cqf_program_scenario.proofs.AskedTexts.{asked_texts}
-use Rattle.cqf_program_scenario.specs.Lines.{domain_line}
-use Rattle.cqf_program_scenario.specs.Parts.{two_parts}
-use Rattle.cqf_output.specs.Stops.{IsRefused, or_line}
+use Rattle.cqf_program_scenario.specs.Networks.{domain_of}
+use Rattle.cqf_output.specs.Stops.{IsRefused}
+use Rattle.cqf_sketch.specs.SketchDomain.{SketchDomain}
 use Rattle.cqf_output.specs.declared.stops.Stop.{Stop}
 
 -- what the answer to a request says of it
@@ -180,13 +177,10 @@ refused-ends old new asked refused place stop more all answers line memory =
     (λ there. refused_for (next_number old.domain old.entries) (seals old.entries) refused refusal (answers.due (entered_unless refused full there)))
     line memory
 
--- the domain and the streams that are read are the input's
-pub compile_input-is : (limits : Limits) (input domain_text streams_text : List ℕ) (domain : Domain) (requests : List PacedRequest) →
-    two_parts (parts_of input) ≡ Ok (domain_text, streams_text) → domain_within limits domain_text ≡ Ok domain →
-    requests_in domain streams_text ≡ Ok (map paced_text requests) → compile_input limits input ≡ Ok (domain, map asked_paced requests)
-compile_input-is limits input domain_text streams_text domain requests parts domain_is streams_are =
-    ap (λ found. and_then found (λ texts. and_then (or_line domain_line (domain_within limits texts.0))
-    (λ d. and_then (requests_in d texts.1) (λ read. Ok (d, map asked_by read))))) parts
-    ∙ ap (λ found. and_then (or_line domain_line found) (λ d. and_then (requests_in d streams_text) (λ read. Ok (d, map asked_by read)))) domain_is
-    ∙ ap (λ found. and_then found (λ read. Ok (domain, map asked_by read))) streams_are
-    ∙ ap (λ asked. Ok (domain, asked)) (asked_texts requests)
+-- the domain and the streams that are read are a network's
+pub plan_of_network-is : (network : SketchDomain) (text : List ℕ) (domain : Domain) (requests : List PacedRequest) → domain ≡ domain_of network →
+    requests_of_network network text ≡ Ok (map paced_text requests) → plan_of_network network text ≡ Ok (domain, map asked_paced requests)
+plan_of_network-is network text domain requests domain_is requests_are =
+    ap (λ found. and_then found (λ read. Ok (domain_of network, map asked_by read))) requests_are
+    ∙ ap (λ asked. Ok (domain_of network, asked)) (asked_texts requests)
+    ∙ ap (λ (d : Domain). Ok (d, map asked_paced requests)) (sym domain_is)

@@ -1,5 +1,5 @@
 -- What the streams of a table cost of each link, as sums by link and cycle.
-use Rattle.std.proofs.Common.{◌≡◌, ◌≢◌, ◌+◌, ◌-◌, ◌<◌, ◌≤◌, ◌^◌, ◌∙◌, ℕ, true, List, All, AllPairs, Contains, ap, arith, get_or, length, subst, take}
+use Rattle.std.proofs.Common.{◌≡◌, ◌≢◌, ◌+◌, ◌<◌, ◌≤◌, ◌^◌, ◌∙◌, ℕ, true, List, All, AllPairs, Contains, ap, arith, get_or, length, subst, take}
 use Rattle.std.proofs.lemmas.List.Elements.{All-map}
 use Rattle.std.proofs.lemmas.List.Sums.{sum_by_more, sum_by_more_le}
 use Rattle.cqf_lists.proofs.Pairs.{pairs_map}

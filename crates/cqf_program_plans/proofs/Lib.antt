@@ -11,3 +11,7 @@ pub mod LookedOver
 pub mod Found
 mod CostsByTurn
 mod LatencyLines
+mod AccessLoads
+mod LatencyBehind
+mod Steps
+mod LoadSteps

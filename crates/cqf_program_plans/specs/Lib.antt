@@ -6,3 +6,5 @@ pub mod Port
 pub mod EndNames
 pub mod Adding
 pub mod Reserving
+pub mod Edges
+pub mod NetworkRequests

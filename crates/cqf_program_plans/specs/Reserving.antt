@@ -5,9 +5,8 @@ use Rattle.cqf_lists.specs.Results.{and_then, refuse}
 use Rattle.cqf_laws_timing.specs.Traffic.{needed}
 use Rattle.cqf_model.specs.Domain.{Domain}
 use Rattle.cqf_topology.specs.PacedText.{PacedText}
-use Rattle.cqf_topology.specs.PlannedText.{PlannedText}
 use Rattle.cqf_traffic.specs.declared.faults.FlowsFault.{FlowsFault}
-use Rattle.cqf_traffic.specs.FlowsText.{FlowText, flows_fault_text, flows_of_text}
+use Rattle.cqf_traffic.specs.FlowsText.{FlowText, flows_fault_text}
 use Rattle.cqf_traffic.specs.PacedFlows.{PacedFlowText, paced_flows_of_text}
 use Rattle.cqf_traffic.specs.TrafficText.{TrafficText, promise_of}
 use Rattle.cqf_output.specs.Stops.{fault_line, line_of, or_line}
@@ -49,6 +48,6 @@ requests_in d text = and_then (or_line flows_line (paced_flows_of_text text)) (�
 abbrev pub planned_octets : FlowText → ℕ × Option TrafficText
 planned_octets flow = (flow.0.0.octets, flow.1)
 
-abbrev pub planned_in : Domain → List ℕ → Result (List PlannedText) (List ℕ)
-planned_in d text = and_then (or_line flows_line (flows_of_text text)) (λ flows.
-    refuse (first_lack d.cycle_time 1 (map planned_octets flows)) lack_line (Ok (map (λ (flow : FlowText). flow.0) flows)))
+-- those of streams that come to their edge bridges
+abbrev pub requests_at : Domain → List FlowText → Result (List PacedText) (List ℕ)
+requests_at d flows = refuse (first_lack d.cycle_time 1 (map planned_octets flows)) lack_line (Ok (map (λ (flow : FlowText). flow.0.0) flows))

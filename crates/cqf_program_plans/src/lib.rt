@@ -42,6 +42,7 @@
 #![tactic(auto)]
 
 mod compile;
+mod edges;
 mod latency;
 mod load;
 mod port;
@@ -50,13 +51,14 @@ mod row_costs;
 
 pub use compile::command::{compile_output, read_plan, rows_of_cycle_0, stream_stop};
 pub use compile::outputs::ConfigOutput;
+pub use edges::{edge_stop, edges_part, open_edges_part, refuse_full};
 pub use latency::command::latency_output;
 pub use latency::costs::link_costs;
 pub use latency::latencies::Latency;
 pub use latency::laws::{told_latencies_hold, told_latencies_hold_loosely};
 pub use latency::listeners::{latencies_of_rows, listener_at, most_to};
 pub use latency::outputs::LatencyOutput;
-pub use latency::reading::parted;
+pub use latency::reading::{parted, parted_flows};
 pub use latency::telling::put_deadline;
 pub use load::command::load_output;
 pub use load::laws::{greatest_fits, plan_fits};

@@ -1,5 +1,6 @@
 //! The command `load`: what links hold of the streams, and what they have left.
 
+pub(crate) mod access;
 pub(crate) mod command;
 pub(crate) mod laws;
 pub(crate) mod listing;

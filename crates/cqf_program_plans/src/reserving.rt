@@ -1,15 +1,18 @@
 //! Streams that are read with their traffic, and reserve what it needs.
 ghost use Rattle.std.specs.Prelude.{◌≡◌, ◌≢◌, ◌+◌, ◌<◌, ◌^◌, [], IfErr, IfOk, Ok, map, string_bytes};
 ghost use Rattle.cqf_output.specs.Stops.{EndsWith, IsRefused};
-ghost use Rattle.cqf_program_plans.specs.Reserving.{first_lack, flows_line, lack_at, lack_line, planned_in, planned_octets, requests_in, reserved_octets};
+ghost use Rattle.cqf_program_plans.specs.NetworkRequests.{requests_of_network};
+ghost use Rattle.cqf_program_plans.specs.Reserving.{first_lack, flows_line, lack_at, lack_line, planned_octets, requests_at, requests_in, reserved_octets};
+ghost use Rattle.cqf_program_scenario.specs.Networks.{domain_of};
 ghost use Rattle.cqf_topology.specs.PacedText.{paced_text};
-ghost use Rattle.cqf_topology.specs.PlannedText.{planned_text};
 ghost use Rattle.cqf_traffic.specs.FlowsText.{flow_text};
 ghost use Rattle.cqf_traffic.specs.PacedFlows.{paced_flow_text};
 
+use crate::edges::{has_access, open_edges_part};
 use cqf_output::{REFUSED, Stop};
-use cqf_topology::{Domain, PacedRequest, Planned, StreamsFault};
-use cqf_traffic::{Flow, FlowsFault, PacedFlow, Traffic, read_flows, read_paced_flows};
+use cqf_sketch::SketchDomain;
+use cqf_topology::{Domain, PacedRequest, StreamsFault};
+use cqf_traffic::{Flow, FlowsFault, PacedFlow, Traffic, read_paced_flows};
 use cqf_units::{Memory, Nanos};
 use std::alloc::Global;
 
@@ -112,18 +115,63 @@ fn requests_of(alloc: Global, flows: Vec<PacedFlow>) -> Result<Vec<PacedRequest>
     Ok(requests)
 }
 
-/// Returns streams with only their deadlines.
-fn planned_of(alloc: Global, flows: Vec<Flow>) -> Result<Vec<Planned>, Memory>
-    ensures { IfOk result (λ streams. map planned_text streams.items ≡ map (λ flow. flow.0) (map flow_text flows.items)) }
+/// Returns the requests of streams with deadlines.
+fn requests_of_flows(alloc: Global, flows: Vec<Flow>) -> Result<Vec<PacedRequest>, Memory>
+    ensures { IfOk result (λ requests. map paced_text requests.items ≡ map (λ flow. flow.0.0) (map flow_text flows.items)) }
 {
-    let mut streams = Vec::with_capacity(alloc, flows.len())?;
+    let mut requests = Vec::with_capacity(alloc, flows.len())?;
     for flow in flows {
-        streams.push(flow.planned)?;
+        requests.push(flow.planned.request)?;
     }
-    Ok(streams)
+    Ok(requests)
 }
 
-/// Reads the streams of a part for a domain. Each stream that has traffic reserves what its traffic needs in a cycle.
+/// Returns the requests of streams as they are at their edge bridges. Each reserves there what its traffic needs of a cycle.
+///
+/// # Errors
+/// With status 1 and the line of the first stream that reserves less. With status 3 if an allocation fails.
+pub(crate) fn requests_at(
+    alloc: Global,
+    domain: &Domain,
+    flows: Vec<Flow>,
+) -> Result<Vec<PacedRequest>, Stop>
+    ensures ok { IfOk result (λ requests. requests_at domain.now (map flow_text flows.items) ≡ Ok (map paced_text requests.items)) }
+    ensures err { IfErr result (IsRefused (requests_at domain.now (map flow_text flows.items))) }
+{
+    if let Some(lack) = first_planned_lack(domain.cycle_time(), flows.as_slice()) {
+        return Err(lack_stop(alloc, lack));
+    }
+    match requests_of_flows(alloc, flows) {
+        Ok(requests) => Ok(requests),
+        Err(_) => Err(Stop::memory(alloc)),
+    }
+}
+
+/// Returns the requests of a part for a network. Each stream that has traffic reserves what it needs of a cycle at its edge bridge.
+///
+/// # Errors
+/// With status 1 and the line of the first fault of the part, including its traffic; or of the first stream that doesn't enter the network as
+/// its text says; or of the first access link that is full; or else of the first stream that reserves less than its traffic needs. With
+/// status 3 if an allocation fails.
+pub(crate) fn requests_of_network(
+    alloc: Global,
+    network: &SketchDomain,
+    domain: &Domain,
+    text: &[u8],
+) -> Result<Vec<PacedRequest>, Stop>
+    requires { domain.now ≡ domain_of network.now }
+    ensures ok { IfOk result (λ requests. requests_of_network network.now text.now ≡ Ok (map paced_text requests.items)) }
+    ensures err { IfErr result (IsRefused (requests_of_network network.now text.now)) }
+{
+    if !has_access(network) {
+        return requests_in(alloc, domain, text);
+    }
+    let edge = open_edges_part(alloc, network, text)?;
+    requests_at(alloc, domain, edge.flows)
+}
+
+/// Returns the requests of a part for a domain whose stations have no access links. Each stream that has traffic reserves what it needs of a
+/// cycle. Deadlines aren't read.
 ///
 /// # Errors
 /// With status 1 and the line of the first fault of the part, including its traffic, or else of the first stream that reserves less than its
@@ -145,24 +193,6 @@ pub(crate) fn requests_in(
     }
     match requests_of(alloc, flows) {
         Ok(requests) => Ok(requests),
-        Err(_) => Err(Stop::memory(alloc)),
-    }
-}
-
-/// Reads the streams of a part for a domain with their deadlines, likewise.
-pub(crate) fn planned_in(alloc: Global, domain: &Domain, text: &[u8]) -> Result<Vec<Planned>, Stop>
-    ensures ok { IfOk result (λ streams. planned_in domain.now text.now ≡ Ok (map planned_text streams.items)) }
-    ensures err { IfErr result (IsRefused (planned_in domain.now text.now)) }
-{
-    let flows = match read_flows(alloc, text) {
-        Ok(flows) => flows,
-        Err(fault) => return Err(flows_stop(alloc, fault)),
-    };
-    if let Some(lack) = first_planned_lack(domain.cycle_time(), flows.as_slice()) {
-        return Err(lack_stop(alloc, lack));
-    }
-    match planned_of(alloc, flows) {
-        Ok(streams) => Ok(streams),
         Err(_) => Err(Stop::memory(alloc)),
     }
 }

@@ -2,6 +2,7 @@ pub mod PortLines
 pub mod ExactBooks
 pub mod Parts
 pub mod Lines
+pub mod Networks
 pub mod RunParts
 pub mod Scenario
 pub mod Calls

@@ -6,13 +6,13 @@ use Rattle.cqf_admission.specs.Faults.{script_fault_text}
 use Rattle.cqf_admission.specs.declared.faults.ScriptFault.{ScriptFault}
 use Rattle.cqf_output.specs.Stops.{fault_line}
 use Rattle.cqf_topology.specs.TomlFaults.{toml_fault_text}
-use Rattle.cqf_topology.specs.Faults.{domain_fault_text}
-use Rattle.cqf_topology.specs.declared.faults.DomainFault.{DomainFault}
+use Rattle.cqf_sketch.specs.Faults.{sketch_fault_text}
+use Rattle.cqf_sketch.specs.declared.faults.SketchFault.{SketchFault}
 use Rattle.cqf_topology.specs.declared.toml_faults.TomlFault.{TomlFault}
 
--- why a domain is refused
-abbrev pub domain_line : DomainFault → List ℕ
-domain_line fault = fault_line (codes "domain") (domain_fault_text fault)
+-- why the domain of a network is refused
+abbrev pub domain_line : SketchFault → List ℕ
+domain_line fault = fault_line (codes "domain") (sketch_fault_text fault)
 
 -- why streams are refused
 abbrev pub streams_line : TomlFault → List ℕ

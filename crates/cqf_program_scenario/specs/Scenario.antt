@@ -8,13 +8,13 @@ use Rattle.cqf_model.specs.Domain.{Domain}
 use Rattle.cqf_model.specs.History.{Asked}
 use Rattle.cqf_text.specs.Lines.{lines_of}
 use Rattle.cqf_text.specs.Parts.{parts_of}
-use Rattle.cqf_topology.specs.DomainText.{domain_within}
 use Rattle.cqf_topology.specs.PacedText.{paced_of_text}
 use Rattle.cqf_admission.specs.Asking.{asked_by}
 use Rattle.cqf_report.specs.BackgroundFrames.{background_frames_of}
 use Rattle.cqf_report.specs.Offers.{offers_of}
 use Rattle.cqf_admission.specs.Script.{Called, administrators, script_of}
-use Rattle.cqf_program_scenario.specs.Lines.{background_line, domain_line, offers_line, script_line, streams_line}
+use Rattle.cqf_program_scenario.specs.Networks.{domain_of_part}
+use Rattle.cqf_program_scenario.specs.Lines.{background_line, offers_line, script_line, streams_line}
 use Rattle.cqf_program_scenario.specs.Parts.{RunTexts, run_parts}
 use Rattle.cqf_output.specs.Stops.{or_line}
 
@@ -52,7 +52,7 @@ scenario_behind cycles d streams texts =
 -- the scenario of these parts over this number of cycles, or the line of their first fault: of the domain, then of the streams, the script,
 -- the offers and the background frames
 abbrev pub scenario_of : Limits → ℕ → RunTexts → Result Scenario (List ℕ)
-scenario_of limits cycles texts = and_then (or_line domain_line (domain_within limits texts.domain)) (λ d.
+scenario_of limits cycles texts = and_then (domain_of_part limits texts.domain) (λ d.
     and_then (calls_in cycles texts) (λ calls.
     and_then (frames_of_part d texts) (λ frames.
     Ok (record { domain = d; calls = calls; sealer = administrators (lines_of texts.script); offers = frames.0; background = frames.1 }))))

@@ -50,4 +50,6 @@ pub use outcomes::{ScenarioOutcome, outcome_of};
 pub use parts::{RunParts, one_part, run_parts, two_parts};
 pub use ports::put_starts_of_port;
 pub(crate) use readers::background_part;
-pub use readers::{domain_part, offers_part, planned_part, script_part, streams_part};
+pub use readers::{
+    domain_of, domain_part, network_part, offers_part, planned_part, script_part, streams_part,
+};

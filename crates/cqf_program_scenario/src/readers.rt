@@ -10,7 +10,7 @@ ghost use Rattle.cqf_admission.specs.declared.orders.Ordered.{Ordered as AnOrder
 ghost use Rattle.cqf_admission.specs.Orders.{StandsIn, ordered_in};
 ghost use Rattle.cqf_admission.specs.Script.{AreFew, script_of};
 ghost use Rattle.cqf_output.specs.Stops.{EndsWith, IsRefused, fault_line, or_line};
-ghost use Rattle.cqf_topology.specs.DomainText.{domain_within};
+ghost use Rattle.cqf_program_scenario.specs.Networks.{domain_of, domain_of_part, network_of_part};
 ghost use Rattle.cqf_topology.specs.PlannedText.{planned_of_text, planned_text};
 ghost use Rattle.cqf_topology.specs.PacedText.{paced_text, paced_of_text};
 ghost use Rattle.cqf_model.specs.Limits.{most_offers};
@@ -19,19 +19,20 @@ use cqf_admission::{Names, Ordered, ScriptFault, read_orders};
 use cqf_model::{Background, Limits, Offer};
 use cqf_output::Stop;
 use cqf_report::{TableFault, read_background, read_offers};
+use cqf_sketch::{SketchDomain, SketchFault};
 use cqf_topology::{
     Domain, DomainFault, PacedRequest, Planned, StreamsFault, read_paced_streams,
     read_planned_streams,
 };
 use std::alloc::Global;
 
-/// Returns the end of a command whose domain is refused.
-fn domain_stop(alloc: Global, fault: &DomainFault) -> Stop
-    ensures refused { fault.now ≢ DomainFault.Memory → EndsWith 1 (domain_line fault.now) result }
-    ensures memory { fault.now ≡ DomainFault.Memory → EndsWith 3 [] result }
+/// The end where the domain of a network is refused.
+fn domain_stop(alloc: Global, fault: &SketchFault) -> Stop
+    ensures refused { fault.now ≢ SketchFault.Domain DomainFault.Memory → EndsWith 1 (domain_line fault.now) result }
+    ensures memory { fault.now ≡ SketchFault.Domain DomainFault.Memory → EndsWith 3 [] result }
 {
     match fault {
-        DomainFault::Memory => Stop::memory(alloc),
+        SketchFault::Domain(DomainFault::Memory) => Stop::memory(alloc),
         _ => Stop::refused(alloc, "domain", fault),
     }
 }
@@ -69,16 +70,36 @@ fn table_stop(alloc: Global, part: &str, fault: TableFault) -> Stop
     }
 }
 
-/// Reads the domain of a part within some limits. Ends with status 1 and the line of its first fault, and with status 3 if an allocation
-/// fails.
-pub fn domain_part(alloc: Global, limits: Limits, text: &[u8]) -> Result<Domain, Stop>
-    ensures ok { IfOk result (λ domain. domain_within limits text.now ≡ Ok domain) }
-    ensures err { IfErr result (IsRefused (or_line domain_line (domain_within limits text.now))) }
+/// The network of a part that is read within some limits, whose cycle time isn't open. `Err` with status 1 and the line of its first fault,
+/// and with status 3 for want of memory.
+pub fn network_part(alloc: Global, limits: Limits, text: &[u8]) -> Result<SketchDomain, Stop>
+    ensures ok { IfOk result (λ network. network_of_part limits text.now ≡ Ok network) }
+    ensures err { IfErr result (IsRefused (network_of_part limits text.now)) }
 {
-    match Domain::read_within(alloc, text, limits) {
-        Ok(domain) => Ok(domain),
+    match SketchDomain::read_one(alloc, text, limits) {
+        Ok(network) => Ok(network),
         Err(fault) => Err(domain_stop(alloc, &fault)),
     }
+}
+
+/// The domain of a network whose cycle time isn't open: its bridges, and the links that begin at them. `Err` with status 3 for want of memory.
+pub fn domain_of(alloc: Global, network: &SketchDomain) -> Result<Domain, Stop>
+    ensures ok { IfOk result (λ domain. domain ≡ domain_of network.now) }
+    ensures err { IfErr result (EndsWith 3 []) }
+{
+    match network.at(alloc, network.open_cycle()) {
+        Ok(domain) => Ok(domain),
+        Err(_) => Err(Stop::memory(alloc)),
+    }
+}
+
+/// The domain of a part that is read within some limits. `Err` as [`network_part`].
+pub fn domain_part(alloc: Global, limits: Limits, text: &[u8]) -> Result<Domain, Stop>
+    ensures ok { IfOk result (λ domain. domain_of_part limits text.now ≡ Ok domain) }
+    ensures err { IfErr result (IsRefused (domain_of_part limits text.now)) }
+{
+    let network = network_part(alloc, limits, text)?;
+    domain_of(alloc, &network)
 }
 
 /// Reads the streams of a part. Ends as [`domain_part`] does.

@@ -34,7 +34,7 @@ use Rattle.cqf_program_sketch.specs.Judging.{first_late, first_unplaced, flow_of
 use Rattle.cqf_program_sketch.specs.PlanLaws.{AreTakenOver, IsTakenOver, ReservesEnough}
 
 -- a stream that is placed wasn't refused
-answered_placed : (d : Domain) (asked here : Asked) (refusal : Option Refused) → Placed here ≡ answered d asked refusal → (refusal ≡ None) × (here ≡ asked)
+pub answered_placed : (d : Domain) (asked here : Asked) (refusal : Option Refused) → Placed here ≡ answered d asked refusal → (refusal ≡ None) × (here ≡ asked)
 answered_placed d asked here None h = (refl, cc)
 answered_placed d asked here (Some refused) h = absurd (cc)
 
@@ -65,7 +65,7 @@ granted_routed d entries stream octets paths asked after reserves is =
     }
 
 -- what is placed isn't left out
-never_placed : {A : Type 0} (asked : Asked) (found : PlanFault) → Placed asked ≡ Unplaced found → A
+pub never_placed : {A : Type 0} (asked : Asked) (found : PlanFault) → Placed asked ≡ Unplaced found → A
 never_placed asked found h = absurd (cc)
 
 -- by its branches, if they are found

@@ -1,9 +1,10 @@
 -- Candidates that are judged one after the other, and the best of those that aren't good.
-use Rattle.std.proofs.Common.{◌≡◌, ◌∙◌, ℕ, ◌+◌, ◌≤◌, ◌<◌, ◌++◌, ◌∷◌, [], List, Bool, true, false, Option, Some, None, ap, arith, drop, get_or, if◌then◌else◌, length, refl, subst, suc, sym, take}
+use Rattle.std.proofs.Common.{◌≡◌, ◌∙◌, ℕ, ◌+◌, ◌≤◌, ◌<◌, ◌++◌, ◌∷◌, [], List, Bool, true, false, Option, Some, None, ap, arith, drop, get_or, if◌then◌else◌, length, refl, subst, subst₂, suc, sym, take}
 use Rattle.std.specs.Prelude.{All, IfSome, fold, nat_lt}
 use Rattle.std.proofs.lemmas.List.{drop_more, length-map, take-append-drop, take_more}
 use Rattle.std.proofs.lemmas.List.Elements.{All-nil, All-push}
 use Rattle.std.proofs.lemmas.List.Sums.{fold-append}
+use Rattle.cqf_model.specs.Domain.{Domain}
 use Rattle.cqf_sketch.specs.SketchDomain.{SketchDomain}
 use Rattle.cqf_program_placing.specs.Placing.{BeginsEarly, PlacedOr, outcome_value}
 use Rattle.cqf_program_placing.specs.Settled.{IsPlaceable, SettledStream, open_domain}
@@ -11,9 +12,11 @@ use Rattle.cqf_program_sketch.specs.declared.candidates.Candidate.{Candidate}
 use Rattle.cqf_program_sketch.specs.declared.choosing.Choice.TheVariants as choice
 use Rattle.cqf_program_sketch.specs.declared.trying.Tried.{Tried}
 use Rattle.cqf_program_sketch.specs.Choosing.{IsBad, best_of, better, line_of_best}
-use Rattle.cqf_program_sketch.specs.Judging.{AreJudgedBy, IsJudgedBy, flows_placed}
+use Rattle.cqf_program_sketch.specs.Judging.{AreJudgedBy, IsJudgedBy, first_late, first_unplaced, flows_placed, latencies_placed}
+use Rattle.cqf_program_sketch.specs.Steps.{AreTurned}
 use Rattle.cqf_program_sketch.specs.Trying.{AreBad, ComesOfAll, IsBadOn, IsGoodOn}
-use Rattle.cqf_program_sketch.proofs.TriedLemmas.{early_placed, length-placed}
+use Rattle.cqf_program_sketch.proofs.AllPlaced.{neither}
+use Rattle.cqf_program_sketch.proofs.TriedLemmas.{early_placed, length-placed, turned_placed}
 
 -- one more is judged
 judged_more : (sketch : SketchDomain) (streams : List SettledStream) (cycles : List ℕ) (told : List Candidate) (cycle_time : ℕ) (candidate : Candidate) →
@@ -122,6 +125,11 @@ module _ (sketch : SketchDomain) (streams : List SettledStream) (cycles : List �
         early = subst (λ (xs : List PlacedOr). All BeginsEarly xs) (sym by.outcomes_are)
             (early_placed there.placed.domain (open_domain sketch) [] streams there.placed.outcomes there.placed.entries placeable
             there.are_placed.placed_are);
+        turned = let good = ap (λ (x : Candidate). x.fault) (sym by.candidate_is) ∙ here.good in
+            let none = (neither (first_unplaced streams there.placed.outcomes) (first_late (latencies_placed streams there.placed)) good).0 in
+            subst₂ (λ (d : Domain) (xs : List PlacedOr). AreTurned streams (flows_placed d.cycle_time streams xs)) (sym by.domain_is) (sym by.outcomes_are)
+            (turned_placed there.placed.domain (open_domain sketch) [] streams there.placed.outcomes there.placed.entries placeable
+            there.are_placed.placed_are none);
       }
 
 -- if none is good, there is no plan

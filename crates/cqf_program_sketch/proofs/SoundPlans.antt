@@ -1,39 +1,25 @@
 -- A plan of a network file is sound.
-use Rattle.std.proofs.Common.{◌≡◌, ◌∙◌, ◌+◌, ◌≤◌, ℕ, suc, All, false, true, List, [], ◌∷◌, Option, Some, None, Ok, ap, arith, map, nat_lt, refl, subst, subst₂, sym}
+use Rattle.std.proofs.Common.{◌≡◌, ◌∙◌, ◌+◌, ◌≤◌, ℕ, suc, All, false, List, [], ◌∷◌, Option, Some, None, ap, arith, map, nat_lt, refl, subst, subst₂, sym}
 use Rattle.std.specs.Option.{ForSome, option_or}
 use Rattle.std.proofs.lemmas.Bool.{cond-false, le-ltb}
 use Rattle.std.proofs.lemmas.Simd.{map-map}
-use Rattle.std.specs.Prelude.{option_map}
-use Rattle.cqf_lists.specs.Results.{and_then, refuse}
 use Rattle.cqf_laws_history.specs.StateLaws.{SealsAreCounted}
 use Rattle.cqf_laws_timing.specs.Streams.{AreGranted}
 use Rattle.cqf_model.specs.Domain.{Domain}
-use Rattle.cqf_model.specs.History.{Asked, Recorded, held_in}
+use Rattle.cqf_model.specs.History.{Asked, held_in}
 use Rattle.cqf_sketch.specs.SketchDomain.{SketchDomain}
 use Rattle.cqf_traffic.specs.FlowsText.{FlowText}
 use Rattle.cqf_traffic.specs.TrafficText.{TrafficText, promise_of}
 use Rattle.cqf_laws_timing.specs.Traffic.{needed}
 use Rattle.cqf_program_plans.specs.Reserving.{first_lack, lack_at, planned_octets}
-use Rattle.cqf_program_plans.specs.Compile.Output.{admitted_from}
-use Rattle.cqf_program_plans.specs.Latency.Output.{latency_of_plan, unless_strict}
-use Rattle.cqf_program_plans.specs.Latency.Text.{first_not_sure, latencies_of, latency_text, not_sure_line}
+use Rattle.cqf_program_plans.specs.Latency.Text.{latencies_of}
 use Rattle.cqf_program_offers.specs.OffersOutput.{asked_in}
 use Rattle.cqf_program_placing.specs.Placing.{PlacedStreams}
 use Rattle.cqf_program_placing.specs.Settled.{SettledStream}
 use Rattle.cqf_program_sketch.specs.Choosing.{IsPlanned}
 use Rattle.cqf_program_sketch.specs.Judging.{deadlines_placed, first_late, first_unplaced, flow_of, flows_placed, latencies_placed, those_placed}
 use Rattle.cqf_program_sketch.specs.PlanLaws.{IsSoundPlan, ReservesEnough, ToldPlanIsAdmitted, deadlines_of}
-use Rattle.cqf_program_sketch.proofs.AllPlaced.{AreAllGranted, all_granted, all_in_time, neither, none_late}
-
--- the strict answer of `latency` for a plan that is admitted, if no frame may be late
-strict_ok : (d : Domain) (flows : List FlowText) (entries : List Recorded) → admitted_from d [] 1 (map asked_in flows) ≡ Ok entries →
-    first_late (latencies_of d (held_in d entries 0) (deadlines_of flows)) ≡ None →
-    latency_of_plan true d (map asked_in flows) (deadlines_of flows) ≡ Ok (latency_text d (held_in d entries 0) (deadlines_of flows))
-strict_ok d flows entries admitted in_time =
-    ap (λ found. and_then found (λ there. unless_strict true (first_not_sure d (held_in d there 0) (deadlines_of flows))
-    (latency_text d (held_in d there 0) (deadlines_of flows)))) admitted
-    ∙ ap (λ found. refuse (option_map not_sure_line found) (λ (first : List ℕ). first) (Ok (latency_text d (held_in d entries 0) (deadlines_of flows))))
-    (none_late (latencies_of d (held_in d entries 0) (deadlines_of flows)) in_time)
+use Rattle.cqf_program_sketch.proofs.AllPlaced.{AreAllGranted, all_granted, all_in_time, neither}
 
 -- a stream that reserves enough lacks nothing
 lacks_nothing : (cycle_time place octets : ℕ) (traffic : Option TrafficText) → ForSome traffic (λ (t : TrafficText). needed cycle_time (promise_of t) ≤ octets) →
@@ -44,7 +30,7 @@ lacks_nothing cycle_time place octets (Some t) enough =
     let no_less : nat_lt octets need ≡ false = le-ltb octets need (enough t refl) in
     cond-false (nat_lt octets need) _ None no_less
 
-none_lacks : (cycle_time place : ℕ) (flows : List FlowText) → All (ReservesEnough cycle_time) flows → first_lack cycle_time place (map planned_octets flows) ≡ None
+pub none_lacks : (cycle_time place : ℕ) (flows : List FlowText) → All (ReservesEnough cycle_time) flows → first_lack cycle_time place (map planned_octets flows) ≡ None
 none_lacks cycle_time place [] enough = refl
 none_lacks cycle_time place (flow ∷ flows) enough =
     let first : ReservesEnough cycle_time flow = enough 0 flow (omega arith) in
@@ -73,7 +59,6 @@ sound_of streams placed all in_time =
       enough = all.enough;
       none_lacks = none_lacks d.cycle_time 1 flows all.enough;
       in_time = all_in_time (latencies_of d (held_in d placed.entries 0) (deadlines_of flows)) there;
-      strict = strict_ok d flows placed.entries (all.admitted 1) there;
     }
 
 -- the streams of a plan are all granted

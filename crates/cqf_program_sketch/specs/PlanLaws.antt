@@ -1,23 +1,19 @@
 -- What each plan that is written ensures.
-use Rattle.std.specs.Prelude.{ℕ, ◌≡◌, ◌+◌, ◌*◌, ◌%◌, ◌≤◌, List, [], All, Contains, IfSome, Option, Some, None, Ok, false, length, map, option_map, slice_get, true}
+use Rattle.std.specs.Prelude.{ℕ, ◌≡◌, ◌+◌, ◌*◌, ◌%◌, ◌≤◌, List, [], All, IfSome, Option, Some, None, Ok, false, length, map, option_map, slice_get, true}
 use Rattle.std.specs.Option.{ForSome}
-use Rattle.cqf_laws_timing.specs.Traffic.{needed, offers_named}
-use Rattle.cqf_model.specs.declared.frames.Offer.{Offer}
+use Rattle.cqf_laws_timing.specs.Traffic.{needed}
 use Rattle.cqf_model.specs.declared.limits.Limits.{Limits}
-use Rattle.cqf_model.specs.Domain.{Domain, cycle_of}
-use Rattle.cqf_model.specs.History.{Recorded, held_in, pace_of}
-use Rattle.cqf_model.specs.Paces.{is_turn}
+use Rattle.cqf_model.specs.Domain.{Domain}
+use Rattle.cqf_model.specs.History.{Recorded, held_in}
 use Rattle.cqf_sketch.specs.declared.pacing.Pacing.TheVariants as pacing
 use Rattle.cqf_sketch.specs.SketchDomain.{AreCandidates, IsOpenCycle, SketchDomain}
 use Rattle.cqf_traffic.specs.FlowsText.{FlowText}
 use Rattle.cqf_traffic.specs.TrafficText.{TrafficText, promise_of}
-use Rattle.cqf_traffic.specs.Offering.{offers_before}
 use Rattle.cqf_program_plans.specs.Compile.Output.{admitted_from}
 use Rattle.cqf_program_plans.specs.declared.latency.latencies.Latency.{Latency}
-use Rattle.cqf_program_plans.specs.Latency.Output.{latency_of_plan}
-use Rattle.cqf_program_plans.specs.Latency.Text.{is_not_sure, latencies_of, latency_text}
+use Rattle.cqf_program_plans.specs.Latency.Text.{is_not_sure, latencies_of}
 use Rattle.cqf_program_plans.specs.Reserving.{first_lack, planned_octets}
-use Rattle.cqf_program_offers.specs.OffersOutput.{asked_in, sender_of}
+use Rattle.cqf_program_offers.specs.OffersOutput.{asked_in}
 use Rattle.cqf_program_placing.specs.Placing.{PlacedStreams, is_chosen_on, turns_on}
 use Rattle.cqf_program_placing.specs.Room.{ArePlacedByRoom, MayBeWays}
 use Rattle.cqf_program_placing.specs.Settled.{SettledStream}
@@ -57,7 +53,7 @@ abbrev pub ReservesEnough : ℕ → FlowText → Type 0
 ReservesEnough cycle_time flow = ForSome flow.1 (λ (t : TrafficText). needed cycle_time (promise_of t) ≤ flow.0.0.octets)
 
 -- a plan of all of these streams, in their order. Each is admitted before cycle 0, and reserves what its talker needs in a cycle, so none
--- is refused for less. No frame of theirs may miss its deadline, and `latency --strict` says so
+-- is refused for less. No frame of theirs may miss what is left of its deadline at its edge bridge
 pub record IsSoundPlan (streams : List SettledStream) (d : Domain) (flows : List FlowText) : Type 0 where
   pub taken_over : AreTakenOver d.cycle_time d.sync streams flows
   pub entries : List Recorded
@@ -65,23 +61,12 @@ pub record IsSoundPlan (streams : List SettledStream) (d : Domain) (flows : List
   pub enough : All (ReservesEnough d.cycle_time) flows
   pub none_lacks : first_lack d.cycle_time 1 (map planned_octets flows) ≡ None
   pub in_time : All (λ (latency : Latency). is_not_sure latency ≡ false) (latencies_of d (held_in d entries 0) (deadlines_of flows))
-  pub strict : latency_of_plan true d (map asked_in flows) (deadlines_of flows) ≡ Ok (latency_text d (held_in d entries 0) (deadlines_of flows))
 
 -- each plan of a network file is sound
 abbrev pub ToldPlanIsAdmitted : Type 0
 ToldPlanIsAdmitted =
     (sketch : SketchDomain) (streams : List SettledStream) (d : Domain) (flows : List FlowText) → IsPlanned sketch streams d flows →
     IsSoundPlan streams d flows
-
--- the offers of a plan's stream whose phase was chosen are in the cycles in which the stream reserves, for every seed and without one. This
--- holds by the talker's clock, and by the edge bridge's, which may differ from it by as much as the domain's `sync`
-abbrev pub ChosenStreamsComeInTurns : Type 0
-ChosenStreamsComeInTurns =
-    (sketch : SketchDomain) (streams : List SettledStream) (d : Domain) (flows : List FlowText) (place : ℕ) (stream : SettledStream) (flow : FlowText)
-    (until : ℕ) (seed : Option ℕ) (x : Offer) → IsPlanned sketch streams d flows → slice_get streams place ≡ Some stream →
-    slice_get flows place ≡ Some flow → is_chosen_on d.cycle_time stream ≡ true →
-    Contains (offers_named flow.0.0.name (offers_before until seed (map (sender_of d) flows))) x → (at : ℕ) → x.at.0 ≤ at + d.sync → at ≤ x.at.0 + d.sync →
-    is_turn (pace_of (asked_in flow)) 0 (cycle_of d at) ≡ true
 
 -- the streams of an input that is a network file are placed if there is room, on each cycle time that is open to it, if a branch may have
 -- as many nodes as the longest path

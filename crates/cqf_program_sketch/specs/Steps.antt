@@ -1,8 +1,8 @@
 -- The contracts of inner functions about streams, and about a candidate's line.
-use Rattle.std.specs.Prelude.{ℕ, ◌≤◌, List, [], ◌∷◌, All, Option, decimal, length, map}
+use Rattle.std.specs.Prelude.{ℕ, ◌≡◌, ◌<◌, ◌≤◌, List, [], ◌∷◌, All, Option, decimal, length, map}
 use Rattle.std.specs.Option.{option_map_or}
 use Rattle.cqf_model.specs.History.{Asked}
-use Rattle.cqf_model.specs.Limits.{most_streams}
+use Rattle.cqf_model.specs.Limits.{most_every, most_streams}
 use Rattle.cqf_sketch.specs.SketchDomain.{SketchDomain}
 use Rattle.cqf_traffic.specs.FlowsText.{FlowText}
 use Rattle.cqf_program_placing.specs.Placing.{PlacedOr, Placed, Unplaced}
@@ -18,6 +18,15 @@ use Rattle.cqf_program_sketch.specs.TableText.{slack_text, stream_of_slack}
 pub record AreSettled (sketch : SketchDomain) (streams : List SettledStream) : Type 0 where
   pub few : length streams ≤ most_streams
   pub placeable : All (IsPlaceable (open_domain sketch)) streams
+
+-- each of these streams has a flow, which is offered in one of some cycles
+pub record IsTurned (flow : FlowText) : Type 0 where
+  pub some : 0 < flow.0.0.every
+  pub few : flow.0.0.every ≤ most_every
+
+pub record AreTurned (streams : List SettledStream) (flows : List FlowText) : Type 0 where
+  pub each : length flows ≡ length streams
+  pub turned : All IsTurned flows
 
 -- a stream with its request, if it is placed; as the plan has it; and its deadline
 abbrev pub those_by : SettledStream → PlacedOr → List (SettledStream × Asked)

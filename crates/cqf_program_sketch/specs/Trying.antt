@@ -9,6 +9,7 @@ use Rattle.cqf_program_sketch.specs.declared.choosing.Choice.TheVariants as choi
 use Rattle.cqf_program_sketch.specs.declared.trying.Tried.{Tried}
 use Rattle.cqf_program_sketch.specs.Choosing.{IsBad, IsPlanned, IsUnplanned, best_of, line_of_best}
 use Rattle.cqf_program_sketch.specs.Judging.{ArePlacedAt, AreJudgedBy, IsJudgedBy, candidate_of, flows_placed}
+use Rattle.cqf_program_sketch.specs.Steps.{AreTurned}
 
 -- the verdict on streams that are placed, with their domain and the outcome for each
 pub record IsTriedBy (streams : List SettledStream) (placed : PlacedStreams) (tried : Tried) : Type 0 where
@@ -51,6 +52,7 @@ pub record IsPlannedOn (sketch : SketchDomain) (streams : List SettledStream) (t
   pub planned : IsPlanned sketch streams tried.domain (flows_placed tried.domain.cycle_time streams (map outcome_value tried.outcomes.items))
   pub each : length tried.outcomes.items ≡ length streams
   pub early : All BeginsEarly (map outcome_value tried.outcomes.items)
+  pub turned : AreTurned streams (flows_placed tried.domain.cycle_time streams (map outcome_value tried.outcomes.items))
 
 -- the choice after all candidates
 abbrev pub ComesOfAll : SketchDomain → List SettledStream → Choice → Type 0

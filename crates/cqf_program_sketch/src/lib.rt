@@ -19,7 +19,8 @@ mod table;
 mod trying;
 
 pub use laws::{
-    chosen_streams_come_in_turns, sketches_are_placed_where_there_is_room, told_plan_is_admitted,
+    chosen_streams_come_in_turns, plans_plan_themselves, sketches_are_placed_where_there_is_room,
+    told_plan_is_admitted, told_plans_read_back,
 };
 pub use plan_command::plan_output;
 pub use trying::judge;

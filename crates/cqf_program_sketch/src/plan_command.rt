@@ -1,26 +1,30 @@
 //! The command `plan`.
-ghost use Rattle.std.specs.Prelude.{◌≡◌, ◌≢◌, [], All, IfErr, IfOk, IfSome, Some, Ok, false, length, map, option_map, string_bytes};
+ghost use Rattle.std.specs.Prelude.{◌≡◌, ◌≢◌, [], All, IfErr, IfOk, IfSome, None, OnOk, Some, Ok, false, length, map, option_map, string_bytes};
+ghost use Rattle.cqf_program_plans.specs.Edges.{EndsAsFull, full_line};
 ghost use Rattle.cqf_program_plans.specs.Reserving.{flows_line};
+ghost use Rattle.cqf_edge.specs.EdgeStreams.{IsWrittenStream, edge_streams};
+ghost use Rattle.cqf_edge.specs.EdgeValues.{edge_streams_text};
 ghost use Rattle.cqf_program_placing.specs.Settled.{settled_of, settled_value};
 ghost use Rattle.cqf_output.specs.Stops.{EndsWith, IsRefused, or_line};
 ghost use Rattle.cqf_sketch.specs.SketchDomain.{AreCandidates, sketch_domain_of_text};
 ghost use Rattle.cqf_sketch.specs.StreamsText.{sketch_streams_of_text, stream_text};
 ghost use Rattle.cqf_program_placing.specs.Placing.{BeginsEarly, outcome_value};
-ghost use Rattle.cqf_plants.specs.Plants.{IsToldPlant};
 ghost use Rattle.cqf_program_sketch.specs.Choosing.{IsBad, line_of_best};
 ghost use Rattle.cqf_program_sketch.specs.Judging.{flows_placed};
 ghost use Rattle.cqf_program_sketch.specs.PlanOutput.{IsCandidatesText, IsPlanOf, IsPlanRefusal, IsPlanText, IsToldOf, IsToldRefusal};
-ghost use Rattle.cqf_program_sketch.specs.PlanOutput.{sketch_input, sketch_line, unsettled_line};
-ghost use Rattle.cqf_program_sketch.specs.Steps.{AreSettled};
+ghost use Rattle.cqf_program_sketch.specs.PlanOutput.{sketch_input, sketch_line, unentered_line, unsettled_line};
+ghost use Rattle.cqf_program_sketch.specs.Steps.{AreSettled, AreTurned};
+ghost use Rattle.cqf_program_sketch.specs.Writing.{IsTriedText, IsWritable, sketched_of};
 
 use crate::candidates::Candidate;
 use crate::choosing::{Choice, choose};
-use crate::plans::{flows_placed, line_of_best};
+use crate::plans::{choices_of, flows_placed, line_of_best};
 use crate::table::text_of_candidates;
 use crate::trying::{Tried, judge_all};
+use cqf_edge::{AccessTimes, EdgeFault, EdgeStreams, TalkerFault, edge_streams};
 use cqf_model::{Limits, Refused};
 use cqf_output::{REFUSED, Stop};
-use cqf_plants::write_plant;
+use cqf_plants::write_network;
 use cqf_program_placing::{PlanFault, Settled, Unsettled, settle};
 use cqf_program_plans::{flows_stop, stream_stop};
 use cqf_program_scenario::two_parts;
@@ -61,6 +65,7 @@ fn sketch_part(
 /// Returns the streams of a network file's part; `Err` likewise.
 fn wanted_part(alloc: Global, text: &[u8]) -> Result<Vec<Stream>, Stop>
     ensures ok { IfOk result (λ streams. sketch_streams_of_text text.now ≡ Ok (map stream_text streams.items)) }
+    ensures written { IfOk result (λ streams. All IsWrittenStream (map stream_text streams.items)) }
     ensures err { IfErr result (IsRefused (or_line flows_line (sketch_streams_of_text text.now))) }
 {
     match read_sketch_streams(alloc, text) {
@@ -108,47 +113,135 @@ fn settled_part(
     }
 }
 
-/// Returns the domain and the settled streams of the input, read within some limits. Returns `Err` with status 1 and the line of the first
-/// fault: of its parts, of the domain, of the streams, or of what no cycle time changes; with status 3 if an allocation fails.
+/// A network that is to be planned, with its streams settled as they come to their edge bridges.
+#[derive(Drop)]
+struct PlanInput<'t> {
+    domain: SketchDomain,
+    streams: Vec<Settled>,
+    /// How long the frames of each stream take to its edge bridge from the hand-over, if its talker is a station.
+    times: Vec<Option<AccessTimes>>,
+    domain_text: &'t [u8],
+    streams_text: &'t [u8],
+}
+
+/// Returns the line of a stream that doesn't enter the network as its text says.
+fn line_of_unentered(alloc: Global, name: &Name, fault: TalkerFault) -> Result<String, Memory>
+    ensures { IfOk result (λ line. string_bytes line ≡ unentered_line (EdgeFault.Talker name.now fault)) }
+{
+    let line = format!(in alloc; "cqf: plan: {name}: {fault}\n")?;
+    Ok(line)
+}
+
+/// Returns the end if the access link of a station is full.
+fn full_stop(alloc: Global, station: Name) -> Stop
+    ensures { EndsWith 1 (full_line station) result }
+{
+    Stop::refused(alloc, "network", &EdgeFault::AccessFull(station))
+}
+
+/// Returns the end if streams of a network file don't come to their edge bridges.
+fn unentered_stop(alloc: Global, fault: EdgeFault) -> Stop
+    ensures refused { fault ≢ EdgeFault.Memory → EndsWith 1 (unentered_line fault) result }
+    ensures memory { fault ≡ EdgeFault.Memory → EndsWith 3 [] result }
+{
+    match fault {
+        EdgeFault::Talker(name, found) => {
+            Stop::with_text(alloc, REFUSED, line_of_unentered(alloc, &name, found))
+        }
+        EdgeFault::AccessFull(station) => full_stop(alloc, station),
+        EdgeFault::Memory => Stop::memory(alloc),
+    }
+}
+
+/// Returns the streams of a network file as they come to their edge bridges. Returns `Err` with status 1 and the line of the first stream
+/// that doesn't enter the network as its text says; with status 3 if an allocation fails.
+fn edges_wanted(
+    alloc: Global,
+    network: &SketchDomain,
+    wanted: Vec<Stream>,
+) -> Result<EdgeStreams, Stop>
+    requires { All IsWrittenStream (map stream_text wanted.items) }
+    ensures ok { IfOk result (λ edge. edge_streams network.now (map stream_text wanted.items) ≡ Ok (edge_streams_text edge)) }
+    ensures err { IfErr result (IsRefused (or_line unentered_line (edge_streams network.now (map stream_text wanted.items)))) }
+{
+    match edge_streams(alloc, network, wanted) {
+        Ok(edge) => Ok(edge),
+        Err(fault) => Err(unentered_stop(alloc, fault)),
+    }
+}
+
+/// Refuses a network if one of its access links is full, with status 1 and the line of the first one's station.
+fn refuse_full(alloc: Global, full: Option<Name>) -> Result<(), Stop>
+    ensures ok { OnOk result (full ≡ None) }
+    ensures err { IfErr result (EndsAsFull full) }
+{
+    match full {
+        Some(station) => Err(full_stop(alloc, station)),
+        None => Ok(()),
+    }
+}
+
+/// Returns the domain and the settled streams of the input, read within some limits.
+///
+/// # Errors
+/// With status 1 and the line of the first fault: of its parts, of the domain, of the streams, of what no cycle time changes, or of the
+/// access links; with status 3 if an allocation fails.
 fn read_sketch(
     alloc: Global,
     limits: Limits,
     given: Option<Vec<u32>>,
     input: &[u8],
-) -> Result<(SketchDomain, Vec<Settled>), Stop>
+) -> Result<PlanInput<'_>, Stop>
     requires { IfSome given (λ cycles. AreCandidates cycles.items) }
-    ensures ok { let said = option_map (λ cycles. cycles.items) given in IfOk result (λ found.
-        sketch_input limits said input.now ≡ Ok (record { domain = found.0; streams = map settled_value found.1.items })) }
-    ensures settled { IfOk result (λ found. AreSettled found.0 (map settled_value found.1.items)) }
+    ensures ok { let said = option_map (λ cycles. cycles.items) given in IfOk result (λ found. sketch_input limits said input.now ≡ Ok (sketched_of found)) }
+    ensures settled { IfOk result (λ found. AreSettled found.domain (map settled_value found.streams.items)) }
     ensures err { let said = option_map (λ cycles. cycles.items) given in IfErr result (IsRefused (sketch_input limits said input.now)) }
 {
     let (domain_text, streams_text) = two_parts(alloc, input)?;
     let domain = sketch_part(alloc, limits, domain_text, given)?;
     let wanted = wanted_part(alloc, streams_text)?;
-    let streams = settled_part(alloc, &domain, wanted)?;
-    Ok((domain, streams))
+    let edge = edges_wanted(alloc, &domain, wanted)?;
+    let streams = settled_part(alloc, &domain, edge.streams)?;
+    refuse_full(alloc, edge.full)?;
+    Ok(PlanInput {
+        domain,
+        streams,
+        times: edge.times,
+        domain_text,
+        streams_text,
+    })
 }
 
 /// Returns the table of a network file's candidates.
-fn table_of(alloc: Global, sketch: &SketchDomain, streams: &[Settled]) -> Result<Vec<u8>, Memory>
-    requires { AreSettled sketch.now (map settled_value streams.now) }
-    ensures { IfOk result (λ text. IsCandidatesText (record { domain = sketch.now; streams = map settled_value streams.now }) text.items) }
+fn table_of(alloc: Global, given: &PlanInput<'_>) -> Result<Vec<u8>, Memory>
+    requires { AreSettled given.now.domain (map settled_value given.now.streams.items) }
+    ensures { IfOk result (λ text. IsCandidatesText (sketched_of given.now) text.items) }
 {
-    let told = judge_all(alloc, sketch, streams)?;
+    let streams = given.streams.as_slice();
+    let told = judge_all(alloc, &given.domain, streams)?;
     let text = text_of_candidates(alloc, streams.len(), told.as_slice())?;
     Ok(text)
 }
 
-/// Returns the text of the plan on a cycle time on which streams are placed.
-fn plant_of(alloc: Global, streams: &[Settled], tried: &Tried) -> Result<Vec<u8>, Memory>
-    requires each { length tried.now.outcomes.items ≡ length streams.now }
+/// Returns the text of the network with a cycle time on which all of its streams are placed.
+fn network_text(alloc: Global, given: &PlanInput<'_>, tried: &Tried) -> Result<Vec<u8>, Memory>
+    requires each { length tried.now.outcomes.items ≡ length given.now.streams.items }
     requires early { All BeginsEarly (map outcome_value tried.now.outcomes.items) }
-    ensures { let become = map outcome_value tried.now.outcomes.items in IfOk result (λ text.
-        IsToldPlant tried.now.domain (flows_placed tried.now.domain.cycle_time (map settled_value streams.now) become) text.items) }
+    requires turned { AreTurned (map settled_value given.now.streams.items) (flows_placed tried.now.domain.cycle_time (map settled_value given.now.streams.items) (map outcome_value tried.now.outcomes.items)) }
+    requires written { IsWritable (sketched_of given.now) }
+    ensures { IfOk result (λ text. IsTriedText (sketched_of given.now) tried.now text.items) }
 {
     let cycle_time = tried.domain.cycle_time();
+    let streams = given.streams.as_slice();
     let flows = flows_placed(alloc, streams, cycle_time, tried.outcomes.as_slice())?;
-    let text = write_plant(alloc, &tried.domain, flows.as_slice())?;
+    let filled = choices_of(alloc, streams, cycle_time, flows, given.times.as_slice())?;
+    let text = write_network(
+        alloc,
+        given.domain_text,
+        given.streams_text,
+        cycle_time.0 as u32,
+        filled.as_slice(),
+    )?;
     Ok(text.into_bytes())
 }
 
@@ -164,18 +257,19 @@ fn unplanned_stop(alloc: Global, count: usize, best: &Candidate) -> Stop
 ///
 /// # Errors
 /// With status 1 and the line that says why none of its candidates is good; with status 3 if an allocation fails.
-fn plan_of(alloc: Global, sketch: &SketchDomain, streams: &[Settled]) -> Result<Vec<u8>, Stop>
-    requires { AreSettled sketch.now (map settled_value streams.now) }
-    ensures ok { IfOk result (λ text. IsPlanText (record { domain = sketch.now; streams = map settled_value streams.now }) text.items) }
-    ensures err { IfErr result (IsToldRefusal false (record { domain = sketch.now; streams = map settled_value streams.now })) }
+fn plan_of(alloc: Global, given: &PlanInput<'_>) -> Result<Vec<u8>, Stop>
+    requires settled { AreSettled given.now.domain (map settled_value given.now.streams.items) }
+    requires written { IsWritable (sketched_of given.now) }
+    ensures ok { IfOk result (λ text. IsPlanText (sketched_of given.now) text.items) }
+    ensures err { IfErr result (IsToldRefusal false (sketched_of given.now)) }
 {
-    match choose(alloc, sketch, streams) {
-        Ok(Choice::Planned(tried)) => match plant_of(alloc, streams, &tried) {
+    match choose(alloc, &given.domain, given.streams.as_slice()) {
+        Ok(Choice::Planned(tried)) => match network_text(alloc, given, &tried) {
             Ok(text) => Ok(text),
             Err(_) => Err(Stop::memory(alloc)),
         },
         Ok(Choice::Unplanned(best)) => {
-            Err(unplanned_stop(alloc, sketch.candidates().len(), &best))
+            Err(unplanned_stop(alloc, given.domain.candidates().len(), &best))
         }
         Err(_) => Err(Stop::memory(alloc)),
     }
@@ -185,20 +279,16 @@ fn plan_of(alloc: Global, sketch: &SketchDomain, streams: &[Settled]) -> Result<
 ///
 /// # Errors
 /// As [`plan_of`]; for the table, only with status 3 if an allocation fails.
-fn told_of(
-    alloc: Global,
-    table: bool,
-    sketch: &SketchDomain,
-    streams: &[Settled],
-) -> Result<Vec<u8>, Stop>
-    requires { AreSettled sketch.now (map settled_value streams.now) }
-    ensures ok { IfOk result (λ text. IsToldOf table (record { domain = sketch.now; streams = map settled_value streams.now }) (Ok text.items)) }
-    ensures err { IfErr result (IsToldRefusal table (record { domain = sketch.now; streams = map settled_value streams.now })) }
+fn told_of(alloc: Global, table: bool, given: &PlanInput<'_>) -> Result<Vec<u8>, Stop>
+    requires settled { AreSettled given.now.domain (map settled_value given.now.streams.items) }
+    requires written { IsWritable (sketched_of given.now) }
+    ensures ok { IfOk result (λ text. IsToldOf table (sketched_of given.now) (Ok text.items)) }
+    ensures err { IfErr result (IsToldRefusal table (sketched_of given.now)) }
 {
     if !table {
-        return plan_of(alloc, sketch, streams);
+        return plan_of(alloc, given);
     }
-    match table_of(alloc, sketch, streams) {
+    match table_of(alloc, given) {
         Ok(text) => Ok(text),
         Err(_) => Err(Stop::memory(alloc)),
     }
@@ -222,6 +312,6 @@ pub fn plan_output(
     ensures ok { IfOk result (λ text. IsPlanOf limits table (option_map (λ cycles. cycles.items) given) input.now (Ok text.items)) }
     ensures err { IfErr result (IsPlanRefusal limits table (option_map (λ cycles. cycles.items) given) input.now) }
 {
-    let (sketch, streams) = read_sketch(alloc, limits, given, input)?;
-    told_of(alloc, table, &sketch, streams.as_slice())
+    let found = read_sketch(alloc, limits, given, input)?;
+    told_of(alloc, table, &found)
 }

@@ -9,12 +9,12 @@ use Rattle.cqf_model.specs.declared.limits.Limits.{Limits}
 use Rattle.cqf_model.specs.Domain.{Domain}
 use Rattle.cqf_model.specs.History.{Asked}
 use Rattle.cqf_topology.specs.declared.paced.PacedRequest.{PacedRequest}
-use Rattle.cqf_topology.specs.DomainText.{domain_within}
 use Rattle.cqf_topology.specs.PacedText.{PacedText, paced_of_text, paced_text}
 use Rattle.cqf_admission.specs.Asking.{asked_by, asked_paced}
 use Rattle.cqf_output.specs.declared.stops.Stop.{Stop}
 use Rattle.cqf_output.specs.Stops.{IsRefused, fault_line, or_line}
-use Rattle.cqf_program_scenario.specs.Lines.{domain_line, streams_line}
+use Rattle.cqf_program_scenario.specs.Lines.{streams_line}
+use Rattle.cqf_program_scenario.specs.Networks.{domain_of_part}
 use Rattle.cqf_program_scenario.specs.Parts.{RunTexts}
 use Rattle.cqf_program_scenario.specs.Scenario.{Scenario, scenario_behind}
 use Rattle.cqf_program_scenario.proofs.AskedTexts.{asked_texts}
@@ -37,7 +37,7 @@ passed-on (Ok v) fault P passed h = absurd passed
 passed-on (Err e) fault P passed h = subst P (sym passed) h
 
 module _ (limits : Limits) (cycles : ℕ) (texts : RunTexts) (d : Domain) (requests : List PacedRequest)
-    (domain : domain_within limits texts.domain ≡ Ok d) (read : paced_of_text texts.streams ≡ Ok (map paced_text requests)) where
+    (domain : domain_of_part limits texts.domain ≡ Ok d) (read : paced_of_text texts.streams ≡ Ok (map paced_text requests)) where
   abbrev with_scenario : List Asked → Scenario → Result (Scenario × List Asked) (List ℕ)
   with_scenario streams scenario = Ok (scenario, streams)
 
@@ -48,7 +48,7 @@ module _ (limits : Limits) (cycles : ℕ) (texts : RunTexts) (d : Domain) (reque
       let with_asked : Domain → List Asked → Result (Scenario × List Asked) (List ℕ) =
       λ d streams. and_then (scenario_behind cycles d streams texts) (with_scenario streams) in
       let with_streams : Domain → List PacedText → Result (Scenario × List Asked) (List ℕ) = λ d found. with_asked d (map asked_by found) in
-      ap (λ found. and_then (or_line domain_line found) (λ d. and_then (or_line streams_line (paced_of_text texts.streams)) (with_streams d))) domain
+      ap (λ found. and_then found (λ d. and_then (or_line streams_line (paced_of_text texts.streams)) (with_streams d))) domain
       ∙ ap (λ found. and_then (or_line streams_line found) (with_streams d)) read
       ∙ ap (with_asked d) (asked_texts requests)
 

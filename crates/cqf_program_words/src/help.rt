@@ -60,7 +60,8 @@ it the streams hold and how much is left, the greatest reservation in each cycle
 that still fits, the number of streams that use it, and the share of the budget
 that is held, in percent. Budget, held and left are octets per cycle on the
 wire, in the fullest cycle. They count what is reserved, not what is sent. A
-plan that exceeds a budget is shown too: left is then below 0."
+plan that exceeds a budget is shown too: left is then below 0. Stations' access
+links come last, with what their streams send in a mean cycle."
 );
 
 /// The help of `latency` about standard input and its output.
@@ -72,13 +73,13 @@ A stream may have a deadline, in ns:
   { name = "x", octets = 1500, path = ["a", "s"], deadline = 500000 }
 
 The output has a line for each stream and listener: the number of bridges on the
-path, the least and the greatest latency of a frame, from its offer until the
-listener has received it, by how much the arrivals of one cycle's frames can
-differ, the stream's deadline and the verdict. Times are in ns. A deadline runs
-from the edge bridge, which has received the frame at its offer: subtract first
-what the talker's own link takes. The bounds hold for covered frames. Offers
-beyond the reservation in a cycle are dropped; in-time promises nothing for
-them.
+path, the least and the greatest latency of a frame, until the listener has
+received it, by how much the arrivals of one cycle's frames can differ, the
+stream's deadline and the verdict. Times are in ns. Latencies and deadlines run
+from the instant at which a station hands the frame to its access link, if from
+is a station, and otherwise from its offer, when the edge bridge has received
+it. The bounds hold for covered frames. Offers beyond the reservation in a cycle
+are dropped; in-time promises nothing for them.
 
 With --strict the status is 1 unless each deadline is kept for certain, and the
 first line with the verdict late or may-be-late goes to standard error."#
@@ -173,9 +174,9 @@ One file with both can be given instead, or 2 to 16 files named *.toml:
 The output is offers for the command run. Each stream with traffic offers its
 frames together once in each interval, from its offset on, within N cycles.
 Offers are in the order of their instants, then of their streams. With a seed
-the frames of each interval are late at random, up to the stream's jitter, but
-never before those of the interval before. The same seed gives the same
-offers."#;
+the frames of each interval are late at random, up to the stream's jitter at its
+edge bridge, but never before those of the interval before. The same seed gives
+the same offers."#;
 
 /// The help of `summary` about standard input and its output.
 pub(crate) const SUMMARY_INPUT: &str =
@@ -221,17 +222,18 @@ A network file may leave open what a plan decides. cycle may be an array of
 cycle times to try, in order of preference; --cycle N gives one instead, and
 --cycle FROM..TO/STEP gives FROM, FROM + STEP, .. up to TO, at most 1000. A link
 with duplex = true is two links, one in each direction. A link from a station is
-the talker's own. In place of octets and path a stream may have from, its talker
+its access link. In place of octets and path a stream may have from, its talker
 or edge bridge, to, its listeners, and the traffic that its talker promises:
 frames of size octets in each interval, each at most jitter late. Its deadline
 runs from the talker. With in-step = true the talker is in step with the
 network: its frames get cycles of their own, one in as many as fit its interval,
 in which the stream's links are least full.
 
-The output is a plan for the first cycle time at which each stream has room and
-each deadline is kept. If there is none, the status is 1, and standard error
-says what is wrong at the cycle time that places most streams. With --table the
-output has a line for each cycle time instead."#;
+The output is the file with what the plan decides put in, for the first cycle
+time at which each stream has room and each deadline is kept. If there is none,
+the status is 1, and standard error says what is wrong at the cycle time that
+places most streams. With --table the output has a line for each cycle time
+instead."#;
 
 /// The program's help about files and its version.
 pub(crate) const MORE_WORDS: &str =

@@ -14,13 +14,13 @@ use Rattle.cqf_topology.specs.declared.faults.DomainFault.{DomainFault}
 use Rattle.cqf_topology.proofs.Passed.{not_so}
 use Rattle.cqf_topology.proofs.Refusals.{refuse-Ok}
 use Rattle.cqf_sketch.specs.declared.faults.SketchFault.{SketchFault}
-use Rattle.cqf_sketch.specs.declared.faults.SketchFault.TheVariants.{Domain, TwoTalkerLinks}
+use Rattle.cqf_sketch.specs.declared.faults.SketchFault.TheVariants.{Domain}
 use Rattle.cqf_topology.specs.declared.faults.DomainFault.TheVariants as domain
 use Rattle.cqf_sketch.specs.Edges.{Edge, element_at, ends_of, first_long_delay, first_long_gap, first_long_guard, first_long_sync, first_repeat}
-use Rattle.cqf_sketch.specs.Edges.{first_twice, from_alone, from_at, has_long_delay, has_long_gap, has_long_guard, has_long_sync, plant_count}
+use Rattle.cqf_sketch.specs.Edges.{first_twice, has_long_delay, has_long_gap, has_long_guard, has_long_sync, plant_count}
 use Rattle.cqf_sketch.specs.Edges.{talkers_of}
-use Rattle.cqf_sketch.specs.SketchDomain.{EdgeInside, HasNumberedNames, IsReadableSketch, NodeInside, SketchDomain, checked, is_guard_too_long, is_too_many}
-use Rattle.cqf_sketch.specs.SketchDomain.{name_taken, second_talker, sketch_with, station_named, with_edges, with_names}
+use Rattle.cqf_sketch.specs.SketchDomain.{EdgeInside, HasNumberedNames, IsReadableSketch, NodeInside, SketchDomain, access_within, checked}
+use Rattle.cqf_sketch.specs.SketchDomain.{is_guard_too_long, is_too_many, name_taken, with_edges, with_names}
 use Rattle.cqf_sketch.specs.SketchText.{SketchText}
 
 -- a name that occurred earlier is refused as a network file refuses it, regardless of what follows
@@ -71,7 +71,6 @@ unmapped f (Some x) e = absurd cc
 -- the results of the checks
 pub record PassesSketch (text : SketchText) (edges : List Edge) : Type 0 where
   pub no_twice : first_repeat [] (map ends_of edges) ≡ None
-  pub no_again : first_repeat [] (map from_alone (talkers_of edges)) ≡ None
   pub some_open : is_guard_too_long text ≡ false
   pub no_guard : find (has_long_guard text.candidates text.guard) edges ≡ None
   pub no_delay : find (has_long_delay text.sync text.guard) edges ≡ None
@@ -79,24 +78,23 @@ pub record PassesSketch (text : SketchText) (edges : List Edge) : Type 0 where
   pub few_bridges : length text.bridges ≤ bridges_within text.limits
   pub few_stations : length text.stations ≤ stations_within text.limits
   pub few_links : plant_count edges ≤ links_within text.limits
+  pub few_access : length (talkers_of edges) ≤ access_within text.limits
   pub no_sync : find (has_long_sync text.sync) edges ≡ None
 
 -- a domain that is returned has passed
 pub passes_sketch : (text : SketchText) (edges : List Edge) (d : SketchDomain) → with_edges text edges ≡ Ok d → PassesSketch text edges
 passes_sketch text edges d e =
     let a = refuse-Ok (first_twice edges) (λ (element : ℕ). Domain (domain.LinkTwice element)) _ d e in
-    let b = refuse-Ok (second_talker text edges) (λ (station : List ℕ). TwoTalkerLinks station) _ d a.1 in
-    let c = refuse-Ok (if_so (is_guard_too_long text)) (λ (u : Unit {0}). Domain domain.GuardTooLong) _ d b.1 in
+    let c = refuse-Ok (if_so (is_guard_too_long text)) (λ (u : Unit {0}). Domain domain.GuardTooLong) _ d a.1 in
     let own = refuse-Ok (first_long_guard text.candidates text.guard edges) (λ (element : ℕ). Domain (domain.LinkGuardTooLong element)) _ d c.1 in
     let f = refuse-Ok (first_long_delay text.sync text.guard edges) (λ (element : ℕ). Domain (domain.DelayTooLong element)) _ d own.1 in
     let g = refuse-Ok (first_long_gap text.guard edges) (λ (element : ℕ). Domain (domain.GapTooLong element)) _ d f.1 in
     let h = refuse-Ok (if_so (is_too_many text edges)) (λ (u : Unit {0}). Domain domain.TooMany) _ d g.1 in
-    let sync = refuse-Ok (first_long_sync text.sync edges) (λ (element : ℕ). Domain (domain.SyncTooLong element)) (Ok (sketch_with text edges)) d h.1 in
-    let few = counted (bridges_within text.limits) (stations_within text.limits) (links_within text.limits) (length text.bridges) (length text.stations)
-    (plant_count edges) (not_so (is_too_many text edges) h.0) in
+    let sync = refuse-Ok (first_long_sync text.sync edges) (λ (element : ℕ). Domain (domain.SyncTooLong element)) _ d h.1 in
+    let few = counted (bridges_within text.limits) (stations_within text.limits) (links_within text.limits) (access_within text.limits)
+    (length text.bridges) (length text.stations) (plant_count edges) (length (talkers_of edges)) (not_so (is_too_many text edges) h.0) in
     record {
       no_twice = unmapped (element_at edges) _ a.0;
-      no_again = unmapped (from_at (talkers_of edges)) _ (unmapped (station_named text.stations) _ b.0);
       some_open = not_so (is_guard_too_long text) c.0;
       no_guard = unmapped (λ (edge : Edge). edge.element) _ own.0;
       no_delay = unmapped (λ (edge : Edge). edge.element) _ f.0;
@@ -104,12 +102,14 @@ passes_sketch text edges d e =
       few_bridges = few.0;
       few_stations = few.1;
       few_links = few.2;
+      few_access = few.3;
       no_sync = unmapped (λ (edge : Edge). edge.element) _ sync.0;
     }
   where
-    counted : (bridges stations links b s l : ℕ) → (nat_lt bridges b || nat_lt stations s || nat_lt links l) ≡ false →
-        (b ≤ bridges) × (s ≤ stations) × (l ≤ links)
-    counted bridges stations links b s l e = (grind (arith, nat_tests), grind (arith, nat_tests), grind (arith, nat_tests))
+    counted : (bridges stations links access b s l a : ℕ) → (nat_lt bridges b || (nat_lt stations s || (nat_lt links l || nat_lt access a))) ≡ false →
+        (b ≤ bridges) × (s ≤ stations) × (l ≤ links) × (a ≤ access)
+    counted bridges stations links access b s l a e =
+        (grind (arith, nat_tests), grind (arith, nat_tests), grind (arith, nat_tests), grind (arith, nat_tests))
 
 -- ends among few nodes
 pub inside_few : (limits : Limits) (bridges stations : ℕ) (edges : List Edge) → bridges ≤ bridges_within limits → stations ≤ stations_within limits →

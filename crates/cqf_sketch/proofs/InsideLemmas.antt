@@ -1,9 +1,9 @@
 -- The ends of a network file's links are nodes of the file.
-use Rattle.std.proofs.Common.{◌≡◌, ◌≤◌, ℕ, All, Bool, true, false, Contains, List, [], ◌∷◌, ◌++◌, Option, Some, None, Result, Ok, Err, cond, length, ok_or, arith, refl, subst}
+use Rattle.std.proofs.Common.{◌≡◌, ℕ, All, Bool, true, false, List, [], ◌∷◌, ◌++◌, Option, Some, None, Result, Ok, Err, cond, length, ok_or, arith, refl, subst}
 use Rattle.std.specs.Prelude.{suc}
+use Rattle.std.specs.Option.{ForSome}
 use Rattle.std.proofs.lemmas.Bool.Decides.{nat_tests}
 use Rattle.std.proofs.lemmas.List.Elements.{All-append, All-cons, All-nil}
-use Rattle.cqf_lists.proofs.Members.{all_from_members, contains_from_filter}
 use Rattle.cqf_model.specs.declared.topology.Node.{Node}
 use Rattle.cqf_model.specs.declared.topology.Node.TheVariants.{Bridge, Station}
 use Rattle.cqf_model.specs.Domain.{node_or}
@@ -16,8 +16,8 @@ use Rattle.cqf_sketch.specs.declared.draft.SketchLink.{SketchLink}
 use Rattle.cqf_sketch.specs.declared.draft.OneWay.{OneWay}
 use Rattle.cqf_sketch.specs.declared.faults.SketchFault.{SketchFault}
 use Rattle.cqf_sketch.specs.declared.faults.SketchFault.TheVariants.{Domain}
-use Rattle.cqf_sketch.specs.Edges.{Edge, back_of, edges_of, end_named, is_talkers, joined, joined_edge, may_lead, talkers_of}
-use Rattle.cqf_sketch.specs.SketchDomain.{EdgeInside, NodeInside, StationInside}
+use Rattle.cqf_sketch.specs.Edges.{Edge, back_of, edges_of, end_named, is_talkers, joined, joined_edge, may_lead, without_other}
+use Rattle.cqf_sketch.specs.SketchDomain.{EdgeInside, IsFrameSize, IsReadLink, NodeInside}
 
 -- a node that is found is one of the file
 named_inside : (bridges stations : List (List ℕ)) (name : List ℕ) (node : Node) → end_named bridges stations name ≡ Some node →
@@ -31,17 +31,18 @@ named_inside bridges stations name node e = by (place_of name bridges) (place_of
         let same : Station s ≡ node = cc in subst (NodeInside (length bridges) (length stations)) same (place-within name stations s is_s)
     by None None is_b is_s found = absurd cc
 
--- what joining yields of an edge: its ends are nodes of the file, it may lead from one to the other, and its times are
--- in their ranges
+-- what joining gives of an edge: its ends are there, it may lead from the one to the other, and its times and the size of frames beside
+-- streams are such as are read
 pub record IsJoinedEdge (bridges stations : ℕ) (edge : Edge) : Type 0 where
   pub inside : EdgeInside bridges stations edge
   pub may : may_lead edge.from edge.to ≡ true
   pub times_are_read : AreReadTimes edge.times
+  pub other_is_read : ForSome edge.other IsFrameSize
 
 -- so is a link that is joined
-edge_joined : (bridges stations : List (List ℕ)) (element : ℕ) (way : OneWay) (edge : Edge) → AreReadTimes way.times →
-    joined_edge bridges stations element way ≡ Ok edge → IsJoinedEdge (length bridges) (length stations) edge
-edge_joined bridges stations element way edge read e =
+edge_joined : (bridges stations : List (List ℕ)) (element : ℕ) (other : Option ℕ) (way : OneWay) (edge : Edge) → AreReadTimes way.times →
+    ForSome other IsFrameSize → joined_edge bridges stations element other way ≡ Ok edge → IsJoinedEdge (length bridges) (length stations) edge
+edge_joined bridges stations element other way edge read size e =
     let (from, from_is, rest) = and_then-Ok (ok_or (end_named bridges stations way.from) (Domain (UnknownName way.from))) _ edge e in
     let (to, to_is, last) = and_then-Ok (ok_or (end_named bridges stations way.to) (Domain (UnknownName way.to))) _ edge rest in
     by from to (may_lead from to) refl
@@ -50,13 +51,13 @@ edge_joined bridges stations element way edge read e =
   where
     by : (from to : Node) (may : Bool) → may_lead from to ≡ may → NodeInside (length bridges) (length stations) from →
         NodeInside (length bridges) (length stations) to →
-        cond may (Ok (record { from = from; to = to; times = way.times; element = element })) (Err (Domain (UnknownName way.to))) ≡ Ok edge →
+        cond may (Ok (record { from = from; to = to; times = way.times; other = other; element = element })) (Err (Domain (UnknownName way.to))) ≡ Ok edge →
         IsJoinedEdge (length bridges) (length stations) edge
     by from to true may from_in to_in found =
-        let made : Edge = record { from = from; to = to; times = way.times; element = element } in
+        let made : Edge = record { from = from; to = to; times = way.times; other = other; element = element } in
         let same : made ≡ edge = cc in
         subst (IsJoinedEdge (length bridges) (length stations)) same
-        (record { inside = record { from_inside = from_in; to_inside = to_in }; may = may; times_are_read = read })
+        (record { inside = record { from_inside = from_in; to_inside = to_in }; may = may; times_are_read = read; other_is_read = size })
     by from to false may from_in to_in found = absurd cc
 
 -- a link that may lead there may lead back
@@ -66,36 +67,60 @@ may_lead_back (Bridge a) (Station s) may = refl
 may_lead_back (Station s) (Bridge b) may = refl
 may_lead_back (Station s) (Station t) may = absurd cc
 
+module _ (bridges stations : ℕ) (edge : Edge) (is : IsJoinedEdge bridges stations edge) where
+  -- so is the same link back, and the same link where nothing is said of frames beside streams
+  back_joined : IsJoinedEdge bridges stations (back_of edge)
+  back_joined = record {
+    inside = record { from_inside = is.inside.to_inside; to_inside = is.inside.from_inside };
+    may = may_lead_back edge.from edge.to is.may;
+    times_are_read = is.times_are_read;
+    other_is_read = is.other_is_read;
+  }
+
+  unsaid_joined : IsJoinedEdge bridges stations (without_other edge)
+  unsaid_joined = record {
+    inside = record { from_inside = is.inside.from_inside; to_inside = is.inside.to_inside };
+    may = is.may;
+    times_are_read = is.times_are_read;
+    other_is_read = λ octets said. absurd cc;
+  }
+
+-- two edges that are joined
+two_joined : (bridges stations : ℕ) (a b : Edge) → IsJoinedEdge bridges stations a → IsJoinedEdge bridges stations b →
+    All (IsJoinedEdge bridges stations) (a ∷ b ∷ [])
+two_joined bridges stations a b first second =
+    All-cons (IsJoinedEdge bridges stations) a (b ∷ []) first
+    (All-cons (IsJoinedEdge bridges stations) b [] second (All-nil (IsJoinedEdge bridges stations)))
+
 -- and so are a link's directions
 directions_joined : (bridges stations : ℕ) (duplex : Bool) (edge : Edge) → IsJoinedEdge bridges stations edge →
     All (IsJoinedEdge bridges stations) (edges_of duplex edge)
-directions_joined bridges stations true edge is =
-    All-cons (IsJoinedEdge bridges stations) edge (back_of edge ∷ []) is
-    (All-cons (IsJoinedEdge bridges stations) (back_of edge) []
-    (record {
-      inside = record { from_inside = is.inside.to_inside; to_inside = is.inside.from_inside };
-      may = may_lead_back edge.from edge.to is.may;
-      times_are_read = is.times_are_read;
-    })
-    (All-nil (IsJoinedEdge bridges stations)))
+directions_joined bridges stations true edge is = by (is_talkers (back_of edge))
+  where
+    by : (talkers : Bool) →
+        All (IsJoinedEdge bridges stations) (cond talkers (without_other edge ∷ back_of edge ∷ []) (edge ∷ without_other (back_of edge) ∷ []))
+    by true = two_joined bridges stations (without_other edge) (back_of edge) (unsaid_joined bridges stations edge is) (back_joined bridges stations edge is)
+    by false =
+        two_joined bridges stations edge (without_other (back_of edge)) is
+        (unsaid_joined bridges stations (back_of edge) (back_joined bridges stations edge is))
 directions_joined bridges stations false edge is = All-cons (IsJoinedEdge bridges stations) edge [] is (All-nil (IsJoinedEdge bridges stations))
 
--- the times of the links after the first
-later_times : (link : SketchLink) (links : List SketchLink) → All (λ (l : SketchLink). AreReadTimes l.there.times) (link ∷ links) →
-    All (λ (l : SketchLink). AreReadTimes l.there.times) links
-later_times link links read k d within = read (suc k) d (omega (arith, within))
+-- the links after the first
+later_read : (link : SketchLink) (links : List SketchLink) → All IsReadLink (link ∷ links) → All IsReadLink links
+later_read link links read k d within = read (suc k) d (omega (arith, within))
 
 -- and of all
 pub all_joined : (bridges stations : List (List ℕ)) (element : ℕ) (links : List SketchLink) (edges : List Edge) →
-    All (λ (l : SketchLink). AreReadTimes l.there.times) links → joined bridges stations element links ≡ Ok edges →
+    All IsReadLink links → joined bridges stations element links ≡ Ok edges →
     All (IsJoinedEdge (length bridges) (length stations)) edges
 all_joined bridges stations element [] edges read e =
     let same : [] ≡ edges = cc in subst (All (IsJoinedEdge (length bridges) (length stations))) same (All-nil (IsJoinedEdge (length bridges) (length stations)))
 all_joined bridges stations element (link ∷ links) edges read e =
-    let (edge, edge_is, more) = and_then-Ok (joined_edge bridges stations element link.there) _ edges e in
-    by (λ rest is. all_joined bridges stations (suc element) links rest (later_times link links read) is) edge
+    let (edge, edge_is, more) = and_then-Ok (joined_edge bridges stations element link.other link.there) _ edges e in
+    let first : IsReadLink link = read 0 link (omega arith) in
+    by (λ rest is. all_joined bridges stations (suc element) links rest (later_read link links read) is) edge
     (joined bridges stations (suc element) links) refl
-    (edge_joined bridges stations element link.there edge (read 0 link (omega arith)) edge_is) more
+    (edge_joined bridges stations element link.other link.there edge first.times_are_read first.other_is_read edge_is) more
   where
     by : ((rest : List Edge) → joined bridges stations (suc element) links ≡ Ok rest → All (IsJoinedEdge (length bridges) (length stations)) rest) →
         (edge : Edge) (r : Result (List Edge) SketchFault) → joined bridges stations (suc element) links ≡ r →
@@ -111,17 +136,3 @@ all_joined bridges stations element (link ∷ links) edges read e =
 -- their ends are there
 pub all_inside : (bridges stations : ℕ) (edges : List Edge) → All (IsJoinedEdge bridges stations) edges → All (EdgeInside bridges stations) edges
 all_inside bridges stations edges all k d within = (all k d within).inside
-
--- a talker's edge leaves a station that is there
-pub talkers_inside : (bridges stations : ℕ) (edges : List Edge) → All (EdgeInside bridges stations) edges →
-    All (λ (edge : Edge). StationInside stations edge.from) (talkers_of edges)
-talkers_inside bridges stations edges inside =
-    all_from_members (λ (edge : Edge). StationInside stations edge.from) (talkers_of edges)
-    (λ edge c. let both = contains_from_filter is_talkers edges edge c in by edge.from both.1 (member edge both.0).from_inside)
-  where
-    member : (edge : Edge) → Contains edges edge → EdgeInside bridges stations edge
-    member edge c = subst (EdgeInside bridges stations) c.2 (inside c.0 edge c.1)
-
-    by : (node : Node) → (elim node [ Bridge b ↦ false | Station s ↦ true ]) ≡ true → NodeInside bridges stations node → StationInside stations node
-    by (Bridge b) is within = absurd cc
-    by (Station s) is within = within

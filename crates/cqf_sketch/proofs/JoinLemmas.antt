@@ -19,21 +19,21 @@ module _ (bridges stations : List (List ℕ)) (links : List SketchLink) (i : ℕ
   next_is = drop_more links i link inside ∙ ap (λ l. l ∷ drop (i + 1) links) (sym is)
 
   opened : joined bridges stations i (drop i links)
-      ≡ and_then (joined_edge bridges stations i link.there) (λ edge. with_front (edges_of link.duplex edge) (joined bridges stations (i + 1) (drop (i + 1) links)))
+      ≡ and_then (joined_edge bridges stations i link.other link.there) (λ edge. with_front (edges_of link.duplex edge) (joined bridges stations (i + 1) (drop (i + 1) links)))
   opened =
       let next : suc i ≡ i + 1 = omega arith in
       ap (joined bridges stations i) next_is
-      ∙ ap (λ k. and_then (joined_edge bridges stations i link.there) (λ edge. with_front (edges_of link.duplex edge) (joined bridges stations k (drop (i + 1) links)))) next
+      ∙ ap (λ k. and_then (joined_edge bridges stations i link.other link.there) (λ edge. with_front (edges_of link.duplex edge) (joined bridges stations k (drop (i + 1) links)))) next
 
   -- a link with its ends found comes before the rest
-  pub joined_more : (done : List Edge) (edge : Edge) → joined_edge bridges stations i link.there ≡ Ok edge →
+  pub joined_more : (done : List Edge) (edge : Edge) → joined_edge bridges stations i link.other link.there ≡ Ok edge →
       with_front (done ++ edges_of link.duplex edge) (joined bridges stations (i + 1) (drop (i + 1) links)) ≡ with_front done (joined bridges stations i (drop i links))
   joined_more done edge found =
       sym (fronts done (edges_of link.duplex edge) (joined bridges stations (i + 1) (drop (i + 1) links)))
       ∙ sym (ap (with_front done) (opened ∙ ap (λ r. and_then r (λ e. with_front (edges_of link.duplex e) (joined bridges stations (i + 1) (drop (i + 1) links)))) found))
 
   -- and if its ends aren't found, that is the fault
-  pub joined_fault : (done : List Edge) (fault : SketchFault) → joined_edge bridges stations i link.there ≡ Err fault →
+  pub joined_fault : (done : List Edge) (fault : SketchFault) → joined_edge bridges stations i link.other link.there ≡ Err fault →
       with_front done (joined bridges stations i (drop i links)) ≡ Err fault
   joined_fault done fault found =
       ap (with_front done) (opened ∙ ap (λ r. and_then r (λ e. with_front (edges_of link.duplex e) (joined bridges stations (i + 1) (drop (i + 1) links)))) found)

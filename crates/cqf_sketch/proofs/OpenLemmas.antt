@@ -27,7 +27,7 @@ use Rattle.cqf_topology.proofs.Distinct.{first_taken-None}
 use Rattle.cqf_topology.proofs.Repeats.{first_repeat-None}
 use Rattle.cqf_topology.proofs.Repeats.{first_repeat as first_of_repeats}
 use Rattle.cqf_sketch.specs.declared.domain.TalkerLink.{TalkerLink}
-use Rattle.cqf_sketch.specs.Edges.{Edge, ends_of, first_repeat, from_alone, has_long_delay, has_long_gap, has_long_guard, has_long_sync, is_station}
+use Rattle.cqf_sketch.specs.Edges.{Edge, ends_of, first_repeat, has_long_delay, has_long_gap, has_long_guard, has_long_sync, is_station}
 use Rattle.cqf_sketch.specs.Edges.{is_talkers, may_lead, plant_count, reaches_each, same_pair}
 use Rattle.cqf_sketch.specs.Edges.{talkers_of}
 use Rattle.cqf_sketch.specs.SketchDomain.{HasTalkerLinks, IsCycleTime, IsOpenCycle, IsReadableSketch, IsSketch, IsTalkerLink}
@@ -143,6 +143,12 @@ talker_there : (bridges stations : ℕ) (from to : Node) → is_station from ≡
 talker_there bridges stations (Station s) (Bridge b) is may from_in to_in = (from_in, to_in)
 talker_there bridges stations (Station s) (Station t) is may from_in to_in = absurd cc
 talker_there bridges stations (Bridge a) to is may from_in to_in = absurd cc
+
+-- which is no station
+to_bridge : (from to : Node) → is_station from ≡ true → may_lead from to ≡ true → is_station to ≡ false
+to_bridge (Station s) (Bridge b) is may = refl
+to_bridge (Station s) (Station t) is may = absurd cc
+to_bridge (Bridge a) to is may = absurd cc
 
 -- if a link of the plan doesn't fail a check, it hasn't the property that the check refuses
 not_such : (talkers such : Bool) → talkers ≡ false → (not talkers && such) ≡ false → such ≡ false
@@ -287,26 +293,47 @@ module _ (text : SketchText) (edges : List Edge) (readable : IsReadableSketch te
     no_link_twice = plant_once;
   }
 
+  -- a talker's edge, of those that were joined
+  of_talker : (edge : Edge) → Contains (talkers_of edges) edge → IsJoinedEdge (length text.bridges) (length text.stations) edge × (is_talkers edge ≡ true)
+  of_talker edge c =
+      let (there, talks) = contains_from_filter is_talkers edges edge c in
+      (of_member (IsJoinedEdge (length text.bridges) (length text.stations)) edges edge all there, talks)
+
   -- a talker's link leaves a station and ends in a bridge
   talker_good : (link : TalkerLink) → Contains (map talker_of (talkers_of edges)) link → IsTalkerLink (sketch_with text edges) link
   talker_good link c =
       let (edge, kept, same) = contains_from_map talker_of (talkers_of edges) link c in
-      let (there, talks) = contains_from_filter is_talkers edges edge kept in
-      let is = of_member (IsJoinedEdge (length text.bridges) (length text.stations)) edges edge all there in
+      let (is, talks) = of_talker edge kept in
       let ends = talker_there (length text.bridges) (length text.stations) edge.from edge.to talks is.may is.inside.from_inside is.inside.to_inside in
-      subst (IsTalkerLink (sketch_with text edges)) same (record { station_there = ends.0; bridge_there = ends.1; delay_most = is.times_are_read.delay_most })
+      subst (IsTalkerLink (sketch_with text edges)) same (record {
+        station_there = ends.0;
+        bridge_there = ends.1;
+        delay_most = is.times_are_read.delay_most;
+        ordered = is.times_are_read.ordered;
+        other_is_size = is.other_is_read;
+      })
 
-  -- and no station has two
+  -- two talkers' edges with the same numbers have the same ends
+  same_numbers : (x z : Edge) → Contains (talkers_of edges) x → Contains (talkers_of edges) z →
+      (number_of x.from ≡ number_of z.from) × (number_of x.to ≡ number_of z.to) → ends_of x ≡ ends_of z
+  same_numbers x z x_in z_in same =
+      let (x_is, x_talks) = of_talker x x_in in
+      let (z_is, z_talks) = of_talker z z_in in
+      let from = same_station x.from z.from x_talks z_talks same.0 in
+      let to = same_bridge x.to z.to (to_bridge x.from x.to x_talks x_is.may) (to_bridge z.from z.to z_talks z_is.may) same.1 in
+      λ i. (from i, to i)
+
+  -- no two have the same ends, and there are few
   talkers_good : HasTalkerLinks (sketch_with text edges)
   talkers_good = record {
     each_there = all_from_members (IsTalkerLink (sketch_with text edges)) (map talker_of (talkers_of edges)) talker_good;
-    station_once = pairs_map (λ (a b : TalkerLink). a.station ≢ b.station) talker_of (talkers_of edges)
-        (pairs_weaker (λ (x z : Edge). from_alone x ≢ from_alone z) (λ (x z : Edge). number_of x.from ≢ number_of z.from) (talkers_of edges)
-        (λ x z x_in z_in apart same.
-        let talks_x = (contains_from_filter is_talkers edges x x_in).1 in
-        let talks_z = (contains_from_filter is_talkers edges z z_in).1 in
-        let from = same_station x.from z.from talks_x talks_z same in apart (λ i. (from i, from i)))
-        (pairs_from_map (λ a b. a ≢ b) from_alone (talkers_of edges) (pairs_apart (map from_alone (talkers_of edges)) passed.no_again)));
+    ends_once = pairs_map (λ (a b : TalkerLink). ¬ ((a.station ≡ b.station) × (a.bridge ≡ b.bridge))) talker_of (talkers_of edges)
+        (pairs_weaker (λ (x z : Edge). ends_of x ≢ ends_of z)
+        (λ (x z : Edge). ¬ ((number_of x.from ≡ number_of z.from) × (number_of x.to ≡ number_of z.to))) (talkers_of edges)
+        (λ x z x_in z_in apart same. apart (same_numbers x z x_in z_in same))
+        (AllPairs-filter (λ (x z : Edge). ends_of x ≢ ends_of z) is_talkers edges
+        (pairs_from_map (λ a b. a ≢ b) ends_of edges (pairs_apart (map ends_of edges) passed.no_twice))));
+    few = omega (arith, length-map (talkers_of edges) talker_of, passed.few_access);
   }
 
   -- so it is a network file's domain

@@ -1,5 +1,5 @@
 -- The links of a network file, one for each direction, by the nodes that they join.
-use Rattle.std.specs.Prelude.{ℕ, ◌++◌, List, [], ◌∷◌, ◌==◌, ◌&&◌, Bool, true, false, if◌then◌else◌, count_by, filter, find, length, map, nat_le, not, ok_or}
+use Rattle.std.specs.Prelude.{ℕ, ◌++◌, List, [], ◌∷◌, ◌==◌, ◌&&◌, Bool, true, false, if◌then◌else◌, count_by, filter, find, length, is_some, map, nat_le, not, ok_or}
 use Rattle.std.specs.Prelude.{option_map, slice_get, Option, Some, None, Result, Ok, Err, suc}
 use Rattle.std.specs.Option.{option_map_or}
 use Rattle.std.specs.List.{list_all, list_any}
@@ -18,11 +18,13 @@ use Rattle.cqf_sketch.specs.declared.draft.OneWay.{OneWay}
 use Rattle.cqf_sketch.specs.declared.faults.SketchFault.{SketchFault}
 use Rattle.cqf_sketch.specs.declared.faults.SketchFault.TheVariants as fault
 
--- a link in one direction, from a bridge or a station, and the index of its element in the text
+-- a link in one direction, from a bridge or a station; how long the frames may be that its station sends beside streams, where the text says
+-- it; and its element's place in the text
 pub record Edge : Type 0 where
   pub from : Node
   pub to : Node
   pub times : LinkTimes
+  pub other : Option ℕ
   pub element : ℕ
 
 -- the node with a name: a bridge, or else a station
@@ -37,27 +39,43 @@ may_lead (Station s) (Bridge b) = true
 may_lead (Station s) (Station t) = false
 
 -- a link in its written direction, with its ends found; otherwise the name that is no such end, as a fault
-abbrev pub joined_edge : List (List ℕ) → List (List ℕ) → ℕ → OneWay → Result Edge SketchFault
-joined_edge bridges stations element way =
+abbrev pub joined_edge : List (List ℕ) → List (List ℕ) → ℕ → Option ℕ → OneWay → Result Edge SketchFault
+joined_edge bridges stations element other way =
     and_then (ok_or (end_named bridges stations way.from) (fault.Domain (domain.UnknownName way.from))) (λ from.
     and_then (ok_or (end_named bridges stations way.to) (fault.Domain (domain.UnknownName way.to))) (λ to.
     if may_lead from to
-    then Ok (record { from = from; to = to; times = way.times; element = element })
+    then Ok (record { from = from; to = to; times = way.times; other = other; element = element })
     else Err (fault.Domain (domain.UnknownName way.to))))
 
--- the same link in the opposite direction; and a link's directions, the written one first
+-- whether a node is a station, and whether an edge is a talker's access link; the others begin at a bridge
+abbrev pub is_station : Node → Bool
+is_station (Bridge b) = false
+is_station (Station s) = true
+
+abbrev pub is_talkers : Edge → Bool
+is_talkers edge = is_station edge.from
+
+-- the same link back, and the same link where the text says nothing of frames beside streams
 abbrev pub back_of : Edge → Edge
-back_of edge = record { from = edge.to; to = edge.from; times = edge.times; element = edge.element }
+back_of edge = record { from = edge.to; to = edge.from; times = edge.times; other = edge.other; element = edge.element }
+
+abbrev pub without_other : Edge → Edge
+without_other edge = record { from = edge.from; to = edge.to; times = edge.times; other = None; element = edge.element }
+
+-- a link's directions, there before back: what its station may send beside streams belongs to the one that leaves the station
+abbrev pub both_ways : Edge → List Edge
+both_ways edge =
+    if is_talkers (back_of edge) then without_other edge ∷ back_of edge ∷ [] else edge ∷ without_other (back_of edge) ∷ []
 
 abbrev pub edges_of : Bool → Edge → List Edge
-edges_of true edge = edge ∷ back_of edge ∷ []
+edges_of true edge = both_ways edge
 edges_of false edge = edge ∷ []
 
 -- the directions of each link of the text, its elements numbered from the given one; or the first fault
 abbrev pub joined : List (List ℕ) → List (List ℕ) → ℕ → List SketchLink → Result (List Edge) SketchFault
 joined bridges stations element [] = Ok []
 joined bridges stations element (link ∷ links) =
-    and_then (joined_edge bridges stations element link.there) (λ edge.
+    and_then (joined_edge bridges stations element link.other link.there) (λ edge.
     with_front (edges_of link.duplex edge) (joined bridges stations (suc element) links))
 
 -- both ends of a link; and whether two pairs of nodes are the same
@@ -76,35 +94,16 @@ first_repeat earlier (pair ∷ pairs) = if list_any (same_pair pair) earlier the
 abbrev pub pair_of : End × End → Node × Node
 pair_of ends = (node_of ends.0, node_of ends.1)
 
--- whether a node is a station; and whether an edge is a talker's link, that is whether it leaves a station. The other
--- edges are the plan's links
-abbrev pub is_station : Node → Bool
-is_station (Bridge b) = false
-is_station (Station s) = true
-
-abbrev pub is_talkers : Edge → Bool
-is_talkers edge = is_station edge.from
-
 abbrev pub talkers_of : List Edge → List Edge
 talkers_of edges = filter is_talkers edges
 
--- the element of the edge at an index, and the node that it leaves
+-- the element of the edge at a place
 abbrev pub element_at : List Edge → ℕ → ℕ
 element_at edges place = option_map_or (λ (edge : Edge). edge.element) (slice_get edges place) 0
-
-abbrev pub from_at : List Edge → ℕ → Node
-from_at edges place = option_map_or (λ (edge : Edge). edge.from) (slice_get edges place) (Station 0)
 
 -- the element of the first edge whose ends are those of an earlier one
 abbrev pub first_twice : List Edge → Option ℕ
 first_twice edges = option_map (element_at edges) (first_repeat [] (map ends_of edges))
-
--- the first station that a talker's link leaves and an earlier talker's link leaves too
-abbrev pub from_alone : Edge → Node × Node
-from_alone edge = (edge.from, edge.from)
-
-abbrev pub first_again : List Edge → Option Node
-first_again edges = option_map (from_at edges) (first_repeat [] (map from_alone edges))
 
 -- whether a guard band is at least as long as each of the cycle times
 abbrev pub reaches_each : List ℕ → ℕ → Bool
@@ -140,6 +139,13 @@ first_long_gap guard edges = first_such (has_long_gap guard) edges
 
 abbrev pub first_long_sync : ℕ → List Edge → Option ℕ
 first_long_sync sync edges = first_such (has_long_sync sync) edges
+
+-- the element of the first edge that has frames beside streams and leaves no station
+abbrev pub is_misplaced : Edge → Bool
+is_misplaced edge = is_some edge.other && not (is_talkers edge)
+
+abbrev pub first_misplaced : List Edge → Option ℕ
+first_misplaced edges = first_such is_misplaced edges
 
 -- how many edges are links of the plan
 abbrev pub plant_count : List Edge → ℕ

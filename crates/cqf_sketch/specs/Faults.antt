@@ -1,5 +1,5 @@
 -- Why the domain of a network file is refused, and the text of that fault.
-use Rattle.std.specs.Prelude.{ℕ, ◌++◌, List, Result, codes}
+use Rattle.std.specs.Prelude.{ℕ, ◌++◌, List, Result, codes, decimal}
 use Rattle.std.specs.Result.{result_map_both}
 use Rattle.cqf_topology.specs.declared.toml_faults.TomlFault.{TomlFault}
 use Rattle.cqf_topology.specs.DomainText.{domain_fault}
@@ -11,7 +11,8 @@ use Rattle.cqf_sketch.specs.declared.faults.SketchFault.TheVariants as fault
 abbrev pub sketch_fault_text : SketchFault → List ℕ
 sketch_fault_text (fault.Domain found) = domain_fault_text found
 sketch_fault_text fault.BadDuplex = codes "BadValue duplex"
-sketch_fault_text (fault.TwoTalkerLinks station) = codes "TwoTalkerLinks " ++ station
+sketch_fault_text fault.BadOther = codes "BadValue other"
+sketch_fault_text (fault.NoAccessLink element) = codes "NoAccessLink " ++ decimal element
 
 -- a fault of reading, as one of a network file
 abbrev pub sketch_fault : TomlFault → SketchFault

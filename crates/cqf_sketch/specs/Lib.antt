@@ -3,6 +3,7 @@ pub mod SketchText
 pub mod Edges
 pub mod SketchDomain
 pub mod StreamsText
+pub mod NetworkFlows
 pub mod Ways
 pub mod Steps
 pub mod Ends

@@ -1,7 +1,8 @@
 -- The domain of a network file, or the first fault of its text.
-use Rattle.std.specs.Prelude.{ℕ, ◌≡◌, ◌≢◌, ◌<◌, ◌≤◌, List, [], ◌∷◌, ◌||◌, All, AllPairs, Bool, IsTrue, filter, find, length, map, max, nat_lt, not}
-use Rattle.std.specs.Prelude.{option_map, slice_index_or, unwrap_or, Option, None, Result, Ok}
+use Rattle.std.specs.Prelude.{ℕ, ◌≡◌, ◌*◌, ◌<◌, ◌≤◌, List, [], ◌∷◌, ◌||◌, All, AllPairs, Bool, IsTrue, filter, find, length, map, max, nat_lt, not}
+use Rattle.std.specs.Prelude.{unwrap_or, Option, None, Result, Ok}
 use Rattle.std.specs.List.{list_any}
+use Rattle.std.specs.Option.{ForSome}
 use Rattle.cqf_lists.specs.Results.{and_then, refuse}
 use Rattle.cqf_units.specs.Name.{is_name}
 use Rattle.cqf_model.specs.Domain.{Domain, guard_by}
@@ -17,9 +18,9 @@ use Rattle.cqf_sketch.specs.declared.draft.SketchLink.{SketchLink}
 use Rattle.cqf_sketch.specs.declared.domain.TalkerLink.{TalkerLink}
 use Rattle.cqf_sketch.specs.declared.faults.SketchFault.{SketchFault}
 use Rattle.cqf_sketch.specs.declared.faults.SketchFault.TheVariants as fault
-use Rattle.cqf_sketch.specs.Edges.{Edge, first_again, first_long_delay, first_long_gap, first_long_guard, first_long_sync, first_twice}
+use Rattle.cqf_sketch.specs.Edges.{Edge, first_long_delay, first_long_gap, first_long_guard, first_long_sync, first_misplaced, first_twice}
 use Rattle.cqf_sketch.specs.Edges.{is_talkers, joined, plant_count, reaches_each, talkers_of}
-use Rattle.cqf_sketch.specs.SketchText.{SketchText, sketch_of_text}
+use Rattle.cqf_sketch.specs.SketchText.{SketchText, one_of_text, sketch_of_text}
 
 -- the domain of a network file: its limits, the candidates for the cycle time in the order of preference, the guard
 -- band, how far clocks may differ, names by number, the plan's links by number, and the talkers' links. Times are in
@@ -66,16 +67,29 @@ pub record AreCandidates (cycles : List ℕ) : Type 0 where
   pub few_cycles : length cycles ≤ 1000
   pub cycle_times : All IsCycleTime cycles
 
--- a talker's link leaves a station of the file and ends in one of its bridges
+-- how many octets a frame may have
+pub record IsFrameSize (octets : ℕ) : Type 0 where
+  pub least : 64 ≤ octets
+  pub most : octets ≤ 1522
+
+-- an access link goes from a station of the network to one of its bridges, its least delay is at most the greatest, and what its station
+-- sends beside streams are frames
 pub record IsTalkerLink (sketch : SketchDomain) (link : TalkerLink) : Type 0 where
   pub station_there : link.station < length sketch.stations
   pub bridge_there : link.bridge < length sketch.bridges
   pub delay_most : link.delay ≤ longest_cycle
+  pub ordered : link.least ≤ link.delay
+  pub other_is_size : ForSome link.other IsFrameSize
 
--- this holds for each talker's link, and no station has two
+-- how many access links there may be: four for each station that there may be
+abbrev pub access_within : Limits → ℕ
+access_within limits = 4 * stations_within limits
+
+-- each is such a link, no two have the same ends, and there are no more of them than there may be
 pub record HasTalkerLinks (sketch : SketchDomain) : Type 0 where
   pub each_there : All (IsTalkerLink sketch) sketch.talkers
-  pub station_once : AllPairs (λ (a b : TalkerLink). a.station ≢ b.station) sketch.talkers
+  pub ends_once : AllPairs (λ (a b : TalkerLink). ¬ ((a.station ≡ b.station) × (a.bridge ≡ b.bridge))) sketch.talkers
+  pub few : length sketch.talkers ≤ access_within sketch.limits
 
 -- what the text of a network file yields: with each open cycle time the plan's domain is accepted, names differ and no
 -- link occurs twice; some candidate is open; and talkers' links join stations and bridges of the file
@@ -98,21 +112,20 @@ abbrev pub link_of : Edge → Link
 link_of edge = link_with (number_of edge.from) edge.to edge.times
 
 abbrev pub talker_of : Edge → TalkerLink
-talker_of edge = record { station = number_of edge.from; bridge = number_of edge.to; rate = edge.times.rate; delay = edge.times.delay }
+talker_of edge = record {
+  station = number_of edge.from;
+  bridge = number_of edge.to;
+  rate = edge.times.rate;
+  delay = edge.times.delay;
+  least = edge.times.least;
+  other = edge.other;
+}
 
--- the name of a station
-abbrev pub station_named : List (List ℕ) → Node → List ℕ
-station_named stations node = slice_index_or stations (number_of node) []
-
--- the first station with a second talker's link
-abbrev pub second_talker : SketchText → List Edge → Option (List ℕ)
-second_talker text edges = option_map (station_named text.stations) (first_again (talkers_of edges))
-
--- whether there are more bridges, stations or links of the plan than a domain may have
+-- there are more bridges, stations, links that begin at a bridge or access links than there may be
 abbrev pub is_too_many : SketchText → List Edge → Bool
 is_too_many text edges =
-    nat_lt (bridges_within text.limits) (length text.bridges) || nat_lt (stations_within text.limits) (length text.stations)
-    || nat_lt (links_within text.limits) (plant_count edges)
+    nat_lt (bridges_within text.limits) (length text.bridges) || (nat_lt (stations_within text.limits) (length text.stations)
+    || (nat_lt (links_within text.limits) (plant_count edges) || nat_lt (access_within text.limits) (length (talkers_of edges))))
 
 -- whether the guard band is at least as long as each candidate, and so as the longest
 abbrev pub is_guard_too_long : SketchText → Bool
@@ -135,13 +148,13 @@ sketch_with text edges = record {
 abbrev pub with_edges : SketchText → List Edge → Result SketchDomain SketchFault
 with_edges text edges =
     refuse (first_twice edges) (λ element. fault.Domain (domain.LinkTwice element)) (
-    refuse (second_talker text edges) fault.TwoTalkerLinks (
     refuse (if_so (is_guard_too_long text)) (λ _. fault.Domain domain.GuardTooLong) (
     refuse (first_long_guard text.candidates text.guard edges) (λ element. fault.Domain (domain.LinkGuardTooLong element)) (
     refuse (first_long_delay text.sync text.guard edges) (λ element. fault.Domain (domain.DelayTooLong element)) (
     refuse (first_long_gap text.guard edges) (λ element. fault.Domain (domain.GapTooLong element)) (
     refuse (if_so (is_too_many text edges)) (λ _. fault.Domain domain.TooMany) (
     refuse (first_long_sync text.sync edges) (λ element. fault.Domain (domain.SyncTooLong element)) (
+    refuse (first_misplaced edges) fault.NoAccessLink (
     Ok (sketch_with text edges)))))))))
 
 -- a name that occurred earlier, as a fault
@@ -164,6 +177,10 @@ checked text =
 abbrev pub sketch_domain_of_text : Limits → Option (List ℕ) → List ℕ → Result SketchDomain SketchFault
 sketch_domain_of_text limits given text = and_then (sketch_of_text limits given text) checked
 
+-- that of a text whose cycle time isn't open
+abbrev pub network_of_text : Limits → List ℕ → Result SketchDomain SketchFault
+network_of_text limits text = and_then (one_of_text limits text) checked
+
 -- a node's number is below the given number of bridges or stations; and so for both ends of an edge
 abbrev pub NodeInside : ℕ → ℕ → Node → Type 0
 NodeInside bridges stations (Bridge b) = b < bridges
@@ -173,10 +190,10 @@ pub record EdgeInside (bridges stations : ℕ) (edge : Edge) : Type 0 where
   pub from_inside : NodeInside bridges stations edge.from
   pub to_inside : NodeInside bridges stations edge.to
 
--- a talker's edge leaves a station whose number is below the given one
-abbrev pub StationInside : ℕ → Node → Type 0
-StationInside stations (Bridge b) = ⊥
-StationInside stations (Station s) = s < stations
+-- a link's delays are in their ranges and in order, and so is the size of frames beside streams
+pub record IsReadLink (link : SketchLink) : Type 0 where
+  pub times_are_read : AreReadTimes link.there.times
+  pub other_is_read : ForSome link.other IsFrameSize
 
 -- the ranges and forms of values that are read, provided that given candidates have them
 pub record IsReadableSketch (text : SketchText) : Type 0 where
@@ -186,7 +203,7 @@ pub record IsReadableSketch (text : SketchText) : Type 0 where
   pub some_bridge : 0 < length text.bridges
   pub bridges_named : All (λ name. IsTrue (is_name name)) text.bridges
   pub stations_named : All (λ name. IsTrue (is_name name)) text.stations
-  pub times_are_read : All (λ (link : SketchLink). AreReadTimes link.there.times) text.links
+  pub links_are_read : All IsReadLink text.links
 
 -- the names of a text, by number: no name occurs twice
 pub record HasNumberedNames (text : SketchText) (bridges stations : List (List ℕ)) : Type 0 where

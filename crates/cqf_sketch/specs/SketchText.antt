@@ -13,7 +13,7 @@ use Rattle.cqf_topology.specs.LinkTimes.{times_read}
 use Rattle.cqf_sketch.specs.declared.draft.SketchLink.{SketchLink}
 use Rattle.cqf_sketch.specs.declared.draft.OneWay.{OneWay}
 use Rattle.cqf_sketch.specs.declared.faults.SketchFault.{SketchFault}
-use Rattle.cqf_sketch.specs.declared.faults.SketchFault.TheVariants.{BadDuplex}
+use Rattle.cqf_sketch.specs.declared.faults.SketchFault.TheVariants.{BadDuplex, BadOther}
 use Rattle.cqf_sketch.specs.Faults.{or_sketch, sketch_fault}
 
 -- the domain of a network file as its text says it: the candidates for its cycle time in the order of preference, times
@@ -68,7 +68,15 @@ duplex_by (Some d) = ok_or (as_bool d) BadDuplex
 abbrev pub duplex_at : Members → Result Bool SketchFault
 duplex_at table = duplex_by (get_member (codes "duplex") table)
 
--- a link's table: its written direction, and whether it also has the opposite one
+-- how long the frames may be that the station of an access link sends beside streams: 64 to 1,522 octets; none where the text says nothing
+abbrev pub other_by : Option Data → Result (Option ℕ) SketchFault
+other_by None = Ok None
+other_by (Some d) = and_then (ok_or (number_from 64 1522 d) BadOther) (λ octets. Ok (Some octets))
+
+abbrev pub other_at : Members → Result (Option ℕ) SketchFault
+other_at table = other_by (get_member (codes "other") table)
+
+-- a link's table: there, whether back, and what its station may send beside streams
 abbrev pub one_way_read : Members → Result OneWay TomlFault
 one_way_read table =
     and_then (read_at From name_from table) (λ from.
@@ -80,7 +88,8 @@ abbrev pub link_read : Members → Result SketchLink SketchFault
 link_read table =
     and_then (or_sketch (one_way_read table)) (λ there.
     and_then (duplex_at table) (λ duplex.
-    Ok (record { there = there; duplex = duplex })))
+    and_then (other_at table) (λ other.
+    Ok (record { there = there; duplex = duplex; other = other }))))
 
 -- the elements of the array of links; each must be a table
 abbrev pub links_from : Items → Result (List SketchLink) SketchFault
@@ -92,17 +101,29 @@ links_of_array items = if are_tables items then links_from items else Err (sketc
 abbrev pub links_read : Members → Result (List SketchLink) SketchFault
 links_read table = and_then (or_sketch (read_at Links as_array table)) links_of_array
 
--- the domain's table
-abbrev pub sketch_from : Limits → Option (List ℕ) → Members → Result SketchText SketchFault
-sketch_from limits given table =
-    and_then (or_sketch (candidates_read given table)) (λ candidates.
+-- a domain's table, but for its cycle times, which these are
+abbrev pub sketch_with_cycles : Limits → Members → List ℕ → Result SketchText SketchFault
+sketch_with_cycles limits table candidates =
     and_then (or_sketch (read_at Guard (number_from 1 10000000) table)) (λ guard.
     and_then (or_sketch (sync_from table)) (λ sync.
     and_then (or_sketch (and_then (names_at Bridges table) (if_some Bridges))) (λ bridges.
     and_then (or_sketch (names_at Stations table)) (λ stations.
     and_then (links_read table) (λ links.
-    Ok (record { limits = limits; candidates = candidates; guard = guard; sync = sync; bridges = bridges; stations = stations; links = links })))))))
+    Ok (record { limits = limits; candidates = candidates; guard = guard; sync = sync; bridges = bridges; stations = stations; links = links }))))))
+
+-- a domain's table, whose cycle time may be open
+abbrev pub sketch_from : Limits → Option (List ℕ) → Members → Result SketchText SketchFault
+sketch_from limits given table = and_then (or_sketch (candidates_read given table)) (sketch_with_cycles limits table)
+
+-- one whose cycle time isn't open
+abbrev pub one_from : Limits → Members → Result SketchText SketchFault
+one_from limits table =
+    and_then (or_sketch (read_at Cycle (number_from 10000 10000000) table)) (λ cycle. sketch_with_cycles limits table (cycle ∷ []))
 
 -- what the domain of a network file's text says, or the first fault of reading it
 abbrev pub sketch_of_text : Limits → Option (List ℕ) → List ℕ → Result SketchText SketchFault
 sketch_of_text limits given text = and_then (or_sketch (whole_document (sketch_keys given) Links link_keys text)) (sketch_from limits given)
+
+-- the same of a text whose cycle time isn't open
+abbrev pub one_of_text : Limits → List ℕ → Result SketchText SketchFault
+one_of_text limits text = and_then (or_sketch (whole_document domain_keys Links link_keys text)) (one_from limits)

@@ -1,17 +1,17 @@
 //! The checks of a network file's links. Each finds the first link that fails.
-ghost use Rattle.std.specs.Prelude.{◌≡◌, ◌<◌, All, IfOk, IfSome, Some, length, map, option_map};
+ghost use Rattle.std.specs.Prelude.{◌≡◌, ◌<◌, All, IfOk, Some, length, map};
 ghost use Rattle.cqf_topology.specs.Fields.{Gives};
-ghost use Rattle.cqf_sketch.specs.SketchDomain.{EdgeInside, StationInside, is_guard_too_long, is_too_many, second_talker, sketch_with, with_edges};
-ghost use Rattle.cqf_sketch.specs.Edges.{element_at, ends_of, first_again, first_long_delay, first_long_gap, first_long_guard, first_long_sync, first_twice};
-ghost use Rattle.cqf_sketch.specs.Edges.{from_alone, from_at, has_long_delay, has_long_gap, has_long_guard, has_long_sync, pair_of, plant_count, reaches_each, talkers_of};
+ghost use Rattle.cqf_sketch.specs.SketchDomain.{EdgeInside, access_within, is_guard_too_long, is_too_many, sketch_with, with_edges};
+ghost use Rattle.cqf_sketch.specs.Edges.{element_at, ends_of, first_long_delay, first_long_gap, first_long_guard, first_long_sync, first_misplaced, first_twice};
+ghost use Rattle.cqf_sketch.specs.Edges.{has_long_delay, has_long_gap, has_long_guard, has_long_sync, pair_of, plant_count, reaches_each, talkers_of};
 
 use crate::SketchFault;
 use crate::draft::SketchDraft;
 use crate::ends::JoinedEdge;
 use crate::repeats::find_repeat;
-use cqf_model::Node;
+use cqf_model::Limits;
 use cqf_topology::{DomainFault, End};
-use cqf_units::{Memory, Name};
+use cqf_units::Memory;
 use std::alloc::Global;
 
 /// Returns both ends of each link.
@@ -21,17 +21,6 @@ fn ends_of_all(alloc: Global, edges: &[JoinedEdge]) -> Result<Vec<(End, End)>, M
     let mut pairs = Vec::with_capacity(alloc, edges.len())?;
     for edge in edges {
         pairs.push(edge.ends())?;
-    }
-    Ok(pairs)
-}
-
-/// Returns the node that each link leaves, twice.
-fn froms_of_all(alloc: Global, edges: &[JoinedEdge]) -> Result<Vec<(End, End)>, Memory>
-    ensures { IfOk result (λ pairs. map pair_of pairs.items ≡ map from_alone edges.now) }
-{
-    let mut pairs = Vec::with_capacity(alloc, edges.len())?;
-    for edge in edges {
-        pairs.push(edge.from_alone())?;
     }
     Ok(pairs)
 }
@@ -53,66 +42,6 @@ fn element_at(edges: &[JoinedEdge], place: usize) -> Option<usize>
     ensures { result ≡ Some (element_at edges.now place) }
 {
     Some(edges[place].element())
-}
-
-/// Returns the station that the talker's link at an index leaves.
-fn station_at(talkers: &[JoinedEdge], place: usize, stations: usize) -> Option<usize>
-    requires place { place < length talkers.now }
-    requires inside { All (λ edge. StationInside stations edge.from) talkers.now }
-    ensures station { option_map Node.Station result ≡ Some (from_at talkers.now place) }
-    ensures within { IfSome result (λ station. station < stations) }
-{
-    match talkers[place].from() {
-        End::Station(station) => Some(station),
-        End::Bridge(_) => unreachable!(),
-    }
-}
-
-/// Returns the first station that a talker's link leaves and an earlier talker's link leaves too. Each talker's link
-/// leaves a station whose number is below `stations`.
-fn find_again(
-    alloc: Global,
-    talkers: &[JoinedEdge],
-    stations: usize,
-) -> Result<Option<usize>, Memory>
-    requires { All (λ edge. StationInside stations edge.from) talkers.now }
-    ensures station { IfOk result (λ station. option_map Node.Station station ≡ first_again talkers.now) }
-    ensures within { IfOk result (λ station. IfSome station (λ station. station < stations)) }
-{
-    let pairs = froms_of_all(alloc, talkers)?;
-    match find_repeat(alloc, pairs.as_slice())? {
-        Some(place) => Ok(station_at(talkers, place, stations)),
-        None => Ok(None),
-    }
-}
-
-/// Returns the first station with a second talker's link.
-fn second_talker(
-    alloc: Global,
-    draft: &SketchDraft,
-    edges: &[JoinedEdge],
-) -> Result<Option<Name>, Memory>
-    requires { All (EdgeInside (length draft.now.bridges) (length draft.now.stations)) edges.now }
-    ensures { IfOk result (λ name. name ≡ second_talker draft.now edges.now) }
-{
-    let talkers = talkers_of(alloc, edges)?;
-    match find_again(alloc, talkers.as_slice(), draft.stations().len())? {
-        Some(station) => Ok(Some(draft.stations()[station].copied())),
-        None => Ok(None),
-    }
-}
-
-/// Returns the talkers' links.
-pub(crate) fn talkers_of(alloc: Global, edges: &[JoinedEdge]) -> Result<Vec<JoinedEdge>, Memory>
-    ensures { IfOk result (λ talkers. talkers.items ≡ talkers_of edges.now) }
-{
-    let mut talkers = Vec::new(alloc);
-    for edge in edges {
-        if edge.is_talkers() {
-            talkers.push(*edge)?;
-        }
-    }
-    Ok(talkers)
 }
 
 /// Whether a guard band is at least as long as each candidate.
@@ -214,6 +143,38 @@ fn find_long_sync(edges: &[JoinedEdge], sync: u32) -> Option<usize>
     None
 }
 
+/// The element of the first link that has frames beside streams and leaves no station.
+fn find_misplaced(edges: &[JoinedEdge]) -> Option<usize>
+    ensures { result ≡ first_misplaced edges.now }
+{
+    for edge in edges {
+        if edge.is_misplaced() {
+            return Some(edge.element());
+        }
+    }
+    None
+}
+
+/// How many links are access links.
+fn access_count(edges: &[JoinedEdge]) -> usize
+    ensures { result ≡ length (talkers_of edges.now) }
+{
+    let mut count = 0;
+    for edge in edges {
+        if edge.is_talkers() {
+            count += 1;
+        }
+    }
+    count
+}
+
+/// How many access links there may be: four for each station that there may be.
+fn access_within(limits: Limits) -> usize
+    ensures { result ≡ access_within limits }
+{
+    4 * limits.stations_within()
+}
+
 /// Returns how many links are links of the plan.
 pub(crate) fn plant_count(edges: &[JoinedEdge]) -> usize
     ensures { result ≡ plant_count edges.now }
@@ -234,7 +195,7 @@ fn is_guard_too_long(draft: &SketchDraft) -> bool
     reaches_each(draft.candidates(), draft.guard())
 }
 
-/// Whether there are more bridges, stations or links of the plan than a domain may have.
+/// Whether there are more bridges, stations, links that begin at a bridge or access links than there may be.
 fn is_too_many(draft: &SketchDraft, edges: &[JoinedEdge]) -> bool
     ensures { result ≡ is_too_many draft.now edges.now }
 {
@@ -242,6 +203,7 @@ fn is_too_many(draft: &SketchDraft, edges: &[JoinedEdge]) -> bool
     draft.bridges().len() > limits.bridges_within()
         || draft.stations().len() > limits.stations_within()
         || plant_count(edges) > limits.links_within()
+        || access_count(edges) > access_within(limits)
 }
 
 /// Makes the checks of a domain whose links are numbered, except those of its names and ends. Returns the first that
@@ -258,9 +220,6 @@ pub(crate) fn check(
     let sync = draft.sync();
     if let Some(element) = find_twice(alloc, edges)? {
         return Err(SketchFault::Domain(DomainFault::LinkTwice(element)));
-    }
-    if let Some(station) = second_talker(alloc, draft, edges)? {
-        return Err(SketchFault::TwoTalkerLinks(station));
     }
     if is_guard_too_long(draft) {
         return Err(SketchFault::Domain(DomainFault::GuardTooLong));
@@ -279,6 +238,9 @@ pub(crate) fn check(
     }
     if let Some(element) = find_long_sync(edges, sync) {
         return Err(SketchFault::Domain(DomainFault::SyncTooLong(element)));
+    }
+    if let Some(element) = find_misplaced(edges) {
+        return Err(SketchFault::NoAccessLink(element));
     }
     Ok(())
 }

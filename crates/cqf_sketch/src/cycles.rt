@@ -10,7 +10,7 @@ use std::alloc::Global;
 use toml::{Table, Value};
 
 /// The shortest cycle, in nanoseconds.
-const SHORTEST_CYCLE: u32 = 10_000;
+pub(crate) const SHORTEST_CYCLE: u32 = 10_000;
 
 /// The most candidates that a network file may have.
 pub const MOST_CANDIDATES: usize = 1_000;
@@ -66,7 +66,7 @@ fn if_some_few(cycles: Vec<u32>) -> Result<Vec<u32>, TomlFault>
 }
 
 /// Returns a single cycle time as candidates.
-fn one_cycle(alloc: Global, cycle: u32) -> Result<Vec<u32>, TomlFault>
+pub(crate) fn one_cycle(alloc: Global, cycle: u32) -> Result<Vec<u32>, TomlFault>
     ensures { Gives TomlFault.Memory (λ cycles. cycles.items) result (Ok (cycle ∷ [])) }
 {
     let mut cycles = Vec::new(alloc);

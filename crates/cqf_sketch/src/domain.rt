@@ -4,11 +4,11 @@ ghost use Rattle.cqf_model.specs.Limits.{most_bridges, most_stations};
 ghost use Rattle.cqf_sketch.specs.Edges.{talkers_of};
 ghost use Rattle.cqf_topology.specs.Fields.{Gives};
 ghost use Rattle.cqf_sketch.specs.SketchDomain.{AreCandidates, AreCheckedEdges, HasNumberedNames, HasTalkerLinks, IsOpenCycle, IsReadableSketch, domain_at, longest_guard, longest_of, open_cycle};
-ghost use Rattle.cqf_sketch.specs.SketchDomain.{EdgeInside, checked, link_of, plant_of, sketch_domain_of_text, sketch_with, talker_of, with_names};
+ghost use Rattle.cqf_sketch.specs.SketchDomain.{EdgeInside, checked, link_of, network_of_text, plant_of, sketch_domain_of_text, sketch_with, talker_of, with_names};
 
 use crate::SketchFault;
 use crate::checks::check;
-use crate::draft::{SketchDraft, read_draft};
+use crate::draft::{SketchDraft, read_draft, read_one_draft};
 use crate::ends::{JoinedEdge, join_edges};
 use cqf_model::{Limits, Link};
 use cqf_topology::{Domain, DomainFault, LinkList, NameList, numbered_names};
@@ -16,7 +16,7 @@ use cqf_units::{Memory, Name, Rate};
 use std::alloc::Global;
 use std::marker::Model;
 
-/// A talker's link, from a station to its bridge. It isn't a link of the plan.
+/// An access link, from a station to a bridge. It has no gates and no budget, and isn't one of the domain's links.
 #[derive(Clone, Copy, Debug, PartialEq, Eq)]
 pub struct TalkerLink {
     /// The station's number.
@@ -26,6 +26,10 @@ pub struct TalkerLink {
     pub rate: Rate,
     /// The greatest delay, in nanoseconds.
     pub delay: u32,
+    /// The least delay, at most the greatest.
+    pub least: u32,
+    /// The most octets that a frame has which the station sends beside its streams, 64 to 1,522; `None` where it sends no such frame.
+    pub other: Option<u32>,
 }
 
 /// The domain of a network file: its limits, the candidates for its cycle time in the order of preference, its guard
@@ -184,23 +188,19 @@ impl SketchDomain {
     /// 10,000,000 ns. Unknown keys are ignored.
     ///
     /// # Errors
-    /// The faults of [`read_draft`] come first. Then each of these checks is made over the whole file before the next:
+    /// The first fault of reading, as of [`read_draft`]. Then, each over the whole text before the next:
+    /// - `NameTaken`: a name is the same as one before it, bridges before stations;
+    /// - `UnknownName`: `from` names no node; or `to` names no other node, or no bridge if `from` is a station;
+    /// - `LinkTwice`: a link leads as an earlier one does, also in the direction back of a `duplex` one;
+    /// - `GuardTooLong`: the guard band isn't shorter than the greatest candidate; `LinkGuardTooLong`: the own guard band of a link that begins
+    ///   at a bridge isn't;
+    /// - `DelayTooLong`: the greatest delay of a link that begins at a bridge, with how far clocks may be apart, isn't below its guard band;
+    /// - `GapTooLong`: the gap after a frame takes longer than the guard band of such a link;
+    /// - `TooMany`: there are too many bridges, stations, links that begin at a bridge, or access links;
+    /// - `SyncTooLong`: on a link that begins at a bridge clocks may be further apart than a shortest frame and its least delay take together;
+    /// - `NoAccessLink`: a link has `other` and begins at a station in neither direction.
     ///
-    /// * `NameTaken`: the first name, bridges before stations, that occurred earlier.
-    /// * `UnknownName`: the first `from` that names no node, or `to` that names no node to which the link can lead:
-    ///   another bridge, or a station if `from` is a bridge.
-    /// * `LinkTwice`: the first link one of whose directions has the ends of an earlier one.
-    /// * `TwoTalkerLinks`: the first station with a second talker's link.
-    /// * `GuardTooLong`: the guard band is at least as long as each candidate.
-    /// * `LinkGuardTooLong`: the first link of the plan whose own guard band is.
-    /// * `DelayTooLong`: the first link of the plan whose greatest delay and how far clocks may differ, together,
-    ///   aren't below its guard band.
-    /// * `GapTooLong`: the first link of the plan on which the gap after a frame takes longer than its guard band.
-    /// * `TooMany`: there are more bridges, stations or links of the plan than the limits allow.
-    /// * `SyncTooLong`: the first link of the plan on which clocks may differ by more than a shortest frame and its
-    ///   least delay take together.
-    ///
-    /// `Memory` if an allocation fails.
+    /// A link is given by the index of its element in `links`, from 0. `Memory` if an allocation fails.
     pub fn read(
         alloc: Global,
         text: &[u8],
@@ -212,6 +212,18 @@ impl SketchDomain {
             (sketch_domain_of_text limits (option_map (λ cycles. cycles.items) given) text.now) }
     {
         let draft = read_draft(alloc, text, limits, given)?;
+        SketchDomain::of_draft(alloc, &draft)
+    }
+
+    /// The domain of a text whose cycle time is one number, as every command but `plan` reads it. The domain has this one candidate, and it
+    /// is open.
+    ///
+    /// # Errors
+    /// As of [`SketchDomain::read`], but that an array at `cycle` is `BadValue`.
+    pub fn read_one(alloc: Global, text: &[u8], limits: Limits) -> Result<SketchDomain, SketchFault>
+        ensures { Gives (SketchFault.Domain DomainFault.Memory) (λ domain. domain) result (network_of_text limits text.now) }
+    {
+        let draft = read_one_draft(alloc, text, limits)?;
         SketchDomain::of_draft(alloc, &draft)
     }
 
@@ -283,8 +295,8 @@ impl SketchDomain {
         self.links.as_slice()
     }
 
-    /// Does nothing at run time. In a proof, it supplies what was checked when the file was read: each talker's link
-    /// leads from a station to a bridge of the file, and no station has two.
+    /// Does nothing. Makes known to a proof what was checked when the network was read: each access link goes from a station to a bridge of
+    /// the network, and no two have the same ends.
     pub fn know(&self)
         ensures there { HasTalkerLinks self.now }
     {
@@ -292,7 +304,21 @@ impl SketchDomain {
         let _ = &self.talkers;
     }
 
-    /// Returns the talkers' links, each from a station to a bridge of the file. No station has two.
+    /// The names of the bridges, by number.
+    pub fn bridges(&self) -> &NameList
+        ensures { result.now.keys ≡ self.now.bridges }
+    {
+        &self.bridges
+    }
+
+    /// The names of the stations, by number.
+    pub fn stations(&self) -> &NameList
+        ensures { result.now.keys ≡ self.now.stations }
+    {
+        &self.stations
+    }
+
+    /// Returns the access links, each from a station to a bridge of the network, in the order of the text. No two have the same ends.
     pub fn talkers(&self) -> &[TalkerLink]
         ensures value { result.now ≡ self.now.talkers }
         ensures there { HasTalkerLinks self.now }

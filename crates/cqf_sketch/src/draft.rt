@@ -3,13 +3,15 @@ ghost use Rattle.std.specs.Prelude.{◌≡◌, codes, drop, if◌then◌else◌,
 ghost use Rattle.toml.specs.View.{items_view, table_view, view};
 ghost use Rattle.toml.specs.Data.{as_bool, as_table, get_member};
 ghost use Rattle.cqf_lists.specs.Results.{and_then};
-ghost use Rattle.cqf_topology.specs.Fields.{Gives, names_at};
+ghost use Rattle.cqf_topology.specs.Fields.{Gives, names_at, number_from};
 ghost use Rattle.cqf_topology.specs.DomainText.{if_some};
 ghost use Rattle.cqf_sketch.specs.Faults.{sketch_fault};
-ghost use Rattle.cqf_sketch.specs.SketchText.{candidates_read, duplex_at, link_read, links_from, links_read, one_way_read, sketch_from, sketch_of_text};
+ghost use Rattle.cqf_sketch.specs.SketchText.{candidates_read, duplex_at, link_read, links_from, links_read, one_from, one_of_text, one_way_read, other_at};
+ghost use Rattle.cqf_sketch.specs.SketchText.{sketch_from, sketch_of_text, sketch_with_cycles};
 
 use crate::SketchFault;
-use crate::cycles::candidates_at;
+use crate::cycles::{SHORTEST_CYCLE, candidates_at, one_cycle};
+use crate::frames::{LONGEST_FRAME, frame_octets};
 use cqf_model::{LONGEST_CYCLE, Limits};
 use cqf_topology::{
     DomainFault, Key, LinkTimes, TomlFault, are_all_tables, array_at, name_at, names_at, number_at,
@@ -33,6 +35,9 @@ pub struct OneWay {
 pub struct SketchLink {
     pub there: OneWay,
     pub duplex: bool,
+    /// The most octets that a frame has which the station that it leaves, there or back, sends beside its streams; `None` where it sends no
+    /// such frame.
+    pub other: Option<u32>,
 }
 
 /// The domain of a network file as its text says it: times in nanoseconds, and links by the names of their ends.
@@ -150,13 +155,48 @@ fn read_duplex(table: &Table) -> Result<bool, SketchFault>
     }
 }
 
+/// The size of frames beside streams that a value means, in octets.
+fn other_octets(value: &Value) -> Result<u32, SketchFault>
+    ensures { result ≡ ok_or (number_from 64 1522 (view value.now)) SketchFault.BadOther }
+{
+    match frame_octets(value, LONGEST_FRAME) {
+        Some(octets) => Ok(octets),
+        None => Err(SketchFault::BadOther),
+    }
+}
+
+/// The value at `other` of a link's table.
+fn other_value(table: &Table) -> Option<&Value>
+    ensures { option_map (λ v. view v.now) result ≡ get_member (codes "other") (table_view table.now) }
+{
+    table.get("other")
+}
+
+/// The size of frames beside streams, in octets, where a link's table says it.
+fn read_other(table: &Table) -> Result<Option<u32>, SketchFault>
+    ensures { result ≡ other_at (table_view table.now) }
+{
+    match other_value(table) {
+        Some(value) => {
+            let octets = other_octets(value)?;
+            Ok(Some(octets))
+        }
+        None => Ok(None),
+    }
+}
+
 /// Reads a link's table.
 fn read_link(table: &Table) -> Result<SketchLink, SketchFault>
     ensures { result ≡ link_read (table_view table.now) }
 {
     let there = read_one_way(table)?;
     let duplex = read_duplex(table)?;
-    Ok(SketchLink { there, duplex })
+    let other = read_other(table)?;
+    Ok(SketchLink {
+        there,
+        duplex,
+        other,
+    })
 }
 
 /// Reads a link from an element of the array of links.
@@ -217,17 +257,16 @@ fn read_candidates(
     }
 }
 
-/// Reads a domain's table.
-fn read_table(
+/// A domain's table, with these cycle times in place of its own.
+fn read_with_cycles(
     alloc: Global,
     table: &Table,
     limits: Limits,
-    given: Option<Vec<u32>>,
+    candidates: Vec<u32>,
 ) -> Result<SketchDraft, SketchFault>
     ensures { Gives (SketchFault.Domain DomainFault.Memory) (λ draft. draft) result
-        (sketch_from limits (option_map (λ cycles. cycles.items) given) (table_view table.now)) }
+        (sketch_with_cycles limits (table_view table.now) candidates.items) }
 {
-    let candidates = read_candidates(alloc, table, given)?;
     let guard = number_at(table, Key::Guard, 1, LONGEST_CYCLE)?;
     let sync = sync_at(table)?;
     let bridges = read_bridges(alloc, table)?;
@@ -244,6 +283,29 @@ fn read_table(
     })
 }
 
+/// A domain's table, whose cycle time may be open.
+fn read_table(
+    alloc: Global,
+    table: &Table,
+    limits: Limits,
+    given: Option<Vec<u32>>,
+) -> Result<SketchDraft, SketchFault>
+    ensures { Gives (SketchFault.Domain DomainFault.Memory) (λ draft. draft) result
+        (sketch_from limits (option_map (λ cycles. cycles.items) given) (table_view table.now)) }
+{
+    let candidates = read_candidates(alloc, table, given)?;
+    read_with_cycles(alloc, table, limits, candidates)
+}
+
+/// A domain's table, whose cycle time isn't open.
+fn read_one_table(alloc: Global, table: &Table, limits: Limits) -> Result<SketchDraft, SketchFault>
+    ensures { Gives (SketchFault.Domain DomainFault.Memory) (λ draft. draft) result (one_from limits (table_view table.now)) }
+{
+    let cycle = number_at(table, Key::Cycle, SHORTEST_CYCLE, LONGEST_CYCLE)?;
+    let candidates = one_cycle(alloc, cycle)?;
+    read_with_cycles(alloc, table, limits, candidates)
+}
+
 /// Returns the required keys of a network file's domain. `cycle` is among them only if no candidates are given.
 fn owed_keys(keys: &[Key; 5], given: bool) -> &[Key]
     ensures { result.now ≡ (if given then drop 1 keys.now else keys.now) }
@@ -255,9 +317,8 @@ fn owed_keys(keys: &[Key; 5], given: bool) -> &[Key]
 /// reading it. If candidates for the cycle time are given, the text's `cycle` isn't read. Unknown keys are ignored.
 ///
 /// # Errors
-/// `NotToml`, `Missing` and `BadValue` as for a plan's domain, except that `cycle` may be an array of 1 to 1,000 cycle
-/// times. `BadDuplex` if the value at `duplex` isn't a boolean; it is read after a link's other keys. `Memory` if an
-/// allocation fails.
+/// `NotToml`, `Missing` and `BadValue` as of a domain, except that `cycle` may be an array of 1 to 1,000 cycle times. After a link's other
+/// keys `BadDuplex` if `duplex` is no boolean, and `BadOther` if `other` is no integer from 64 to 1,522. `Memory` if an allocation fails.
 pub fn read_draft(
     alloc: Global,
     text: &[u8],
@@ -270,4 +331,19 @@ pub fn read_draft(
     let keys = owed_keys(&KEYS, given.is_some());
     let table = read_document(alloc, text, keys, Key::Links, &LINK_KEYS)?;
     read_table(alloc, &table, limits, given)
+}
+
+/// Returns what the text of a domain says whose cycle time isn't open: it is one number.
+///
+/// # Errors
+/// As of [`read_draft`], except that an array at `cycle` is `BadValue`.
+pub fn read_one_draft(
+    alloc: Global,
+    text: &[u8],
+    limits: Limits,
+) -> Result<SketchDraft, SketchFault>
+    ensures { Gives (SketchFault.Domain DomainFault.Memory) (λ draft. draft) result (one_of_text limits text.now) }
+{
+    let table = read_document(alloc, text, &KEYS, Key::Links, &LINK_KEYS)?;
+    read_one_table(alloc, &table, limits)
 }

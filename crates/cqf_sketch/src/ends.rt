@@ -4,7 +4,7 @@ ghost use Rattle.cqf_model.specs.Limits.{most_bridges, most_stations};
 ghost use Rattle.cqf_topology.specs.Fields.{Gives};
 ghost use Rattle.cqf_topology.specs.JoinedLink.{node_of};
 ghost use Rattle.cqf_sketch.specs.SketchDomain.{EdgeInside, NodeInside, link_of, number_of, talker_of};
-ghost use Rattle.cqf_sketch.specs.Edges.{back_of, edges_of, ends_of, from_alone, is_talkers, joined, joined_edge, may_lead, pair_of};
+ghost use Rattle.cqf_sketch.specs.Edges.{back_of, both_ways, edges_of, ends_of, is_misplaced, is_talkers, joined, joined_edge, may_lead, pair_of, without_other};
 
 use crate::SketchFault;
 use crate::domain::TalkerLink;
@@ -21,6 +21,7 @@ pub(crate) struct JoinedEdge {
     from: End,
     to: End,
     times: LinkTimes,
+    other: Option<u32>,
     element: usize,
 }
 
@@ -30,9 +31,9 @@ impl Model for JoinedEdge {
 
     ghost Value = { Edge };
 
-    ghost view = { λ e. record { from = node_of e.from; to = node_of e.to; times = e.times; element = e.element } };
+    ghost view = { λ e. record { from = node_of e.from; to = node_of e.to; times = e.times; other = e.other; element = e.element } };
 
-    ghost inverse = { λ e. record { from = end_of_joined e.from; to = end_of_joined e.to; times = e.times; element = e.element } };
+    ghost inverse = { λ e. record { from = end_of_joined e.from; to = end_of_joined e.to; times = e.times; other = e.other; element = e.element } };
 }
 
 /// Whether a link can lead from one node to another.
@@ -51,9 +52,10 @@ fn join_edge(
     bridges: &NameList,
     stations: &NameList,
     element: usize,
+    other: Option<u32>,
     way: &OneWay,
 ) -> Result<JoinedEdge, SketchFault>
-    ensures { result ≡ joined_edge bridges.now.keys stations.now.keys element way.now }
+    ensures { result ≡ joined_edge bridges.now.keys stations.now.keys element other way.now }
 {
     let from = match end_of_name(bridges, stations, &way.from) {
         Some(from) => from,
@@ -70,6 +72,7 @@ fn join_edge(
         from,
         to,
         times: way.times,
+        other,
         element,
     })
 }
@@ -85,25 +88,11 @@ impl JoinedEdge {
         }
     }
 
-    /// Returns the node that it leaves.
-    pub(crate) fn from(self) -> End
-        ensures { node_of result ≡ self.from }
-    {
-        self.from
-    }
-
     /// Returns both its ends.
     pub(crate) fn ends(self) -> (End, End)
         ensures { pair_of result ≡ ends_of self }
     {
         (self.from, self.to)
-    }
-
-    /// Returns the node that it leaves, twice.
-    pub(crate) fn from_alone(self) -> (End, End)
-        ensures { pair_of result ≡ from_alone self }
-    {
-        (self.from, self.from)
     }
 
     /// Returns it as a link of the plan.
@@ -131,6 +120,8 @@ impl JoinedEdge {
             bridge: small_number(self.to),
             rate: self.times.rate,
             delay: self.times.delay,
+            least: self.times.least,
+            other: self.other,
         }
     }
 
@@ -156,8 +147,26 @@ impl JoinedEdge {
             from: self.to,
             to: self.from,
             times: self.times,
+            other: self.other,
             element: self.element,
         }
+    }
+
+    /// The same link without frames beside streams.
+    fn without_other(self) -> JoinedEdge
+        ensures { result ≡ without_other self }
+    {
+        JoinedEdge {
+            other: None,
+            ..self
+        }
+    }
+
+    /// Whether it has frames beside streams and leaves no station.
+    pub(crate) fn is_misplaced(self) -> bool
+        ensures { result ≡ is_misplaced self }
+    {
+        self.other.is_some() && !self.is_talkers()
     }
 }
 
@@ -183,14 +192,29 @@ fn small_node(end: End) -> Node
     }
 }
 
+/// Adds both directions of a link to those of others. Frames beside streams belong to the one that leaves the station.
+fn add_both(edges: &mut Vec<JoinedEdge>, edge: JoinedEdge) -> Result<(), Memory>
+    ensures { OnOk result (edges.new.items ≡ edges.old.items ++ both_ways edge) }
+{
+    let back = edge.back();
+    if back.is_talkers() {
+        edges.push(edge.without_other())?;
+        edges.push(back)?;
+    } else {
+        edges.push(edge)?;
+        edges.push(back.without_other())?;
+    }
+    Ok(())
+}
+
 /// Appends the directions of a link to those of others.
 fn add_edges(edges: &mut Vec<JoinedEdge>, edge: JoinedEdge, duplex: bool) -> Result<(), Memory>
     ensures { OnOk result (edges.new.items ≡ edges.old.items ++ edges_of duplex edge) }
 {
-    edges.push(edge)?;
     if duplex {
-        edges.push(edge.back())?;
+        return add_both(edges, edge);
     }
+    edges.push(edge)?;
     Ok(())
 }
 
@@ -205,7 +229,7 @@ pub(crate) fn join_edges(
 {
     let mut edges = Vec::new(alloc);
     for (element, link) in links.iter().enumerate() {
-        let edge = join_edge(bridges, stations, element, &link.there)?;
+        let edge = join_edge(bridges, stations, element, link.other, &link.there)?;
         add_edges(&mut edges, edge, link.duplex)?;
     }
     Ok(edges)

@@ -3,7 +3,7 @@ ghost use Rattle.std.specs.Prelude.{◌≡◌, Some};
 ghost use Rattle.cqf_sketch.specs.Faults.{sketch_fault, sketch_fault_text};
 
 use cqf_topology::{DomainFault, TomlFault};
-use cqf_units::{Memory, Name};
+use cqf_units::Memory;
 use std::alloc::AllocFailed;
 use std::fmt;
 use thiserror::Error;
@@ -17,8 +17,10 @@ pub enum SketchFault {
     Domain(DomainFault),
     /// The value at `duplex` of a link isn't a boolean.
     BadDuplex,
-    /// The first station with a second talker's link.
-    TwoTalkerLinks(Name),
+    /// The value at `other` of a link is no size of a frame.
+    BadOther,
+    /// The first link that has `other` and leaves no station, there or back, by its element's place in `links`, from 0.
+    NoAccessLink(usize),
 }
 
 impl fmt::Display for SketchFault {
@@ -28,7 +30,8 @@ impl fmt::Display for SketchFault {
         match self {
             SketchFault::Domain(fault) => write!(f, "{fault}"),
             SketchFault::BadDuplex => f.write_str("BadValue duplex"),
-            SketchFault::TwoTalkerLinks(station) => write!(f, "TwoTalkerLinks {station}"),
+            SketchFault::BadOther => f.write_str("BadValue other"),
+            SketchFault::NoAccessLink(element) => write!(f, "NoAccessLink {element}"),
         }
     }
 }

@@ -1,19 +1,15 @@
-//! Network files, whose cycle time a planner chooses among candidates: their domains, their streams, and paths for
-//! these.
+//! Network files: their domains, their streams, and paths for these.
 //!
-//! - **Domains.** [`SketchDomain::read`] returns the domain of a text: a plan's domain whose cycle time isn't chosen
-//!   yet, and each [`TalkerLink`], by which talkers send. Otherwise it returns a [`SketchFault`], the first fault.
-//!   `cycle` may be an array of candidates, a link may be `duplex`, and it may leave a station. `read_draft` only reads
-//!   the text, as a `SketchDraft` of `SketchLink`s; it doesn't check names and ends.
-//! - **Streams.** [`read_sketch_streams`] returns the streams of a text, or the first fault ([`FlowsFault`]). A
-//!   [`Stream`] has traffic, a deadline, a [`WantedWay`], which is given branches or the ends that paths join, and its
-//!   [`Pacing`].
-//! - **Paths.** A [`Room`] has the links of a network, what each has left, and what a stream costs. [`first_way`] finds
-//!   the first path from a bridge to a node on which each link has room, among those with fewest links, if and only if
-//!   there is one. [`first_ways`] finds those to several stations, which are the branches of a tree
-//!   ([`first_ways_are_a_tree`]), or returns a [`WaysFault`]. If there is no path for lack of room, [`first_short`]
-//!   returns the link that lacks it on the first path of all, which is found at a cost of 0
-//!   ([`full_ways_have_a_short_link`]).
+//! - **Domains.** [`SketchDomain::read`] returns the domain that a text means, with the candidates for its cycle time and each [`TalkerLink`], an
+//!   access link of a station; or a [`SketchFault`], the first fault. `cycle` may be an array of candidates, a link may be `duplex`, and it may
+//!   begin at a station. `read_draft` reads the text alone, as a `SketchDraft` of `SketchLink`s, without names and ends.
+//! - **Streams.** [`read_sketch_streams`] returns those of a text, or the first fault ([`FlowsFault`]). Each is a [`Stream`] with its traffic, its
+//!   deadline, its [`Pacing`], and its [`WantedWay`]: given branches, or the ends between which they go. [`read_network_flows`] returns streams
+//!   that leave nothing open, each a [`NetworkFlow`] from its [`Talker`] on.
+//! - **Paths.** A [`Room`] has the links of a network, what each has left, and what a stream costs. [`first_way`] finds the first of the shortest
+//!   paths from a bridge to a node on which each link has room, if there is one. [`first_ways`] finds those to several stations, which are the
+//!   branches of a tree ([`first_ways_are_a_tree`]), or a [`WaysFault`]. If there is none for want of room, [`first_short`] names the link that
+//!   lacks it on the first path of all, which is found at a cost of 0 ([`full_ways_have_a_short_link`]).
 //!
 //! ```text
 //! cycle = [250000, 125000]
@@ -26,8 +22,8 @@
 //! ]
 //! ```
 //!
-//! has two candidates and the plan's links a to b, b to a and b to s, numbered from 0. The link from s to b is the
-//! talker's link of s. With a third link from s to a the file is refused: `TwoTalkerLinks s`.
+//! has two candidates and the links a to b, b to a and b to s, numbered from 0. The link from s back to b is an access link of s. A third
+//! link from s to a is another one.
 //!
 //! ```text
 //! [[streams]]
@@ -38,9 +34,8 @@
 //! size = 704
 //! ```
 //!
-//! is a stream from the talker mic to two listeners. With `path` and `from` it is refused: `BadValue from`. With
-//! `every` and `in-step = true`, which says that its talker is in step with the network, it is refused too:
-//! `BadValue every`.
+//! is a stream from the talker mic to two listeners. With `path` beside them it is the same stream along that path. With `in-step = true`, which
+//! says that its talker is in step with the network, the plan says in which cycles it is offered, unless the stream has `every`.
 //!
 //! The first path from a to s, with links 0 from bridge a to bridge b, 1 from a to c, 2 from b to station s and 3 from
 //! c to s:
@@ -58,13 +53,16 @@ mod domain;
 mod draft;
 mod ends;
 mod faults;
+mod frames;
 mod lacks;
 mod laws;
 mod listeners;
+mod network_flows;
 mod pacing;
 mod repeats;
 mod room;
 mod streams;
+mod talkers;
 mod wanted;
 mod way_ends;
 mod ways;
@@ -74,8 +72,10 @@ pub use domain::{SketchDomain, TalkerLink};
 pub use faults::SketchFault;
 pub use laws::{first_ways_are_a_tree, full_ways_have_a_short_link};
 pub use listeners::{WaysFault, first_ways};
+pub use network_flows::{NetworkFlow, read_network_flows};
 pub use pacing::Pacing;
 pub use room::Room;
 pub use streams::{Stream, read_sketch_streams};
+pub use talkers::Talker;
 pub use wanted::WantedWay;
 pub use ways::{first_short, first_way};

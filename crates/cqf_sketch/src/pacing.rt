@@ -2,7 +2,7 @@
 ghost use Rattle.std.specs.Prelude.{◌≡◌, codes, ok_or, option_map};
 ghost use Rattle.toml.specs.Data.{as_bool, get_member};
 ghost use Rattle.toml.specs.View.{table_view, view};
-ghost use Rattle.cqf_sketch.specs.StreamsText.{first_given, in_step_at, pacing_by, pacing_from};
+ghost use Rattle.cqf_sketch.specs.StreamsText.{is_pacing_open, in_step_at, pacing_by, pacing_from};
 
 use cqf_topology::{Key, StreamsFault, number_or, value_at};
 use cqf_traffic::FlowsFault;
@@ -44,30 +44,25 @@ fn read_in_step(table: &Table) -> Result<bool, FlowsFault>
     }
 }
 
-/// Returns the first key in a stream's table that says in which cycles the stream is offered.
-fn first_given(table: &Table) -> Option<Key>
-    ensures { result ≡ first_given (table_view table.now) }
+/// Whether the pacing of a stream's table is open: its talker is in step, and nothing says of how many cycles it is offered in one.
+fn is_open(table: &Table, in_step: bool) -> bool
+    ensures { result ≡ is_pacing_open in_step (table_view table.now) }
 {
-    if value_at(table, Key::Every).is_some() {
-        return Some(Key::Every);
-    }
-    if value_at(table, Key::Phase).is_some() {
-        return Some(Key::Phase);
-    }
-    None
+    in_step && value_at(table, Key::Every).is_none()
 }
 
-/// Returns the pacing of a stream's table with the given cycles, whose talker may be in step.
+/// The pacing of a stream's table with these cycles, whose talker may be in step: then it is open, unless the table says of how many cycles
+/// the stream is offered in one.
 fn pacing_by(table: &Table, every: u32, phase: u32, in_step: bool) -> Result<Pacing, FlowsFault>
     ensures { result ≡ pacing_by every phase in_step (table_view table.now) }
 {
-    if !in_step {
+    if !is_open(table, in_step) {
         return Ok(Pacing::Given { every, phase });
     }
-    match first_given(table) {
-        Some(key) => Err(FlowsFault::Streams(StreamsFault::BadValue(key))),
-        None => Ok(Pacing::InStep),
+    if value_at(table, Key::Phase).is_some() {
+        return Err(FlowsFault::Streams(StreamsFault::BadValue(Key::Phase)));
     }
+    Ok(Pacing::InStep)
 }
 
 /// Reads in which cycles the stream of a table is offered.

@@ -9,12 +9,14 @@ ghost use Rattle.cqf_sketch.specs.StreamsText.{octets_from, sketch_streams_of_te
 
 use crate::lacks::first_lack_of;
 use crate::pacing::{Pacing, read_pacing};
-use crate::wanted::{WantedWay, read_wanted};
+use crate::talkers::{Talker, read_listeners, read_shortest, read_talker};
+use crate::wanted::{WantedWay, read_branches, way_by};
 use cqf_topology::{
     Key, StreamsFault, are_all_tables, array_at, deadline_of, number_at, read_document, text_at,
     value_at,
 };
 use cqf_traffic::{FlowsFault, Traffic, traffic_of};
+use cqf_units::Name;
 use std::alloc::Global;
 use toml::{Table, Value};
 
@@ -26,10 +28,16 @@ pub struct Stream {
     pub octets: Option<u32>,
     pub pacing: Pacing,
     pub way: WantedWay,
-    /// In nanoseconds: from the instant at which a talker's station begins to send a frame; if there is no talker, from
-    /// its edge bridge.
+    /// Where the text says it.
+    pub talker: Option<Talker>,
+    /// Where the text says them: 1 to 64 and all different.
+    pub listeners: Option<Vec<Name>>,
+    /// In nanoseconds: from the instant at which a talker's station hands a frame to its access link, or else from its edge bridge.
     pub deadline: Option<u32>,
+    /// What the talker promises there.
     pub traffic: Option<Traffic>,
+    /// How many octets its shortest frame has, where the text says it.
+    pub shortest: Option<u32>,
 }
 
 /// Reads the octets of a stream's table, if it has them.
@@ -62,16 +70,23 @@ fn read_stream(alloc: Global, table: &Table) -> Result<Stream, FlowsFault>
     let name = text_at(alloc, table, Key::Name)?;
     let octets = read_octets(table)?;
     let pacing = read_pacing(table)?;
-    let way = read_wanted(alloc, table)?;
+    let paths = read_branches(alloc, table)?;
+    let talker = read_talker(table)?;
+    let listeners = read_listeners(alloc, table)?;
+    let way = way_by(alloc, paths, &talker, &listeners)?;
     let deadline = deadline_of(table)?;
     let traffic = read_traffic(table)?;
+    let shortest = read_shortest(table, &traffic)?;
     Ok(Stream {
         name,
         octets,
         pacing,
         way,
+        talker,
+        listeners,
         deadline,
         traffic,
+        shortest,
     })
 }
 
@@ -111,22 +126,17 @@ fn streams_of_table(alloc: Global, table: &Table) -> Result<Vec<Stream>, FlowsFa
 
 /// Returns the streams of a network file's text, in its order. Unknown keys are ignored.
 ///
-/// `streams` is an array of tables. These keys of each are read, in this order:
-///
-/// * `name`: a text.
-/// * `octets`: an integer from 0 to 4,294,967,295. It is required if there is no key of traffic.
-/// * `every` and `phase`: such integers; by default 1 and 0.
-/// * `in-step`: a boolean.
-/// * `path`: an array of texts; or `paths`: an array of such arrays. Without either, `from`: a name; and `to`: a name
-///   or an array of 1 to 64 names, all different.
-/// * `deadline`: an integer from 1 to 4,294,967,295.
-/// * The keys of traffic ([`cqf_traffic::traffic_of`]).
+/// `streams` is an array of tables. Of each these keys are read, in this order: `name`, a text; `octets`, an integer from
+/// 0 to 4,294,967,295, required if the stream has no key of traffic; `every` and `phase`, such integers, 1 and 0 if they are missing;
+/// `in-step`, a boolean; `path`, an array of texts, or `paths`, an array of such arrays; `from`, a name, or a station's and a bridge's with
+/// `@` between, and `to`, a name or an array of 1 to 64 names, all different, both required if there are no branches; `deadline`, an integer
+/// from 1 to 4,294,967,295; the keys of traffic ([`cqf_traffic::traffic_of`]); and `least-size`, an integer from 64 to the traffic's `size`,
+/// or to 1,522 without traffic.
 ///
 /// # Errors
-/// `NotToml` if the text isn't TOML. `Missing` with the first required key that is absent, stream by stream. `BadValue`
-/// with the first key that has another value, stream by stream. It is also returned for `every` or `phase` with an
-/// `in-step` that is true, for `paths` with a good `path`, and for `from` or `to` with good branches. `Memory` if an
-/// allocation fails.
+/// `NotToml` where the text isn't TOML; `Missing` of the first key that is owed and absent, stream by stream; `BadValue` of the first
+/// key with another value, stream by stream, and that is `phase` beside an `in-step` that is true and without `every`, and `paths` beside a
+/// good `path`; `Memory` where a growth is refused.
 pub fn read_sketch_streams(alloc: Global, text: &[u8]) -> Result<Vec<Stream>, FlowsFault>
     ensures { Gives (FlowsFault.Streams StreamsFault.Memory) (λ streams. map stream_text streams.items) result (sketch_streams_of_text text.now) }
 {

@@ -1,13 +1,14 @@
 //! The path that a stream of a network file is to take.
-ghost use Rattle.std.specs.Prelude.{◌≡◌, ◌∷◌, [], is_none, is_some, Ok, option_and_then};
+ghost use Rattle.std.specs.Prelude.{◌≡◌, ◌∷◌, [], is_none, is_some, map, Ok, option_and_then, option_map, Some, string_bytes, true};
 ghost use Rattle.toml.specs.Data.{as_array};
 ghost use Rattle.cqf_model.specs.Domain.{is_text};
 ghost use Rattle.toml.specs.View.{table_view};
 ghost use Rattle.cqf_topology.specs.Fields.{Gives, value_at};
 ghost use Rattle.cqf_topology.specs.DomainText.{first_taken, is_among};
-ghost use Rattle.cqf_sketch.specs.StreamsText.{along_from, between_from, first_end, if_listeners, listeners_of, wanted_from, wanted_text};
+ghost use Rattle.cqf_sketch.specs.StreamsText.{between_ends, branches_if, if_listeners, listeners_read, wanted_text, way_by};
 
 use crate::lacks::has_path;
+use crate::talkers::Talker;
 use cqf_topology::{Key, StreamsFault, branches_of, name_at, names_at, value_at};
 use cqf_units::Name;
 use std::alloc::Global;
@@ -23,19 +24,6 @@ pub enum WantedWay {
     Along(Vec<Vec<String>>),
     /// From a talker's station or an edge bridge to these listeners: 1 to 64, all different.
     Between(Name, Vec<Name>),
-}
-
-/// Returns the first end in a stream's table.
-fn first_end(table: &Table) -> Option<Key>
-    ensures { result ≡ first_end (table_view table.now) }
-{
-    if value_at(table, Key::From).is_some() {
-        return Some(Key::From);
-    }
-    if value_at(table, Key::To).is_some() {
-        return Some(Key::To);
-    }
-    None
 }
 
 /// Whether two names are the same.
@@ -96,9 +84,10 @@ fn has_array(table: &Table) -> bool
     }
 }
 
-/// Reads the listeners of a stream's table.
-fn listeners_at(alloc: Global, table: &Table) -> Result<Vec<Name>, StreamsFault>
-    ensures { Gives StreamsFault.Memory (λ names. names.items) result (listeners_of (value_at Key.To (table_view table.now))) }
+/// The listeners of a stream's table that has their key.
+pub(crate) fn listeners_at(alloc: Global, table: &Table) -> Result<Vec<Name>, StreamsFault>
+    requires { is_some (value_at Key.To (table_view table.now)) ≡ true }
+    ensures { Gives StreamsFault.Memory (λ names. Some names.items) result (listeners_read (table_view table.now)) }
 {
     if has_array(table) {
         return if_listeners(names_at(alloc, table, Key::To)?);
@@ -106,33 +95,62 @@ fn listeners_at(alloc: Global, table: &Table) -> Result<Vec<Name>, StreamsFault>
     one_listener(alloc, name_at(table, Key::To)?)
 }
 
-/// Reads the path of a stream's table that gives branches.
-fn read_along(alloc: Global, table: &Table) -> Result<WantedWay, StreamsFault>
-    ensures { Gives StreamsFault.Memory wanted_text result (along_from (table_view table.now)) }
+/// The branches of a stream's table, where it has them.
+pub(crate) fn read_branches(
+    alloc: Global,
+    table: &Table,
+) -> Result<Option<Vec<Vec<String>>>, StreamsFault>
+    ensures { Gives StreamsFault.Memory (λ found. option_map (λ paths. map (λ path. map string_bytes path.items) paths.items) found) result
+        (branches_if (table_view table.now)) }
 {
-    let paths = branches_of(alloc, table)?;
-    match first_end(table) {
-        Some(key) => Err(StreamsFault::BadValue(key)),
-        None => Ok(WantedWay::Along(paths)),
+    if !has_path(table) {
+        return Ok(None);
     }
+    let paths = branches_of(alloc, table)?;
+    Ok(Some(paths))
 }
 
-/// Reads the path of a stream's table that gives its ends.
-fn read_between(alloc: Global, table: &Table) -> Result<WantedWay, StreamsFault>
-    ensures { Gives StreamsFault.Memory wanted_text result (between_from (table_view table.now)) }
+/// A copy of names.
+fn copied_names(alloc: Global, names: &[Name]) -> Result<Vec<Name>, StreamsFault>
+    ensures { Gives StreamsFault.Memory (λ copies. copies.items) result (Ok names.now) }
 {
-    let from = name_at(table, Key::From)?;
-    let to = listeners_at(alloc, table)?;
-    Ok(WantedWay::Between(from, to))
+    let mut copies = Vec::new(alloc);
+    for name in names {
+        copies.push(name.copied())?;
+    }
+    Ok(copies)
 }
 
-/// Reads the path of a stream's table.
-pub(crate) fn read_wanted(alloc: Global, table: &Table) -> Result<WantedWay, StreamsFault>
-    ensures { Gives StreamsFault.Memory wanted_text result (wanted_from (table_view table.now)) }
+/// The way between a stream's talker and its listeners.
+fn way_between(
+    alloc: Global,
+    talker: &Option<Talker>,
+    listeners: &Option<Vec<Name>>,
+) -> Result<WantedWay, StreamsFault>
+    ensures { Gives StreamsFault.Memory wanted_text result (between_ends talker.now (option_map (λ names. names.items) listeners.now)) }
 {
-    if has_path(table) {
-        read_along(alloc, table)
-    } else {
-        read_between(alloc, table)
+    let Some(talker) = talker else {
+        return Err(StreamsFault::BadValue(Key::From));
+    };
+    let Some(names) = listeners else {
+        return Err(StreamsFault::BadValue(Key::To));
+    };
+    let to = copied_names(alloc, names.as_slice())?;
+    Ok(WantedWay::Between(talker.node.copied(), to))
+}
+
+/// The way of a stream: along the branches that are given, or else between its talker and its listeners.
+pub(crate) fn way_by(
+    alloc: Global,
+    paths: Option<Vec<Vec<String>>>,
+    talker: &Option<Talker>,
+    listeners: &Option<Vec<Name>>,
+) -> Result<WantedWay, StreamsFault>
+    ensures { Gives StreamsFault.Memory wanted_text result
+        (way_by (option_map (λ paths. map (λ path. map string_bytes path.items) paths.items) paths) talker.now (option_map (λ names. names.items) listeners.now)) }
+{
+    match paths {
+        Some(paths) => Ok(WantedWay::Along(paths)),
+        None => way_between(alloc, talker, listeners),
     }
 }

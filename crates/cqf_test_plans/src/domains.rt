@@ -56,7 +56,7 @@ const CHANGES: &[(&str, &str, &str)] = &[
     (
         "from = \"t\", to = \"a\"",
         "from = \"s\", to = \"a\"",
-        "TwoTalkerLinks s",
+        "read",
     ),
     ("guard = 4000", "guard = 250000", "GuardTooLong"),
     ("guard = 4000", "guard = 200000", "read"),

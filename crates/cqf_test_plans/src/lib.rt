@@ -12,6 +12,8 @@ mod admission;
 #[cfg(test)]
 mod domains;
 #[cfg(test)]
+mod edges;
+#[cfg(test)]
 mod order;
 #[cfg(test)]
 mod pages;

@@ -23,6 +23,7 @@ flows_fault_text (flows_fault.Streams fault) = toml_fault_text fault
 flows_fault_text (flows_fault.Missing key) = codes "Missing " ++ key_text key
 flows_fault_text (flows_fault.BadValue key) = codes "BadValue " ++ key_text key
 flows_fault_text flows_fault.BadInStep = codes "BadValue in-step"
+flows_fault_text flows_fault.BadLeastSize = codes "BadValue least-size"
 
 -- a stream with its deadline and its traffic
 abbrev pub FlowText : Type 0

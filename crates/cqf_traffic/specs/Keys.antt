@@ -31,6 +31,15 @@ most_of Size = 1522
 most_of Jitter = 1000000000
 most_of Offset = 1000000000
 
+-- the greatest that is represented. A talker's access link makes a frame later at the edge bridge than its talker promises at the hand-over,
+-- so there the jitter may be greater, and the grid begins later
+abbrev pub bound_of : TrafficKey → ℕ
+bound_of Interval = most_of Interval
+bound_of Frames = most_of Frames
+bound_of Size = most_of Size
+bound_of Jitter = 4000000000
+bound_of Offset = 2000000000
+
 -- the default of a key that is absent. An interval and a size must be there
 abbrev pub default_of : TrafficKey → Option ℕ
 default_of Interval = None

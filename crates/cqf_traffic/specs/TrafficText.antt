@@ -7,7 +7,7 @@ use Rattle.cqf_topology.specs.Fields.{number_from}
 use Rattle.cqf_laws_timing.specs.Traffic.{Traffic}
 use Rattle.cqf_traffic.specs.declared.keys.TrafficKey.{TrafficKey}
 use Rattle.cqf_traffic.specs.declared.keys.TrafficKey.TheVariants.{Interval, Frames, Size, Jitter, Offset}
-use Rattle.cqf_traffic.specs.Keys.{default_of, key_text, least_of, most_of, traffic_keys}
+use Rattle.cqf_traffic.specs.Keys.{bound_of, default_of, key_text, least_of, most_of, traffic_keys}
 
 -- a stream's traffic as numbers: nanoseconds, frames and octets
 pub record TrafficText : Type 0 where
@@ -17,12 +17,12 @@ pub record TrafficText : Type 0 where
   pub jitter : ℕ
   pub offset : ℕ
 
--- a number that is allowed at a key
+-- a number that is represented at a key: one that a text may have there, or that the access link makes of it at the edge bridge
 pub record IsInRange (key : TrafficKey) (n : ℕ) : Type 0 where
   pub least : least_of key ≤ n
-  pub most : n ≤ most_of key
+  pub most : n ≤ bound_of key
 
--- each number is allowed at its key
+-- each is represented at its key
 pub record IsTrafficText (t : TrafficText) : Type 0 where
   pub interval : IsInRange Interval t.interval
   pub frames : IsInRange Frames t.frames
@@ -33,6 +33,10 @@ pub record IsTrafficText (t : TrafficText) : Type 0 where
 -- what the talker promises. The instant at which its offers begin isn't part of it
 abbrev pub promise_of : TrafficText → Traffic
 promise_of t = record { interval = t.interval; frames = t.frames; size = t.size; jitter = t.jitter }
+
+-- the same traffic with another jitter and another beginning
+abbrev pub delayed_by : TrafficText → ℕ → ℕ → TrafficText
+delayed_by t jitter offset = record { interval = t.interval; frames = t.frames; size = t.size; jitter = jitter; offset = offset }
 
 -- the value at a key of a stream's table
 abbrev pub value_at : TrafficKey → Members → Option Data

@@ -21,6 +21,8 @@ pub enum FlowsFault {
     BadValue(TrafficKey),
     /// The value at `in-step` of a stream in a network file isn't a boolean.
     BadInStep,
+    /// The value at `least-size` of a stream is no size of a frame, or is above the greatest that its traffic has.
+    BadLeastSize,
 }
 
 impl fmt::Display for FlowsFault {
@@ -32,6 +34,7 @@ impl fmt::Display for FlowsFault {
             FlowsFault::Missing(key) => write!(f, "Missing {key}"),
             FlowsFault::BadValue(key) => write!(f, "BadValue {key}"),
             FlowsFault::BadInStep => f.write_str("BadValue in-step"),
+            FlowsFault::BadLeastSize => f.write_str("BadValue least-size"),
         }
     }
 }

@@ -75,8 +75,9 @@ fn first_lack_among(values: &[Value]) -> Option<FlowsFault>
     None
 }
 
-/// Returns the first key that a document's streams lack.
-pub(crate) fn first_lack_of(table: &Table) -> Option<FlowsFault>
+/// The first key that a document's streams lack, as a fault: of each stream the keys that every stream has, and then those that its traffic
+/// owes.
+pub fn first_lack_of(table: &Table) -> Option<FlowsFault>
     ensures { result ≡ first_lack_of (table_view table.now) }
 {
     match value_at(table, Key::Streams).and_then(Value::as_array) {
@@ -95,8 +96,11 @@ pub(crate) fn read_traffic(table: &Table) -> Result<Option<Traffic>, FlowsFault>
     }
 }
 
-/// Reads a stream's table.
-fn read_flow(alloc: Global, table: &Table) -> Result<Flow, FlowsFault>
+/// A stream's table, with its deadline and its traffic.
+///
+/// # Errors
+/// The fault of the first key with another value than it may have; `Memory` where a growth is refused.
+pub fn read_flow(alloc: Global, table: &Table) -> Result<Flow, FlowsFault>
     ensures { Gives (FlowsFault.Streams StreamsFault.Memory) flow_text result (flow_from (table_view table.now)) }
 {
     let planned = read_planned(alloc, table)?;

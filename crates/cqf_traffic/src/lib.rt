@@ -37,7 +37,7 @@ mod talkers;
 mod traffic;
 
 pub use faults::FlowsFault;
-pub use flows::{Flow, read_flows};
+pub use flows::{Flow, first_lack_of as first_flow_lack, read_flow, read_flows};
 pub use grid::are_few;
 pub use keys::TrafficKey;
 pub use laws::{offers_come_in_turns, offers_conform};

@@ -3,8 +3,8 @@ ghost use Rattle.std.specs.Prelude.{◌≡◌, ◌≤◌, option_map};
 ghost use Rattle.toml.specs.View.{table_view, view};
 ghost use Rattle.cqf_laws_timing.specs.Traffic.{intervals_in, needed};
 ghost use Rattle.cqf_topology.specs.Fields.{number_from};
-ghost use Rattle.cqf_traffic.specs.TrafficText.{has_traffic, number_at, numbers_from, promise_of, traffic_from, value_at};
-ghost use Rattle.cqf_traffic.specs.Keys.{least_of, most_of};
+ghost use Rattle.cqf_traffic.specs.TrafficText.{delayed_by, has_traffic, number_at, numbers_from, promise_of, traffic_from, value_at};
+ghost use Rattle.cqf_traffic.specs.Keys.{bound_of, least_of, most_of};
 
 use crate::keys::{TRAFFIC_KEYS, TrafficKey};
 use cqf_units::{Nanos, Octets};
@@ -70,7 +70,7 @@ impl Traffic {
         Octets(self.size)
     }
 
-    /// Returns how late a frame can be, up to 1,000,000,000 ns.
+    /// How late a frame may be: at the hand-over up to 1,000,000,000 ns, at the edge bridge up to 4,000,000,000.
     pub fn jitter(self) -> Nanos
         ensures value { result.0 ≡ self.jitter }
         ensures range { IsTrafficText self }
@@ -78,7 +78,7 @@ impl Traffic {
         Nanos(u64::from(self.jitter))
     }
 
-    /// Returns the instant at which the stream's offers begin, up to 1,000,000,000 ns.
+    /// When the stream's offers begin: at the hand-over up to 1,000,000,000 ns, at the edge bridge up to 2,000,000,000.
     pub fn offset(self) -> Nanos
         ensures value { result.0 ≡ self.offset }
         ensures range { IsTrafficText self }
@@ -92,6 +92,20 @@ impl Traffic {
         ensures { result ≡ record { interval = self.interval; frames = self.frames; size = self.size; jitter = self.jitter; offset = offset.0 } }
     {
         Traffic {
+            offset: offset.0 as u32,
+            ..self
+        }
+    }
+
+    /// The same promise with another jitter, up to 4,000,000,000 ns, and of offers that begin at another instant, up to 2,000,000,000 ns: so
+    /// it holds at the edge bridge, after the talker's access link.
+    pub fn delayed_by(self, jitter: Nanos, offset: Nanos) -> Traffic
+        requires jitter { jitter.0 ≤ bound_of TrafficKey.Jitter }
+        requires offset { offset.0 ≤ bound_of TrafficKey.Offset }
+        ensures { result ≡ delayed_by self jitter.0 offset.0 }
+    {
+        Traffic {
+            jitter: jitter.0 as u32,
             offset: offset.0 as u32,
             ..self
         }

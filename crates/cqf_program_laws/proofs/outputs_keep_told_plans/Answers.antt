@@ -4,9 +4,11 @@ use Rattle.cqf_program_laws.proofs.outputs_keep_told_plans.Goals as goal
 pub returns-clause-runs : goal.returns-clause-runs
 returns-clause-runs c =
     let r = c.readers_agree.ensures in
-    runs_keep_told_plans r.parts r.may_run c.told_plans_run.ensures c.told_plans_keep_their_word.ensures.scripts
+    let k = c.told_plans_keep_their_word.ensures in
+    runs_keep_told_plans r.edges r.parts r.may_run c.told_plans_run.ensures k.talkers k.scripts
 
 pub returns-clause-threads : goal.returns-clause-threads
 returns-clause-threads c =
     let r = c.readers_agree.ensures in
-    threads_keep_told_plans r.parts r.may_run c.told_plans_run.ensures c.told_plans_keep_their_word.ensures.accounts
+    let k = c.told_plans_keep_their_word.ensures in
+    threads_keep_told_plans r.edges r.parts r.may_run c.told_plans_run.ensures k.talkers k.accounts

@@ -1,6 +1,6 @@
-use Rattle.cqf_program_laws.proofs.Promised.{deadlines_run_from_talkers, plans_keep_their_word}
-use Rattle.cqf_program_laws.proofs.Promised.{plans_keep_their_word_on_threads, plans_keep_their_word_to_scripts}
-use Rattle.cqf_program_laws.proofs.Sketched.{deadlines_of_sketches_are_kept, settled_streams_are_of_sketches}
+use Rattle.cqf_program_laws.proofs.FromTalkers.{networks_keep_their_word, networks_keep_their_word_on_threads, networks_keep_their_word_to_scripts}
+use Rattle.cqf_program_laws.proofs.FromTalkers.{words_hold_from_talkers}
+use Rattle.cqf_program_laws.proofs.Promised.{plans_keep_their_word, plans_keep_their_word_on_threads, plans_keep_their_word_to_scripts}
 use Rattle.cqf_program_laws.proofs.told_plans_keep_their_word.Goals as goal
 
 pub returns-clause-runs : goal.returns-clause-runs
@@ -22,10 +22,14 @@ returns-clause-accounts c =
     plans_keep_their_word_on_threads (returns-clause-runs c) s.planned s.accounts
 
 pub returns-clause-talkers : goal.returns-clause-talkers
-returns-clause-talkers c = deadlines_run_from_talkers
+returns-clause-talkers c =
+    words_hold_from_talkers c.access_link_bounds_queueing.ensures.whole c.edge_conforms_closer.ensures.conforms c.streams_come_by_links.ensures.come
 
-pub returns-clause-settled : goal.returns-clause-settled
-returns-clause-settled c = settled_streams_are_of_sketches
+pub returns-clause-networks : goal.returns-clause-networks
+returns-clause-networks c = networks_keep_their_word (returns-clause-talkers c) (returns-clause-runs c)
 
-pub returns-clause-sketches : goal.returns-clause-sketches
-returns-clause-sketches c = deadlines_of_sketches_are_kept
+pub returns-clause-network_scripts : goal.returns-clause-network_scripts
+returns-clause-network_scripts c = networks_keep_their_word_to_scripts (returns-clause-talkers c) (returns-clause-scripts c)
+
+pub returns-clause-network_accounts : goal.returns-clause-network_accounts
+returns-clause-network_accounts c = networks_keep_their_word_on_threads (returns-clause-talkers c) (returns-clause-accounts c)

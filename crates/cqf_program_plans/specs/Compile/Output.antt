@@ -1,23 +1,23 @@
 -- The result of the command `compile` for its input: the configuration of a domain and its streams, or the line of the input's first fault.
+use Rattle.cqf_program_scenario.specs.Networks.{domain_of, network_of_part}
+use Rattle.cqf_program_plans.specs.NetworkRequests.{requests_of_network}
+use Rattle.cqf_sketch.specs.SketchDomain.{SketchDomain}
 use Rattle.cqf_model.specs.declared.limits.Limits.{Limits}
 use Rattle.std.specs.Prelude.{ℕ, ◌≡◌, ◌≤◌, ◌+◌, ◌++◌, codes, decimal, length, List, [], ◌∷◌, map, Result, Ok}
 use Rattle.cqf_model.specs.declared.topology.Row.{Row}
 use Rattle.cqf_model.specs.Domain.{Domain}
 use Rattle.cqf_model.specs.History.{Admits, Asked, Recorded, held_in, IsLegalHistory, refusal_of, reply_to, seals}
 use Rattle.cqf_text.specs.Parts.{parts_of}
-use Rattle.cqf_topology.specs.DomainText.{domain_within}
 use Rattle.cqf_lists.specs.Results.{and_then, refuse}
 use Rattle.cqf_laws_history.specs.StateLaws.{with_entry}
 use Rattle.cqf_admission.specs.Admission.{Administration}
 use Rattle.cqf_admission.specs.Asking.{asked_by}
 use Rattle.cqf_compile.specs.ConfigText.{config_text}
-use Rattle.cqf_program_scenario.specs.Lines.{domain_line}
 use Rattle.cqf_program_scenario.specs.Parts.{two_parts}
 use Rattle.cqf_model.specs.Refusals.{text_of_refusal}
 use Rattle.cqf_model.specs.declared.history.Refused.{Refused}
-use Rattle.cqf_output.specs.Stops.{line_of, or_line}
+use Rattle.cqf_output.specs.Stops.{line_of}
 use Rattle.cqf_model.specs.Limits.{most_streams}
-use Rattle.cqf_program_plans.specs.Reserving.{requests_in}
 
 -- the line for a stream that isn't admitted, by its position among the streams, from 1
 abbrev pub stream_line : ℕ → Refused → List ℕ
@@ -33,12 +33,16 @@ admitted_from d entries place [] = Ok entries
 admitted_from d entries place (asked ∷ more) =
     refuse (refusal_of d (held_in d entries (seals entries)) asked) (stream_line place) (admitted_from d (with_asked d entries asked) (place + 1) more)
 
--- the domain and the streams of an input, or the line of the first fault: of the parts, then of the domain, then of the streams, and of the
--- first stream that reserves less than its traffic needs
+-- the domain of a network and the streams of a part for it, or the line of the part's first fault: of the streams, of the first that doesn't
+-- enter as its text says, of the first access link that is full, and of the first stream that reserves less than its traffic needs
+abbrev pub plan_of_network : SketchDomain → List ℕ → Result (Domain × List Asked) (List ℕ)
+plan_of_network network text = and_then (requests_of_network network text) (λ requests. Ok (domain_of network, map asked_by requests))
+
+-- the domain and the streams of an input, or the line of the first fault: of the parts, then of the domain, then of the
+-- streams
 abbrev pub compile_input : Limits → List ℕ → Result (Domain × List Asked) (List ℕ)
 compile_input limits input = and_then (two_parts (parts_of input)) (λ parts.
-    and_then (or_line domain_line (domain_within limits parts.0)) (λ domain.
-    and_then (requests_in domain parts.1) (λ requests. Ok (domain, map asked_by requests))))
+    and_then (network_of_part limits parts.0) (λ network. plan_of_network network parts.1))
 
 -- the configuration of a domain with all of these streams admitted before cycle 0
 abbrev pub configuration_of : Domain → List Asked → Result (List ℕ) (List ℕ)

@@ -8,7 +8,9 @@ use Rattle.cqf_admission.specs.Turns.{AreOfGoodPaces, Turned, sum_on}
 use Rattle.cqf_lists.specs.Results.{and_then, refuse}
 use Rattle.cqf_admission.specs.Rows.{IsCountable}
 use Rattle.cqf_program_plans.specs.Compile.Output.{admitted_from}
-use Rattle.cqf_program_plans.specs.Latency.Text.{first_not_sure, latency_text}
+use Rattle.cqf_program_plans.specs.Latency.Text.{first_line_of, first_not_sure, latencies_from, latency_text, text_of_latency}
+use Rattle.cqf_edge.specs.declared.edge.AccessTimes.{AccessTimes}
+use Rattle.cqf_program_plans.specs.declared.latency.latencies.Latency.{Latency}
 
 -- a text; or, if strict, the line for what isn't certain, if there is one
 abbrev pub unless_strict : Bool → Option (List ℕ) → List ℕ → Result (List ℕ) (List ℕ)
@@ -19,6 +21,22 @@ unless_strict strict line text = refuse (if strict then line else None) (λ (fir
 abbrev pub latency_of_plan : Bool → Domain → List Asked → List (Option ℕ) → Result (List ℕ) (List ℕ)
 latency_of_plan strict d streams deadlines = and_then (admitted_from d [] 1 streams) (λ entries.
     unless_strict strict (first_not_sure d (held_in d entries 0) deadlines) (latency_text d (held_in d entries 0) deadlines))
+
+-- the result for latencies: their text; or, if strict, the line of the first that isn't certain to be within its deadline
+abbrev pub latency_told : Bool → List Latency → Result (List ℕ) (List ℕ)
+latency_told strict latencies = unless_strict strict (first_line_of latencies) (text_of_latency latencies)
+
+-- a plan as its talkers see it: deadlines as written, and how long frames take to their edge bridges, where talkers are stations; both by
+-- stream number
+pub record PlanFromTalkers : Type 0 where
+  pub domain : Domain
+  pub streams : List Asked
+  pub deadlines : List (Option ℕ)
+  pub times : List (Option AccessTimes)
+
+abbrev pub latency_from_talkers : Bool → PlanFromTalkers → Result (List ℕ) (List ℕ)
+latency_from_talkers strict plan = and_then (admitted_from plan.domain [] 1 plan.streams) (λ entries.
+    latency_told strict (latencies_from plan.domain (held_in plan.domain entries 0) plan.deadlines plan.times))
 
 -- a domain, and the rows of one of its tables
 pub record DomainTable : Type 0 where

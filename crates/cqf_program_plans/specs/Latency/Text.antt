@@ -1,5 +1,6 @@
 -- The latencies of the streams of a table to each of their listeners, and their text.
-use Rattle.std.specs.Prelude.{ℕ, ◌++◌, List, [], ◌∷◌, Bool, true, false, codes, decimal, filter, find, map, Option, Some, None, option_map, slice_index_or}
+use Rattle.cqf_edge.specs.declared.edge.AccessTimes.{AccessTimes}
+use Rattle.std.specs.Prelude.{ℕ, ◌+◌, ◌++◌, List, [], ◌∷◌, Bool, true, false, codes, decimal, filter, find, map, Option, Some, None, option_map, slice_index_or}
 use Rattle.std.specs.Option.{option_map_or}
 use Rattle.std.specs.List.{flat_map}
 use Rattle.cqf_model.specs.declared.topology.Hop.{Hop}
@@ -52,6 +53,28 @@ deadline_of deadlines number = slice_index_or deadlines number None
 -- the latencies to each listener of each row
 abbrev pub latencies_of : Domain → List Row → List (Option ℕ) → List Latency
 latencies_of d rows deadlines = flat_map (λ (row : Row). latencies_of_row d rows row (deadline_of deadlines row.no)) rows
+
+-- a latency from the hand-over at the talker, where frames take so long from there to the edge bridge
+abbrev pub latency_behind : Option AccessTimes → Latency → Latency
+latency_behind None latency = latency
+latency_behind (Some times) latency = record {
+  stream = latency.stream;
+  listener = latency.listener;
+  bridges = latency.bridges;
+  least = latency.least + times.least;
+  most = latency.most + times.most;
+  window = latency.window;
+  deadline = latency.deadline;
+}
+
+-- that of each listener of each row, from where its stream begins: how long frames take to their edge bridges is by stream number, and so
+-- are deadlines as they are written
+abbrev pub times_of : List (Option AccessTimes) → ℕ → Option AccessTimes
+times_of times number = slice_index_or times number None
+
+abbrev pub latencies_from : Domain → List Row → List (Option ℕ) → List (Option AccessTimes) → List Latency
+latencies_from d rows deadlines times =
+    flat_map (λ (row : Row). map (latency_behind (times_of times row.no)) (latencies_of_row d rows row (deadline_of deadlines row.no))) rows
 
 -- whether the frames are certain to keep their deadline, as a verdict and as its name
 abbrev pub said_of_latency : Sure → Verdict

@@ -41,12 +41,3 @@ lines_of_links d rows links = each_below (λ l. line_of_fields (load_fields d ro
 -- the header, and then one line per link, by number
 abbrev pub load_text : Domain → List Row → List ℕ
 load_text d rows = line_of_fields load_header ++ lines_of_links d rows (length d.links)
-
--- the output before it is written: a domain, and the rows of its streams
-pub record ListedPlan : Type 0 where
-  pub domain : Domain
-  pub rows : List Row
-
--- the text of an output
-abbrev pub text_of_load : ListedPlan → List ℕ
-text_of_load plan = load_text plan.domain plan.rows

@@ -6,7 +6,7 @@ ghost use Rattle.cqf_admission.specs.Tables.{AreAlongLinks};
 ghost use Rattle.cqf_laws_history.specs.StateLaws.{AreHeld};
 ghost use Rattle.cqf_admission.specs.Forms.{IsRowOfGoodForm};
 ghost use Rattle.cqf_model.specs.History.{Asked, Recorded};
-ghost use Rattle.cqf_program_plans.specs.Compile.Output.{stream_line, admitted_from, compile_input, compiled_input};
+ghost use Rattle.cqf_program_plans.specs.Compile.Output.{stream_line, admitted_from, compile_input, compiled_input, plan_of_network};
 ghost use Rattle.cqf_program_plans.specs.Compile.Output.{configuration_of, AreAllHeld, ArePlanned, HoldsAll};
 ghost use Rattle.cqf_program_plans.specs.Compile.Told.{text_of_config};
 ghost use Rattle.cqf_admission.specs.Turns.{AreOfGoodPaces};
@@ -14,13 +14,14 @@ ghost use Rattle.cqf_admission.specs.Orders.{request_at};
 ghost use Rattle.cqf_output.specs.Stops.{EndsWith, IsRefused};
 
 use crate::compile::outputs::ConfigOutput;
-use crate::reserving::requests_in;
+use crate::reserving::requests_of_network;
 use cqf_admission::{Ledger, Receipt, Refused, count_places, judge_paced};
 use cqf_compile::compile;
 use cqf_laws_history::state_follows_history;
 use cqf_model::{Limits, Row};
 use cqf_output::{Buffer, REFUSED, Stop};
-use cqf_program_scenario::{domain_part, two_parts};
+use cqf_program_scenario::{domain_of, network_part, two_parts};
+use cqf_sketch::SketchDomain;
 use cqf_topology::{Domain, PacedRequest};
 use cqf_units::{Cycle, Memory};
 use std::alloc::Global;
@@ -28,12 +29,27 @@ use std::alloc::Global;
 /// The administrator who admits the streams of `compile`.
 const SEAT: u16 = 0;
 
-/// Reads the domain and the streams of the input within some limits. Each stream that has traffic reserves what its traffic needs in a
-/// cycle.
+/// The domain of a network, and the streams of a part for it.
+fn plan_of_network(
+    alloc: Global,
+    network: &SketchDomain,
+    text: &[u8],
+) -> Result<(Domain, Vec<PacedRequest>), Stop>
+    ensures ok { IfOk result (λ found. plan_of_network network.now text.now ≡ Ok (found.0, map asked_paced found.1.items)) }
+    ensures err { IfErr result (IsRefused (plan_of_network network.now text.now)) }
+{
+    let domain = domain_of(alloc, network)?;
+    let requests = requests_of_network(alloc, network, &domain, text)?;
+    Ok((domain, requests))
+}
+
+/// The domain and the streams of the input, which is read within some limits. Each stream that has traffic reserves what it needs of a
+/// cycle at its edge bridge.
 ///
 /// # Errors
-/// With status 1 and the line of the first fault of the input: of its parts, of the domain, of the streams and their traffic, or of the first
-/// stream that reserves less than its traffic needs. With status 3 if an allocation fails.
+/// With status 1 and the line of the first fault of the input: of its parts, of the domain, of the streams, their traffic too, of the first
+/// stream that doesn't enter the network as its text says, of the first access link that is full, or of the first stream that reserves less
+/// than its traffic needs; and with status 3 for want of memory.
 pub fn read_plan(
     alloc: Global,
     limits: Limits,
@@ -43,9 +59,8 @@ pub fn read_plan(
     ensures err { IfErr result (IsRefused (compile_input limits input.now)) }
 {
     let (domain_text, streams_text) = two_parts(alloc, input)?;
-    let domain = domain_part(alloc, limits, domain_text)?;
-    let requests = requests_in(alloc, &domain, streams_text)?;
-    Ok((domain, requests))
+    let network = network_part(alloc, limits, domain_text)?;
+    plan_of_network(alloc, &network, streams_text)
 }
 
 /// Returns the line for the stream at position `place` that isn't admitted.

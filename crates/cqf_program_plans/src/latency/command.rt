@@ -1,22 +1,21 @@
 //! The command `latency`: the latencies of a domain's streams.
 ghost use Rattle.std.specs.Prelude.{ℕ, ◌≡◌, true, Ok, IfOk, IfErr, OnOk, find, map, option_copied, string_bytes};
-ghost use Rattle.cqf_admission.specs.Asking.{asked_paced};
 ghost use Rattle.cqf_admission.specs.Turns.{AreOfGoodPaces};
 ghost use Rattle.cqf_laws_history.specs.StateLaws.{AreHeld};
 ghost use Rattle.cqf_output.specs.Stops.{EndsWith, IsRefused};
-ghost use Rattle.cqf_program_plans.specs.Latency.Text.{first_line_of, first_not_sure, is_not_sure, latencies_of, latency_text, not_sure_line, text_of_latency};
-ghost use Rattle.cqf_program_plans.specs.Latency.Input.{asked_in, deadlines_in, latency_of_input};
-ghost use Rattle.cqf_program_plans.specs.Latency.Output.{latency_of_plan, unless_strict};
-ghost use Rattle.cqf_topology.specs.PlannedText.{planned_text};
+ghost use Rattle.cqf_program_plans.specs.Latency.Text.{first_line_of, is_not_sure, latencies_from, not_sure_line, text_of_latency};
+ghost use Rattle.cqf_program_plans.specs.Latency.Input.{latency_input_value, latency_of_input};
+ghost use Rattle.cqf_program_plans.specs.Latency.Output.{latency_from_talkers, latency_told, unless_strict};
 
 use crate::latency::latencies::Latency;
-use crate::latency::listeners::latencies_of_rows;
+use crate::latency::listeners::latencies_from_talkers;
 use crate::latency::outputs::LatencyOutput;
-use crate::latency::reading::{parted, read_planned};
+use crate::latency::reading::{LatencyInput, read_planned};
 use crate::rows_of_cycle_0;
+use cqf_edge::AccessTimes;
 use cqf_model::{Limits, Row};
 use cqf_output::{Buffer, REFUSED, Stop};
-use cqf_topology::{Domain, PacedRequest, Planned};
+use cqf_topology::Domain;
 use cqf_units::Memory;
 use std::alloc::Global;
 
@@ -72,12 +71,13 @@ fn latencies_ready(
     domain: Domain,
     rows: Vec<Row>,
     deadlines: &[Option<u32>],
+    times: &[Option<AccessTimes>],
 ) -> Result<LatencyOutput, Memory>
     requires held { (next : ℕ) × AreHeld domain rows.items next 0 }
     requires good { AreOfGoodPaces rows.items }
-    ensures { IfOk result (λ output. output ≡ latencies_of domain rows.items deadlines.now) }
+    ensures { IfOk result (λ output. output ≡ latencies_from domain rows.items deadlines.now times.now) }
 {
-    let latencies = latencies_of_rows(alloc, &domain, rows.as_slice(), deadlines)?;
+    let latencies = latencies_from_talkers(alloc, &domain, rows.as_slice(), deadlines, times)?;
     let buffer = Buffer::new(alloc)?;
     Ok(LatencyOutput { latencies, buffer })
 }
@@ -89,15 +89,16 @@ fn output_of_rows(
     domain: Domain,
     rows: Vec<Row>,
     deadlines: &[Option<u32>],
+    times: &[Option<AccessTimes>],
 ) -> Result<LatencyOutput, Stop>
     requires held { (next : ℕ) × AreHeld domain rows.items next 0 }
     requires good { AreOfGoodPaces rows.items }
-    ensures ok { let told = unless_strict strict (first_not_sure domain rows.items deadlines.now) (latency_text domain rows.items deadlines.now) in
+    ensures ok { let told = latency_told strict (latencies_from domain rows.items deadlines.now times.now) in
         IfOk result (λ output. told ≡ Ok (text_of_latency output)) }
-    ensures err { let told = unless_strict strict (first_not_sure domain rows.items deadlines.now) (latency_text domain rows.items deadlines.now) in
+    ensures err { let told = latency_told strict (latencies_from domain rows.items deadlines.now times.now) in
         IfErr result (IsRefused told) }
 {
-    match latencies_ready(alloc, domain, rows, deadlines) {
+    match latencies_ready(alloc, domain, rows, deadlines, times) {
         Ok(output) => {
             refuse_not_sure(alloc, strict, output.latencies.as_slice())?;
             Ok(output)
@@ -106,50 +107,25 @@ fn output_of_rows(
     }
 }
 
-/// Returns the output for a domain and its streams: how long the frames of each stream take to each of its listeners, and whether they keep
-/// the stream's deadline, if all streams are admitted before cycle 0. The deadlines, in nanoseconds, are by stream number: the first is
-/// that of the first request. A stream for which there is no entry has no deadline.
+/// Returns the output for a domain and its streams, if all streams are admitted before cycle 0: how long the frames of each stream take to
+/// each of its listeners, and whether they keep the stream's deadline.
 ///
 /// # Errors
 /// With status 1 and the line of the first stream that isn't admitted; or else, if `strict`, of the first latency whose frames aren't certain to
 /// be within its deadline. With status 3 if an allocation fails.
-fn latency_of(
-    alloc: Global,
-    strict: bool,
-    domain: Domain,
-    requests: &[PacedRequest],
-    deadlines: &[Option<u32>],
-) -> Result<LatencyOutput, Stop>
-    ensures ok { IfOk result (λ output. latency_of_plan strict domain (map asked_paced requests.now) deadlines.now ≡ Ok (text_of_latency output)) }
-    ensures err { IfErr result (IsRefused (latency_of_plan strict domain (map asked_paced requests.now) deadlines.now)) }
+fn latency_of(alloc: Global, strict: bool, given: LatencyInput) -> Result<LatencyOutput, Stop>
+    ensures ok { IfOk result (λ output. latency_from_talkers strict (latency_input_value given) ≡ Ok (text_of_latency output)) }
+    ensures err { IfErr result (IsRefused (latency_from_talkers strict (latency_input_value given))) }
 {
-    let rows = rows_of_cycle_0(alloc, &domain, requests)?;
-    output_of_rows(alloc, strict, domain, rows, deadlines)
-}
-
-/// Returns the output for streams with their deadlines.
-fn output_of_streams(
-    alloc: Global,
-    strict: bool,
-    domain: Domain,
-    streams: Vec<Planned>,
-) -> Result<LatencyOutput, Stop>
-    ensures ok { let texts = map planned_text streams.items in
-        IfOk result (λ output. latency_of_plan strict domain (asked_in texts) (deadlines_in texts) ≡ Ok (text_of_latency output)) }
-    ensures err { let texts = map planned_text streams.items in IfErr result (IsRefused (latency_of_plan strict domain (asked_in texts) (deadlines_in texts))) }
-{
-    match parted(alloc, streams) {
-        Ok((requests, deadlines)) => {
-            latency_of(
-                alloc,
-                strict,
-                domain,
-                requests.as_slice(),
-                deadlines.as_slice(),
-            )
-        }
-        Err(_) => Err(Stop::memory(alloc)),
-    }
+    let LatencyInput {
+        domain,
+        requests,
+        deadlines,
+        times,
+    } = given;
+    let rows = rows_of_cycle_0(alloc, &domain, requests.as_slice())?;
+    let (deadlines, times) = (deadlines.as_slice(), times.as_slice());
+    output_of_rows(alloc, strict, domain, rows, deadlines, times)
 }
 
 /// Returns the output of `latency` for an input that is read within some limits, ready to be written: how long the frames of each stream of
@@ -168,6 +144,6 @@ pub fn latency_output(
     ensures ok { IfOk result (λ output. latency_of_input limits strict input.now ≡ Ok (text_of_latency output)) }
     ensures err { IfErr result (IsRefused (latency_of_input limits strict input.now)) }
 {
-    let (domain, streams) = read_planned(alloc, limits, input)?;
-    output_of_streams(alloc, strict, domain, streams)
+    let given = read_planned(alloc, limits, input)?;
+    latency_of(alloc, strict, given)
 }

@@ -29,8 +29,8 @@ impl Verdict {
     }
 }
 
-/// How long the frames of a stream take to one of its listeners, in nanoseconds: from the instant at which a frame is offered until all of
-/// it is in the listener's station.
+/// How long the frames of a stream take to one of its listeners, in nanoseconds: from the instant of a frame's offer, or of its hand-over to
+/// its talker's access link, to its being whole in the listener's station.
 #[derive(Debug, Drop)]
 pub struct Latency {
     /// The stream's name.

@@ -1,16 +1,17 @@
 //! The latencies of the streams of a table to their listeners.
-ghost use Rattle.std.specs.Prelude.{ℕ, ◌≡◌, ◌*◌, ◌<◌, ◌≤◌, ◌^◌, ◌++◌, Contains, IfOk, OnOk, Some, None, if◌then◌else◌, length};
+ghost use Rattle.std.specs.Prelude.{ℕ, ◌≡◌, ◌*◌, ◌<◌, ◌≤◌, ◌^◌, ◌++◌, Contains, IfOk, OnOk, Some, None, if◌then◌else◌, length, map};
 ghost use Rattle.cqf_admission.specs.Rows.{IsCountable};
 ghost use Rattle.cqf_admission.specs.Turns.{AreOfGoodPaces, IsOfGoodPace};
 ghost use Rattle.cqf_laws_history.specs.StateLaws.{AreHeld};
 ghost use Rattle.cqf_laws_timing.specs.Latency.{least_of, most_of, window_of};
 ghost use Rattle.cqf_program_plans.specs.EndNames.{name_of_end};
-ghost use Rattle.cqf_program_plans.specs.Latency.Text.{deadline_of, is_station, latencies_of, latencies_of_row, latency_to};
+ghost use Rattle.cqf_program_plans.specs.Latency.Text.{deadline_of, is_station, latencies_from, latencies_of, latencies_of_row, latency_behind, latency_to, times_of};
 ghost use Rattle.cqf_model.specs.Domain.{end_of};
 ghost use Rattle.cqf_model.specs.History.{most_beside};
 
 use crate::latency::costs::Costs;
 use crate::latency::latencies::Latency;
+use cqf_edge::AccessTimes;
 use cqf_model::{Hop, Node, Row};
 use cqf_topology::Domain;
 use cqf_units::{Memory, Name, octet_ticks, span, time_of};
@@ -20,7 +21,8 @@ use std::alloc::Global;
 /// states.
 fn least_to(domain: &Domain, link: u16, depth: u8) -> u64
     requires { link < length domain.now.links }
-    ensures { result ≡ least_of domain.now link depth }
+    ensures value { result ≡ least_of domain.now link depth }
+    ensures range { result < 2 ^ 63 }
 {
     let (cycle_time, ends) = (domain.cycle_time().0, domain.link(link));
     let waits = u64::from(depth.saturating_sub(1)) * cycle_time;
@@ -33,7 +35,8 @@ fn least_to(domain: &Domain, link: u16, depth: u8) -> u64
 pub fn most_to(domain: &Domain, link: u16, depth: u8, cost: u64) -> u64
     requires link { link < length domain.now.links }
     requires cost { cost ≤ 2 ^ 29 * 2000000 }
-    ensures { result ≡ most_of domain.now link depth cost }
+    ensures value { result ≡ most_of domain.now link depth cost }
+    ensures range { result < 2 ^ 63 }
 {
     let (cycle_time, ends) = (domain.cycle_time().0, domain.link(link));
     let waits = u64::from(depth) * cycle_time;
@@ -77,7 +80,9 @@ fn latency_to(
 ) -> Latency
     requires link { hop.now.link < length domain.now.links }
     requires named { listener ≡ name_of_end domain.now hop.now.link }
-    ensures { result ≡ latency_to domain.now cost row.now deadline hop.now }
+    ensures value { result ≡ latency_to domain.now cost row.now deadline hop.now }
+    ensures least { result.least < 2 ^ 63 }
+    ensures most { result.most < 2 ^ 63 }
 {
     let (link, depth) = (hop.link, hop.depth);
     Latency {
@@ -91,20 +96,45 @@ fn latency_to(
     }
 }
 
+/// Returns a latency from the hand-over, with the time that frames take from there to their edge bridge.
+fn latency_behind(mut latency: Latency, times: Option<AccessTimes>) -> Latency
+    requires least { latency.least < 2 ^ 63 }
+    requires most { latency.most < 2 ^ 63 }
+    ensures { result ≡ latency_behind times latency }
+{
+    match times {
+        Some(times) => {
+            latency.least += u64::from(times.least);
+            latency.most += u64::from(times.most);
+            latency
+        }
+        None => latency,
+    }
+}
+
+/// A stream's deadline as written, and how long its frames take from the hand-over to its edge bridge, if its talker is a station.
+#[derive(Clone, Copy)]
+struct StreamEnds {
+    deadline: Option<u32>,
+    times: Option<AccessTimes>,
+}
+
 /// Returns the latency to the end of a hop of a row's tree, if there is a listener.
-fn latency_at(costs: &Costs<'_>, row: &Row, deadline: Option<u32>, hop: &Hop) -> Option<Latency>
+fn latency_at(costs: &Costs<'_>, row: &Row, ends: StreamEnds, hop: &Hop) -> Option<Latency>
     requires link { hop.now.link < length costs.now.domain.links }
     requires of_tree { Contains row.now.tree.items hop.now }
     requires countable { IsCountable (length costs.now.domain.links) row.now }
     requires good { IsOfGoodPace row.now }
-    ensures { let cost = most_beside costs.now.rows row.now.tree.items row.now.pace hop.now.link in result
-        ≡ (if is_station (end_of costs.now.domain hop.now.link) then Some (latency_to costs.now.domain cost row.now deadline hop.now) else None) }
+    ensures { let cost = most_beside costs.now.rows row.now.tree.items row.now.pace hop.now.link in
+        let told = latency_behind ends.times (latency_to costs.now.domain cost row.now ends.deadline hop.now) in
+        result ≡ (if is_station (end_of costs.now.domain hop.now.link) then Some told else None) }
 {
     let domain = costs.domain();
     match listener_at(domain, hop.link) {
         Some(listener) => {
             let cost = costs.at_hop(row, hop);
-            Some(latency_to(domain, cost, row, deadline, hop, listener))
+            let latency = latency_to(domain, cost, row, ends.deadline, hop, listener);
+            Some(latency_behind(latency, ends.times))
         }
         None => None,
     }
@@ -115,14 +145,15 @@ fn push_listeners(
     latencies: &mut Vec<Latency>,
     costs: &Costs<'_>,
     row: &Row,
-    deadline: Option<u32>,
+    ends: StreamEnds,
 ) -> Result<(), Memory>
     requires countable { IsCountable (length costs.now.domain.links) row.now }
     requires good { IsOfGoodPace row.now }
-    ensures { OnOk result (latencies.new.items ≡ latencies.old.items ++ latencies_of_row costs.now.domain costs.now.rows row.now deadline) }
+    ensures { let told = latencies_of_row costs.now.domain costs.now.rows row.now ends.deadline in
+        OnOk result (latencies.new.items ≡ latencies.old.items ++ map (latency_behind ends.times) told) }
 {
     for hop in row.tree.as_slice() {
-        if let Some(latency) = latency_at(costs, row, deadline, hop) {
+        if let Some(latency) = latency_at(costs, row, ends, hop) {
             latencies.push(latency)?;
         }
     }
@@ -139,24 +170,62 @@ fn deadline_of(deadlines: &[Option<u32>], number: u32) -> Option<u32>
     }
 }
 
-/// Returns the latencies of the streams of a table to each of their listeners. The deadlines are by stream number.
-fn latencies_of(
+/// Returns how long the frames of the stream with this number take to its edge bridge.
+fn times_of(times: &[Option<AccessTimes>], number: u32) -> Option<AccessTimes>
+    ensures { result ≡ times_of times.now number }
+{
+    match times.get(number as usize) {
+        Some(times) => *times,
+        None => None,
+    }
+}
+
+/// Returns the latencies of the streams of a table to each of their listeners. The deadlines, and how long frames take to their edge bridges,
+/// are by stream number.
+fn latencies_by_costs(
     alloc: Global,
     costs: &Costs<'_>,
     deadlines: &[Option<u32>],
+    times: &[Option<AccessTimes>],
 ) -> Result<Vec<Latency>, Memory>
-    ensures { IfOk result (λ latencies. latencies.items ≡ latencies_of costs.now.domain costs.now.rows deadlines.now) }
+    ensures { IfOk result (λ latencies. latencies.items ≡ latencies_from costs.now.domain costs.now.rows deadlines.now times.now) }
 {
     let mut latencies = Vec::new(alloc);
     for row in costs.rows() {
-        push_listeners(&mut latencies, costs, row, deadline_of(deadlines, row.no))?;
+        let ends = StreamEnds {
+            deadline: deadline_of(deadlines, row.no),
+            times: times_of(times, row.no),
+        };
+        push_listeners(&mut latencies, costs, row, ends)?;
     }
     Ok(latencies)
 }
 
-/// Returns how long the frames of the streams of a table's rows take to each of their listeners, in the order of the rows, and of the
-/// listeners in each stream's tree. The deadlines, in nanoseconds, are by stream number; a stream for which there is no entry has no
-/// deadline.
+/// Returns how long the frames of the streams of a table's rows take to each of their listeners: from the hand-over at their talkers, where
+/// these are stations. The order is that of the rows, and then of the listeners in each stream's tree. The deadlines, in nanoseconds, and how
+/// long frames take to their edge bridges are by stream number. A stream whose number is beyond a list's end has none.
+///
+/// # Errors
+/// `Memory` if an allocation fails.
+pub(crate) fn latencies_from_talkers(
+    alloc: Global,
+    domain: &Domain,
+    rows: &[Row],
+    deadlines: &[Option<u32>],
+    times: &[Option<AccessTimes>],
+) -> Result<Vec<Latency>, Memory>
+    requires held { (next : ℕ) × AreHeld domain.now rows.now next 0 }
+    requires good { AreOfGoodPaces rows.now }
+    ensures { IfOk result (λ latencies. latencies.items ≡ latencies_from domain.now rows.now deadlines.now times.now) }
+{
+    let costs = Costs::new(alloc, domain, rows)?;
+    let latencies = latencies_by_costs(alloc, &costs, deadlines, times)?;
+    Ok(latencies)
+}
+
+/// Returns how long the frames of the streams of a table's rows take from their edge bridges to each of their listeners. The order is that of
+/// the rows, and then of the listeners in each stream's tree. The deadlines, in nanoseconds, are by stream number. A stream whose number is
+/// beyond the list's end has none.
 ///
 /// # Errors
 /// `Memory` if an allocation fails.
@@ -170,7 +239,5 @@ pub fn latencies_of_rows(
     requires good { AreOfGoodPaces rows.now }
     ensures { IfOk result (λ latencies. latencies.items ≡ latencies_of domain.now rows.now deadlines.now) }
 {
-    let costs = Costs::new(alloc, domain, rows)?;
-    let latencies = latencies_of(alloc, &costs, deadlines)?;
-    Ok(latencies)
+    latencies_from_talkers(alloc, domain, rows, deadlines, &[])
 }

@@ -1,32 +1,69 @@
 //! The input of the command `latency`.
 ghost use Rattle.std.specs.Prelude.{◌≡◌, Ok, IfErr, IfOk, map};
 ghost use Rattle.cqf_admission.specs.Asking.{asked_paced};
-ghost use Rattle.cqf_program_plans.specs.Latency.Input.{asked_in, deadlines_in, latency_input};
+ghost use Rattle.cqf_program_plans.specs.Latency.Input.{asked_in, deadlines_in, latency_input, latency_input_value, streams_for};
 ghost use Rattle.cqf_output.specs.Stops.{IsRefused};
+ghost use Rattle.cqf_program_scenario.specs.Networks.{domain_of};
 ghost use Rattle.cqf_topology.specs.PlannedText.{planned_text};
+ghost use Rattle.cqf_traffic.specs.FlowsText.{flow_text};
 
-use crate::reserving::planned_in;
+use crate::edges::open_edges_part;
+use crate::reserving::requests_at;
+use cqf_edge::AccessTimes;
 use cqf_model::Limits;
 use cqf_output::Stop;
-use cqf_program_scenario::{domain_part, two_parts};
+use cqf_program_scenario::{domain_of, network_part, two_parts};
+use cqf_sketch::SketchDomain;
 use cqf_topology::{Domain, PacedRequest, Planned};
+use cqf_traffic::Flow;
 use cqf_units::Memory;
 use std::alloc::Global;
 
-/// Reads the domain and the streams of the input within some limits, with the streams' deadlines. Each stream that has traffic reserves
-/// what its traffic needs in a cycle.
+/// What the command `latency` reads: a domain, its streams, their deadlines as written, and how long their frames take from the hand-over to
+/// their edge bridges, where their talkers are stations. All lists have the same order.
+#[derive(Drop)]
+pub(crate) struct LatencyInput {
+    pub(crate) domain: Domain,
+    pub(crate) requests: Vec<PacedRequest>,
+    pub(crate) deadlines: Vec<Option<u32>>,
+    pub(crate) times: Vec<Option<AccessTimes>>,
+}
+
+/// Reads the streams of a part for a network, whose domain this is, with their deadlines. Each stream that has traffic reserves what it needs of
+/// a cycle at its edge bridge.
+fn read_streams(
+    alloc: Global,
+    network: &SketchDomain,
+    domain: Domain,
+    text: &[u8],
+) -> Result<LatencyInput, Stop>
+    requires { domain ≡ domain_of network.now }
+    ensures ok { IfOk result (λ found. streams_for network.now text.now ≡ Ok (latency_input_value found)) }
+    ensures err { IfErr result (IsRefused (streams_for network.now text.now)) }
+{
+    let edge = open_edges_part(alloc, network, text)?;
+    let requests = requests_at(alloc, &domain, edge.flows)?;
+    Ok(LatencyInput {
+        domain,
+        requests,
+        deadlines: edge.deadlines,
+        times: edge.times,
+    })
+}
+
+/// Reads an input within some limits: its domain and its streams.
 pub(crate) fn read_planned(
     alloc: Global,
     limits: Limits,
     input: &[u8],
-) -> Result<(Domain, Vec<Planned>), Stop>
-    ensures ok { IfOk result (λ found. latency_input limits input.now ≡ Ok (found.0, map planned_text found.1.items)) }
+) -> Result<LatencyInput, Stop>
+    ensures ok { IfOk result (λ found. latency_input limits input.now ≡ Ok (latency_input_value found)) }
     ensures err { IfErr result (IsRefused (latency_input limits input.now)) }
 {
     let (domain_text, streams_text) = two_parts(alloc, input)?;
-    let domain = domain_part(alloc, limits, domain_text)?;
-    let streams = planned_in(alloc, &domain, streams_text)?;
-    Ok((domain, streams))
+    let network = network_part(alloc, limits, domain_text)?;
+    let domain = domain_of(alloc, &network)?;
+    read_streams(alloc, &network, domain, streams_text)
 }
 
 /// Returns the requests and the deadlines of these streams, each by the stream's index.
@@ -45,6 +82,26 @@ pub fn parted(
     for planned in streams {
         deadlines.push(planned.deadline)?;
         requests.push(planned.request)?;
+    }
+    Ok((requests, deadlines))
+}
+
+/// Returns the requests and the deadlines of streams with traffic, each by the stream's index.
+///
+/// # Errors
+/// `Memory` if an allocation fails.
+pub fn parted_flows(
+    alloc: Global,
+    flows: Vec<Flow>,
+) -> Result<(Vec<PacedRequest>, Vec<Option<u32>>), Memory>
+    ensures requests { IfOk result (λ found. map asked_paced found.0.items ≡ asked_in (map (λ flow. flow.0) (map flow_text flows.items))) }
+    ensures deadlines { IfOk result (λ found. found.1.items ≡ deadlines_in (map (λ flow. flow.0) (map flow_text flows.items))) }
+{
+    let mut requests = Vec::with_capacity(alloc, flows.len())?;
+    let mut deadlines = Vec::with_capacity(alloc, flows.len())?;
+    for flow in flows {
+        deadlines.push(flow.planned.deadline)?;
+        requests.push(flow.planned.request)?;
     }
     Ok((requests, deadlines))
 }

@@ -1,17 +1,25 @@
 //! The command `load`: what each link holds of the streams of a plan, and what it has left.
-ghost use Rattle.std.specs.Prelude.{◌≡◌, ◌∷◌, [], IfErr, IfOk, List, Ok, map};
+ghost use Rattle.std.specs.Prelude.{◌≡◌, ◌∷◌, [], All, IfErr, IfOk, List, Ok, map};
 ghost use Rattle.cqf_model.specs.History.{Asked};
 ghost use Rattle.cqf_admission.specs.Asking.{asked_paced};
-ghost use Rattle.cqf_program_plans.specs.Load.Output.{listed_from, loaded_input};
-ghost use Rattle.cqf_program_plans.specs.Load.Text.{text_of_load};
+ghost use Rattle.cqf_program_plans.specs.Load.Output.{listed_from, load_input, loaded_by_access, loaded_input, loaded_network, loaded_without};
+ghost use Rattle.cqf_program_plans.specs.Load.Access.{TakesLittle};
+ghost use Rattle.cqf_program_plans.specs.Load.Read.{load_input_value};
+ghost use Rattle.cqf_program_scenario.specs.Networks.{domain_of};
+ghost use Rattle.cqf_program_plans.specs.Load.Told.{text_of_load};
 ghost use Rattle.cqf_output.specs.Stops.{IsRefused};
 
+use crate::edges::{edges_part, has_access};
+use crate::load::access::{AccessLoad, access_loads};
 use crate::load::listing::LoadListing;
 use crate::load::outputs::LoadOutput;
-use crate::{read_plan, stream_stop};
+use crate::reserving::{requests_at, requests_in};
+use crate::stream_stop;
 use cqf_admission::count_places;
 use cqf_model::Limits;
 use cqf_output::{Buffer, Stop};
+use cqf_program_scenario::{domain_of, network_part, two_parts};
+use cqf_sketch::SketchDomain;
 use cqf_topology::{Domain, PacedRequest};
 use std::alloc::Global;
 
@@ -55,22 +63,107 @@ fn list_all(alloc: Global, domain: &Domain, requests: &[PacedRequest]) -> Result
     Ok(listing)
 }
 
-/// Returns the output of `load` for an input that is read within some limits, ready to be written: one line per link, with what the link
-/// holds of the streams and what it has left. A stream for which a link has no room is counted with the others.
+/// What `load` reads: a domain, what its streams take of its stations' access links, and the requests of its streams.
+#[derive(Drop)]
+struct LoadInput {
+    domain: Domain,
+    access: Vec<AccessLoad>,
+    requests: Vec<PacedRequest>,
+}
+
+/// Reads the streams of a network in which a station has an access link, whose domain this is. An access link may be full, since `load` shows
+/// how full it is.
+fn read_with_access(
+    alloc: Global,
+    network: &SketchDomain,
+    domain: Domain,
+    text: &[u8],
+) -> Result<LoadInput, Stop>
+    requires { domain ≡ domain_of network.now }
+    ensures ok { IfOk result (λ found. loaded_by_access network.now text.now ≡ Ok (load_input_value found)) }
+    ensures little { IfOk result (λ found. All TakesLittle found.access.items) }
+    ensures err { IfErr result (IsRefused (loaded_by_access network.now text.now)) }
+{
+    let edge = edges_part(alloc, network, text)?;
+    let Ok(access) = access_loads(alloc, network, domain.cycle_time(), &edge) else {
+        return Err(Stop::memory(alloc));
+    };
+    let requests = requests_at(alloc, &domain, edge.flows)?;
+    Ok(LoadInput {
+        domain,
+        access,
+        requests,
+    })
+}
+
+/// Reads those of a network in which no station has one.
+fn read_without_access(alloc: Global, domain: Domain, text: &[u8]) -> Result<LoadInput, Stop>
+    ensures ok { IfOk result (λ found. loaded_without domain text.now ≡ Ok (load_input_value found)) }
+    ensures little { IfOk result (λ found. All TakesLittle found.access.items) }
+    ensures err { IfErr result (IsRefused (loaded_without domain text.now)) }
+{
+    let requests = requests_in(alloc, &domain, text)?;
+    let access = Vec::new(alloc);
+    Ok(LoadInput {
+        domain,
+        access,
+        requests,
+    })
+}
+
+/// Reads the streams of a network, whose domain this is.
+fn read_network(
+    alloc: Global,
+    network: &SketchDomain,
+    domain: Domain,
+    text: &[u8],
+) -> Result<LoadInput, Stop>
+    requires { domain ≡ domain_of network.now }
+    ensures ok { IfOk result (λ found. loaded_network network.now text.now ≡ Ok (load_input_value found)) }
+    ensures little { IfOk result (λ found. All TakesLittle found.access.items) }
+    ensures err { IfErr result (IsRefused (loaded_network network.now text.now)) }
+{
+    if has_access(network) {
+        read_with_access(alloc, network, domain, text)
+    } else {
+        read_without_access(alloc, domain, text)
+    }
+}
+
+/// Reads an input, within some limits.
+fn read_load(alloc: Global, limits: Limits, input: &[u8]) -> Result<LoadInput, Stop>
+    ensures ok { IfOk result (λ found. load_input limits input.now ≡ Ok (load_input_value found)) }
+    ensures little { IfOk result (λ found. All TakesLittle found.access.items) }
+    ensures err { IfErr result (IsRefused (load_input limits input.now)) }
+{
+    let (domain_text, streams_text) = two_parts(alloc, input)?;
+    let network = network_part(alloc, limits, domain_text)?;
+    let domain = domain_of(alloc, &network)?;
+    read_network(alloc, &network, domain, streams_text)
+}
+
+/// Returns the output of `load` for an input that is read within some limits, ready to be written: a line for each link, with what it holds of
+/// the streams and has left, and then one for each access link. A stream for which a link has no room is counted with the others.
 ///
 /// # Errors
-/// With status 1 and the line of the first fault of the input: of its parts, of the domain, of the streams, or of the first stream that is
-/// refused for a reason other than a link's budget; the streams before it count as accepted. With status 3 if an allocation fails.
+/// With status 1 and the line of the first fault of the input: of its parts, of the domain, of the streams, of the first stream that doesn't
+/// enter the network as its text says, or of the first stream that is refused for another reason than a link's budget, where those before it
+/// count as accepted; and with status 3 for want of memory.
 pub fn load_output(alloc: Global, limits: Limits, input: &[u8]) -> Result<LoadOutput, Stop>
     ensures ok { IfOk result (λ output. loaded_input limits input.now ≡ Ok (text_of_load output)) }
     ensures err { IfErr result (IsRefused (loaded_input limits input.now)) }
 {
-    let (domain, requests) = read_plan(alloc, limits, input)?;
+    let LoadInput {
+        domain,
+        access,
+        requests,
+    } = read_load(alloc, limits, input)?;
     let listing = list_all(alloc, &domain, requests.as_slice())?;
     match Buffer::new(alloc) {
         Ok(buffer) => Ok(LoadOutput {
             domain,
             listing,
+            access,
             buffer,
         }),
         Err(_) => Err(Stop::memory(alloc)),

@@ -1,5 +1,6 @@
 //! The output of `load`, before it is written.
 
+use crate::load::access::AccessLoad;
 use crate::load::listing::LoadListing;
 use cqf_output::Buffer;
 use cqf_topology::Domain;
@@ -10,13 +11,18 @@ use std::marker::Model;
 pub struct LoadOutput {
     pub(crate) domain: Domain,
     pub(crate) listing: LoadListing,
+    pub(crate) access: Vec<AccessLoad>,
     pub(crate) buffer: Buffer,
 }
 
 impl Model for LoadOutput {
-    ghost use Rattle.cqf_program_plans.specs.Load.Text.{ListedPlan};
+    ghost use Rattle.std.specs.Prelude.{All};
+    ghost use Rattle.cqf_program_plans.specs.Load.Access.{TakesLittle};
+    ghost use Rattle.cqf_program_plans.specs.Load.Told.{ListedPlan};
 
     ghost Value = { ListedPlan };
 
-    ghost view = { λ o. record { domain = o.domain; rows = o.listing } };
+    ghost view = { λ o. record { domain = o.domain; rows = o.listing; access = o.access.items } };
+
+    ghost invariant = { λ o. All TakesLittle o.access.items };
 }

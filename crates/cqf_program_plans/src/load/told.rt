@@ -1,12 +1,15 @@
 //! The output of `load`, written line by line.
-ghost use Rattle.std.specs.Prelude.{◌≡◌, ◌-◌, ◌<◌, ◌^◌, decimal, length};
+ghost use Rattle.std.specs.Prelude.{◌≡◌, ◌-◌, ◌<◌, ◌^◌, All, decimal, length};
 ghost use Rattle.cqf_model.specs.Domain.{budget};
 ghost use Rattle.cqf_program_plans.specs.Load.Fitting.{fits_in, megabits_of, rate_on};
-ghost use Rattle.cqf_program_plans.specs.Load.Text.{left_text, lines_of_links, load_fields, load_header, load_text, percentage_text, text_of_load, used_text};
+ghost use Rattle.cqf_program_plans.specs.Load.Text.{left_text, lines_of_links, load_fields, load_header, load_text, percentage_text, used_text};
+ghost use Rattle.cqf_program_plans.specs.Load.Access.{TakesLittle, access_fields, lines_of_access};
+ghost use Rattle.cqf_program_plans.specs.Load.Told.{text_of_load};
 ghost use Rattle.cqf_output.specs.Edge.{HasTold, writing};
 ghost use Rattle.cqf_output.specs.Writer.{Puts};
 ghost use Rattle.cqf_report.specs.Written.{line_of_fields};
 
+use crate::load::access::AccessLoad;
 use crate::load::listing::LoadListing;
 use crate::load::outputs::LoadOutput;
 use cqf_model::MOST_OCTETS;
@@ -65,9 +68,10 @@ fn fits_in(left: u64) -> u64
 }
 
 /// Puts what is left of a budget, negative if more is held.
-fn put_left<W: Sink>(writer: &mut Writer<'_, W>, budget: u64, held: u64)
+fn put_left<W: Sink>(writer: &mut Writer<'_, W>, budget: u64, held: u128)
     ensures { Puts W.contents writer.old writer.new (left_text budget held) }
 {
+    let budget = u128::from(budget);
     if held <= budget {
         writer.put_number(budget - held);
     } else {
@@ -77,7 +81,7 @@ fn put_left<W: Sink>(writer: &mut Writer<'_, W>, budget: u64, held: u64)
 }
 
 /// Puts thousandths as a percentage.
-fn put_percentage<W: Sink>(writer: &mut Writer<'_, W>, thousandths: u64)
+fn put_percentage<W: Sink>(writer: &mut Writer<'_, W>, thousandths: u128)
     ensures { Puts W.contents writer.old writer.new (percentage_text thousandths) }
 {
     writer.put_number(thousandths / 10);
@@ -86,12 +90,12 @@ fn put_percentage<W: Sink>(writer: &mut Writer<'_, W>, thousandths: u64)
 }
 
 /// Puts the share of a budget that is held; nothing if the budget is 0.
-fn put_used<W: Sink>(writer: &mut Writer<'_, W>, budget: u64, held: u64)
-    requires { held < 2 ^ 36 }
+fn put_used<W: Sink>(writer: &mut Writer<'_, W>, budget: u64, held: u128)
+    requires { held < 2 ^ 110 }
     ensures { Puts W.contents writer.old writer.new (used_text budget held) }
 {
     if budget != 0 {
-        put_percentage(writer, 1000 * held / budget);
+        put_percentage(writer, 1000 * held / u128::from(budget));
     }
 }
 
@@ -108,23 +112,58 @@ fn put_line<W: Sink>(writer: &mut Writer<'_, W>, domain: &Domain, listing: &Load
     requires { link < length domain.now.links }
     ensures { Puts W.contents writer.old writer.new (line_of_fields (load_fields domain.now listing.now link)) }
 {
-    let (most, held) = (budget_on(domain, link), listing.cost_on(link));
+    let (most, cost) = (budget_on(domain, link), listing.cost_on(link));
+    let held = u128::from(cost);
     put_link(writer, domain, link);
     writer.put_byte(b',');
     writer.put_number(rate_on(domain, link));
     writer.put_byte(b',');
     writer.put_number(most);
     writer.put_byte(b',');
-    writer.put_number(held);
+    writer.put_number(cost);
     writer.put_byte(b',');
     put_left(writer, most, held);
     writer.put_byte(b',');
-    put_fits(writer, most, held);
+    put_fits(writer, most, cost);
     writer.put_byte(b',');
     writer.put_number(listing.streams_on(link));
     writer.put_byte(b',');
     put_used(writer, most, held);
     writer.put_byte(b'\n');
+}
+
+/// Puts the line of an access link. Nothing is reserved on it, so nothing fits.
+fn put_access<W: Sink>(writer: &mut Writer<'_, W>, load: &AccessLoad)
+    requires { TakesLittle load.now }
+    ensures { Puts W.contents writer.old writer.new (line_of_fields (access_fields load.now)) }
+{
+    writer.put(load.from.as_bytes());
+    writer.put_byte(b'>');
+    writer.put(load.to.as_bytes());
+    writer.put_byte(b',');
+    writer.put_number(megabits_of(load.rate));
+    writer.put_byte(b',');
+    writer.put_number(load.budget);
+    writer.put_byte(b',');
+    writer.put_number(load.held);
+    writer.put_byte(b',');
+    put_left(writer, load.budget, load.held);
+    writer.put_byte(b',');
+    writer.put_byte(b',');
+    writer.put_number(load.streams);
+    writer.put_byte(b',');
+    put_used(writer, load.budget, load.held);
+    writer.put_byte(b'\n');
+}
+
+/// Puts a line for each access link.
+fn put_all_access<W: Sink>(writer: &mut Writer<'_, W>, loads: &[AccessLoad])
+    requires { All TakesLittle loads.now }
+    ensures { Puts W.contents writer.old writer.new (lines_of_access loads.now) }
+{
+    for load in loads {
+        put_access(writer, load);
+    }
 }
 
 /// Puts the header.
@@ -152,17 +191,19 @@ fn put_load<W: Sink>(writer: &mut Writer<'_, W>, domain: &Domain, listing: &Load
 }
 
 impl LoadOutput {
-    /// Writes the output: one line per link. It allocates no memory.
+    /// Tells the output: a line for each link, and then one for each access link. It asks for no memory.
     pub fn tell<W: Sink>(self, told: &mut Told<W>)
         ensures { HasTold (writing W.contents told.old told.new) (text_of_load self) }
     {
         let LoadOutput {
             domain,
             listing,
+            access,
             buffer,
         } = self;
         let mut writer = Writer::new(told, buffer);
         put_load(&mut writer, &domain, &listing);
+        put_all_access(&mut writer, access.as_slice());
         let _told = writer.close();
     }
 }

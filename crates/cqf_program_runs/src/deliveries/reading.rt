@@ -1,20 +1,25 @@
 //! The input of the commands `deliveries` and `check`, and of others over deliveries.
-ghost use Rattle.std.specs.Prelude.{IfErr, IfOk};
+ghost use Rattle.std.specs.Prelude.{◌≡◌, IfErr, IfOk, true};
 ghost use Rattle.cqf_program_scenario.specs.Lines.{streams_line};
 ghost use Rattle.cqf_program_scenario.specs.RunParts.{texts_of};
 ghost use Rattle.cqf_output.specs.Stops.{IsRefused, or_line};
 ghost use Rattle.cqf_topology.specs.PlannedText.{planned_of_text};
-ghost use Rattle.cqf_program_runs.specs.Deliveries.PlannedScenario.{planned_scenario, planned_scenario_of};
-ghost use Rattle.cqf_program_runs.specs.Deliveries.Reading.{ArePlannedIn, IsPlannedGiven, IsPlannedIn};
+ghost use Rattle.cqf_program_runs.specs.Deliveries.PlannedScenario.{planned_of_part, planned_scenario, planned_scenario_of};
+ghost use Rattle.cqf_program_plans.specs.Edges.{has_access};
+ghost use Rattle.cqf_program_runs.specs.Deliveries.Reading.{ArePlannedIn, ArePlannedOf, IsPlannedGiven, IsPlannedIn};
 
 use cqf_model::Limits;
 use cqf_output::Stop;
-use cqf_program_plans::parted;
-use cqf_program_scenario::{RunInput, RunParts, domain_part, planned_part, read_behind, run_parts};
+use cqf_program_plans::{open_edges_part, parted, parted_flows};
+use cqf_program_scenario::{
+    RunInput, RunParts, domain_of, network_part, planned_part, read_behind, run_parts,
+};
+use cqf_sketch::SketchDomain;
 use cqf_topology::PacedRequest;
 use std::alloc::Global;
 
-/// The input of a run, and the deadlines of its streams.
+/// The input of a run, and the deadlines of its streams. A deadline counts from the arrival at the edge bridge: if the stream comes by an access
+/// link, it is the written one less the most that the link takes.
 #[derive(Drop)]
 pub struct PlannedGiven {
     pub given: RunInput,
@@ -37,6 +42,39 @@ fn read_paced_streams(
     }
 }
 
+/// Reads the same of a network in which a station has an access link. The deadlines are those from the streams' edge bridges on.
+fn read_edge_streams(
+    alloc: Global,
+    network: &SketchDomain,
+    text: &[u8],
+) -> Result<(Vec<PacedRequest>, Vec<Option<u32>>), Stop>
+    requires { has_access network.now ≡ true }
+    ensures ok { IfOk result (λ found. ArePlannedOf network.now text.now found.0.items found.1.items) }
+    ensures err { IfErr result (IsRefused (planned_of_part network.now text.now)) }
+{
+    let edge = open_edges_part(alloc, network, text)?;
+    match parted_flows(alloc, edge.flows) {
+        Ok(found) => Ok(found),
+        Err(_) => Err(Stop::memory(alloc)),
+    }
+}
+
+/// Reads the requests for the streams of a part, and their deadlines from their edge bridges on. Ends as [`open_edges_part`] does.
+fn read_planned_streams(
+    alloc: Global,
+    network: &SketchDomain,
+    text: &[u8],
+) -> Result<(Vec<PacedRequest>, Vec<Option<u32>>), Stop>
+    ensures ok { IfOk result (λ found. ArePlannedOf network.now text.now found.0.items found.1.items) }
+    ensures err { IfErr result (IsRefused (planned_of_part network.now text.now)) }
+{
+    if network.talkers().is_empty() {
+        read_paced_streams(alloc, text)
+    } else {
+        read_edge_streams(alloc, network, text)
+    }
+}
+
 /// Reads the scenario of the parts within given limits, with its streams' deadlines.
 fn read_planned_parts(
     alloc: Global,
@@ -47,8 +85,9 @@ fn read_planned_parts(
     ensures ok { IfOk result (λ made. IsPlannedIn limits cycles (texts_of parts.entry) made) }
     ensures err { IfErr result (IsRefused (planned_scenario_of limits cycles (texts_of parts.entry))) }
 {
-    let domain = domain_part(alloc, limits, parts.domain)?;
-    let (requests, deadlines) = read_paced_streams(alloc, parts.streams)?;
+    let network = network_part(alloc, limits, parts.domain)?;
+    let domain = domain_of(alloc, &network)?;
+    let (requests, deadlines) = read_planned_streams(alloc, &network, parts.streams)?;
     let given = read_behind(alloc, cycles, domain, requests, parts)?;
     Ok(PlannedGiven { given, deadlines })
 }

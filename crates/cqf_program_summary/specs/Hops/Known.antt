@@ -8,18 +8,18 @@ use Rattle.cqf_units.specs.Name.{is_name}
 use Rattle.cqf_model.specs.declared.frames.Offer.{Offer}
 use Rattle.cqf_model.specs.History.{Asked}
 use Rattle.cqf_text.specs.Parts.{parts_of}
-use Rattle.cqf_topology.specs.DomainText.{domain_within}
 use Rattle.cqf_topology.specs.PacedText.{paced_of_text}
 use Rattle.cqf_admission.specs.Asking.{asked_by}
 use Rattle.cqf_output.specs.Stops.{fault_line, or_line}
-use Rattle.cqf_program_scenario.specs.Lines.{domain_line, streams_line}
+use Rattle.cqf_program_scenario.specs.Networks.{domain_of_part}
+use Rattle.cqf_program_scenario.specs.Lines.{streams_line}
 use Rattle.cqf_program_scenario.specs.Parts.{RunTexts, run_parts}
 use Rattle.cqf_program_scenario.specs.Scenario.{Scenario, scenario_behind}
 use Rattle.cqf_program_summary.specs.Hops.Legs.{Wanted}
 
 -- the scenario of the parts over some cycles, and the plan's streams; or the line of the parts' first fault
 abbrev pub paced_scenario_of : Limits → ℕ → RunTexts → Result (Scenario × List Asked) (List ℕ)
-paced_scenario_of limits cycles texts = and_then (or_line domain_line (domain_within limits texts.domain)) (λ d.
+paced_scenario_of limits cycles texts = and_then (domain_of_part limits texts.domain) (λ d.
     and_then (or_line streams_line (paced_of_text texts.streams)) (λ streams.
     and_then (scenario_behind cycles d (map asked_by streams) texts) (λ scenario. Ok (scenario, map asked_by streams))))
 

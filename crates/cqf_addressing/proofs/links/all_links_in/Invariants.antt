@@ -6,4 +6,5 @@ use Rattle.cqf_addressing.proofs.links.all_links_in.Given as goal
 
 abbrev pub invariant-loop-value : goal.invariant-loop-value
 invariant-loop-value l =
-    with_front l.links.items (interfaces_from (items_view (drop l.value-index l.values))) ≡ interfaces_from (items_view l.values)
+    with_front l.links.items (interfaces_from (items_view l.stations) (items_view (drop l.value-index l.values)))
+    ≡ interfaces_from (items_view l.stations) (items_view l.values)

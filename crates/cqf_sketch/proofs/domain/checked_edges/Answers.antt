@@ -13,7 +13,7 @@ check-requires c =
     (λ i. joined (sym c.requires.bridges_are i) (sym c.requires.stations_are i) 0 (sym c.links.ensures i)) ∙ c.in_ok-edges.ensures in
     subst (λ (es : List Edge). All (EdgeInside (length text.bridges) (length text.stations)) es) (sym c.as_slice.ensures.value)
     (all_inside (length text.bridges) (length text.stations) edges
-    (all_joined text.bridges text.stations 0 text.links edges c.requires.readable.times_are_read is))
+    (all_joined text.bridges text.stations 0 text.links edges c.requires.readable.links_are_read is))
 
 pub returns-clause-checked : goal.returns-clause-checked
 returns-clause-checked c =
@@ -32,4 +32,4 @@ returns-clause-few c =
     let passed = passes_sketch text edges (sketch_with text edges) checked.passed in
     inside_few text.limits (length text.bridges) (length text.stations) edges passed.few_bridges passed.few_stations
     (all_inside (length text.bridges) (length text.stations) edges
-    (all_joined text.bridges text.stations 0 text.links edges c.requires.readable.times_are_read checked.joined_are))
+    (all_joined text.bridges text.stations 0 text.links edges c.requires.readable.links_are_read checked.joined_are))

@@ -1,10 +1,12 @@
-use Rattle.std.proofs.Common.{◌∙◌, ◌++◌, List, Contains, append-nil, ap, get_or, refl, subst, sym}
+use Rattle.std.proofs.Common.{◌≡◌, ◌∙◌, ◌++◌, List, Contains, append-nil, ap, filter, get_or, map, refl, subst, sym, take, take_all}
 use Rattle.std.proofs.lemmas.List.Elements.{Contains-get_or}
+use Rattle.std.proofs.lemmas.Simd.{map-map}
 use Rattle.cqf_compile.proofs.Bridges.{link-inside, no_hop}
 use Rattle.cqf_model.specs.declared.topology.Hop.{Hop}
 use Rattle.cqf_model.specs.Domain.{end_of}
 use Rattle.cqf_model.specs.History.{most_beside}
-use Rattle.cqf_program_plans.specs.Latency.Text.{is_station, latency_to}
+use Rattle.cqf_program_plans.specs.declared.latency.latencies.Latency.{Latency}
+use Rattle.cqf_program_plans.specs.Latency.Text.{is_station, latency_behind, latency_to}
 use Rattle.cqf_program_plans.proofs.Found.{items_of, listed_more}
 use Rattle.cqf_program_plans.proofs.latency.listeners.push_listeners.Goals as goal
 use Rattle.cqf_program_plans.proofs.latency.listeners.push_listeners.Goals.{in-Some+in_ok-push, in_default}
@@ -30,7 +32,7 @@ loop-hop-preserved c =
     let row = c.args.row.now in
     let items = c.as_slice-hop-items.result.now in
     let more = listed_more (λ (hop : Hop). is_station (end_of d hop.link))
-    (λ (hop : Hop). latency_to d (most_beside rows row.tree.items row.pace hop.link) row c.args.deadline hop) items c.loop-hop.hop-index no_hop
+    (λ (hop : Hop). latency_behind c.args.ends.times (latency_to d (most_beside rows row.tree.items row.pace hop.link) row c.args.ends.deadline hop)) items c.loop-hop.hop-index no_hop
     c.latency_at.result c.args.latencies.now.items done c.loop-hop-test.true c.latency_at.ensures c.loop-hop.invariant in
     elim c.match-latency_at.branch [
       | in-Some+in_ok-push w ↦
@@ -38,3 +40,18 @@ loop-hop-preserved c =
       | in_default w ↦
           ap (λ v. v.items) w.latencies-is ∙ sym (append-nil done) ∙ ap (λ o. done ++ items_of o) (sym w.in_default.is) ∙ more
     ]
+
+pub returns : goal.returns
+returns c =
+    let d = c.args.costs.now.domain in
+    let rows = c.args.costs.now.rows in
+    let before = c.args.latencies.now.items in
+    let row = c.args.row.now in
+    let items = c.as_slice-hop-items.result.now in
+    let to : Hop → Latency = λ hop. latency_to d (most_beside rows row.tree.items row.pace hop.link) row c.args.ends.deadline hop in
+    let heard : List Hop → List Hop = filter (λ (hop : Hop). is_station (end_of d hop.link)) in
+    let all : take c.loop-hop.hop-index items ≡ row.tree.items =
+    take_all c.loop-hop.hop-index items c.loop-hop-test.false ∙ c.as_slice-hop-items.ensures.value in
+    c.loop-hop.invariant
+    ∙ ap (λ (hops : List Hop). before ++ map (λ (hop : Hop). latency_behind c.args.ends.times (to hop)) (heard hops)) all
+    ∙ ap (λ (told : List Latency). before ++ told) (sym (map-map (latency_behind c.args.ends.times) to (heard row.tree.items)))

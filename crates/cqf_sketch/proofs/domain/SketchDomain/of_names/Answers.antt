@@ -18,7 +18,7 @@ invariant_of-result c =
     (c.in_ok-links.ensures ∙ c.in_ok-listed.ensures ∙ ap (λ (es : List Edge). map link_of (plant_of es)) c.as_slice.ensures.value)
     (c.in_ok-talkers.ensures ∙ ap (λ (es : List Edge). map talker_of (talkers_of es)) c.as_slice-2.ensures.value)))
     (passed_is_sketch text edges names.readable (passes_sketch text edges (sketch_with text edges) checked.passed)
-    (all_joined text.bridges text.stations 0 text.links edges names.readable.times_are_read checked.joined_are) names.bridges_apart names.stations_apart)
+    (all_joined text.bridges text.stations 0 text.links edges names.readable.links_are_read checked.joined_are) names.bridges_apart names.stations_apart)
 
 -- no link of the plan occurs twice
 pub new-requires : goal.new-requires
@@ -29,4 +29,4 @@ new-requires c =
     let checked = c.in_ok-edges.ensures.checked in
     subst NoLinkTwice (sym (c.in_ok-listed.ensures ∙ ap (λ (es : List Edge). map link_of (plant_of es)) c.as_slice.ensures.value))
     (plant_once text edges names.readable (passes_sketch text edges (sketch_with text edges) checked.passed)
-    (all_joined text.bridges text.stations 0 text.links edges names.readable.times_are_read checked.joined_are))
+    (all_joined text.bridges text.stations 0 text.links edges names.readable.links_are_read checked.joined_are))

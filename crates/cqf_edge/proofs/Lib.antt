@@ -1,0 +1,9 @@
+pub mod Bounds
+pub mod FlowLemmas
+pub mod UseLemmas
+pub mod Handing
+pub mod NameLemmas
+pub mod Mapped
+pub mod Written
+pub mod Came
+pub mod ComeByLinks

@@ -1,0 +1,13 @@
+use Rattle.std.proofs.Common.{◌≡◌, ◌++◌, drop, length, map}
+use Rattle.std.specs.Prelude.{All}
+use Rattle.cqf_sketch.specs.StreamsText.{stream_text}
+use Rattle.cqf_edge.specs.EdgeFlows.{IsHandedOne}
+use Rattle.cqf_edge.specs.EdgeStreams.{handed_at_each}
+use Rattle.cqf_edge.proofs.streams.handed_at_each.Given as goal
+
+abbrev pub invariant-loop-place : goal.invariant-loop-place
+invariant-loop-place l =
+    (l.handed.items ++ handed_at_each (map stream_text (drop l.place l.streams)) (drop l.place l.entrances)
+    ≡ handed_at_each (map stream_text l.streams) l.entrances)
+    × All (IsHandedOne l.network) l.handed.items
+    × (length l.handed.items ≡ l.place)

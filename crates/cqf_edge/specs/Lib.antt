@@ -1,0 +1,9 @@
+pub mod Faults
+pub mod Entrances
+pub mod Uses
+pub mod Edge
+pub mod EdgeFlows
+pub mod EdgeStreams
+pub mod EdgeValues
+pub mod EdgeLaws
+pub mod WrittenLaws

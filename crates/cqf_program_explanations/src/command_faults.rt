@@ -1,0 +1,125 @@
+//! What the words of a command name and the input lacks: a bridge, a stream, a frame.
+
+use crate::given::CommandInput;
+use crate::places::Grouped;
+use crate::plant::KeyOwner;
+use crate::refusal::Refusal;
+use crate::script_faults::names_of;
+use crate::table_faults::count_of_offers;
+use crate::told::ToldLines;
+use crate::words::{question, shortened};
+use std::alloc::{AllocError, Global};
+
+/// How many names a line has.
+const MOST_NAMED: usize = 8;
+
+/// Returns names with commas between them, followed by `..` if there are more.
+fn some_of(alloc: Global, names: &[&str]) -> Result<String, AllocError> {
+    let mut words = String::new(alloc);
+    for name in names.iter().take(MOST_NAMED) {
+        let name = shortened(alloc, name)?;
+        if !words.is_empty() {
+            words.push_str(", ")?;
+        }
+        words.push_str(name.as_str())?;
+    }
+    if names.len() > MOST_NAMED {
+        words.push_str(", ..")?;
+    }
+    Ok(words)
+}
+
+/// Returns the question which of the names was meant, or, if none is near, what the names are; `kind` is their plural.
+fn meant_words(
+    alloc: Global,
+    name: &str,
+    kind: &str,
+    names: &[&str],
+) -> Result<String, AllocError> {
+    let question = question(alloc, name, names)?;
+    if !question.is_empty() {
+        return Ok(question);
+    }
+    if names.is_empty() {
+        return format!(in alloc; "; there are no {kind}");
+    }
+    let names = some_of(alloc, names)?;
+    format!(in alloc; "; the {kind} are {names}")
+}
+
+/// Reports a bridge that the words name and the network lacks.
+pub(crate) fn tell_unknown_bridge(
+    given: &CommandInput<'_>,
+    told: &mut ToldLines,
+    name: &str,
+) -> Result<(), AllocError> {
+    let (alloc, network) = (given.alloc, given.network()?);
+    let Some(found) = given.plant.top("bridges") else {
+        return Ok(());
+    };
+    let (place, shown) = (found.place, shortened(alloc, name)?);
+    if network.is_node(name) {
+        return told.tell(format!(in alloc;
+            "{place}: {shown} is a station: --bridge names a bridge"
+        )?);
+    }
+    let meant = meant_words(alloc, name, "bridges", network.bridges.as_slice())?;
+    told.tell(format!(in alloc; "{place}: no bridge {shown}{meant}")?)
+}
+
+/// Reports a stream that the words name, and neither the plan nor an offer.
+fn tell_unknown_stream(
+    given: &CommandInput<'_>,
+    told: &mut ToldLines,
+    name: &str,
+) -> Result<(), AllocError> {
+    let (alloc, names) = (given.alloc, names_of(given)?);
+    let meant = meant_words(alloc, name, "streams", names.as_slice())?;
+    let subject = if name.is_empty() {
+        String::from_str(alloc, "no stream has such a name")?
+    } else {
+        let shown = shortened(alloc, name)?;
+        format!(in alloc; "no stream {shown}")?
+    };
+    let items = given.plant.items(KeyOwner::Stream)?;
+    match items.first() {
+        Some(first) => {
+            let place = first.place();
+            told.tell(format!(in alloc; "{place}: {subject}{meant}")?)
+        }
+        None => told.tell(format!(in alloc; "{subject}{meant}")?),
+    }
+}
+
+/// Reports that there are fewer offers than the number of a frame.
+fn tell_no_frame(given: &CommandInput<'_>, told: &mut ToldLines) -> Result<(), AllocError> {
+    let alloc = given.alloc;
+    match count_of_offers(given)? {
+        Some((place, 0)) => told.tell(format!(in alloc; "{place}: the table has no offers")?),
+        Some((place, count)) => {
+            let count = Grouped(count);
+            told.tell(format!(in alloc;
+                "{place}: the number of an offer is its row's, 1 to {count} in this table"
+            )?)
+        }
+        None => {
+            let cycles = Grouped(u64::from(given.cycles.unwrap_or(0)));
+            told.tell(format!(in alloc;
+                "the program makes fewer offers for {cycles} cycles: give more cycles"
+            )?)
+        }
+    }
+}
+
+/// Reports what `hops` looks for in vain.
+pub(crate) fn tell_hops(
+    given: &CommandInput<'_>,
+    told: &mut ToldLines,
+    refusal: Refusal<'_>,
+) -> Result<(), AllocError> {
+    match refusal.fault {
+        "UnknownStream" => tell_unknown_stream(given, told, refusal.value),
+        "NoFrame" => tell_no_frame(given, told),
+        _ => Ok(()),
+    }
+}

@@ -1,0 +1,306 @@
+//! Networks with open parts, and streams that don't enter as their text says.
+
+use crate::given::CommandInput;
+use crate::hints::plan_hint;
+use crate::network::{Network, WrittenLink};
+use crate::plan_faults::tell_no_talkers;
+use crate::plant::{KeyOwner, WrittenItem};
+use crate::refusal::Refusal;
+use crate::sketch::{has_traffic, is_in_step, nanos_question, talker_of};
+use crate::told::ToldLines;
+use crate::words::shortened;
+use std::alloc::{AllocError, Global};
+use toml::Value;
+
+/// Returns a talker's node, and the bridge after `@`.
+pub(crate) fn ends_of_talker(talker: &str) -> (&str, Option<&str>) {
+    match talker.split_once('@') {
+        Some((node, bridge)) => (node, Some(bridge)),
+        None => (talker, None),
+    }
+}
+
+/// Returns whether an access link is a talker's: it leads from the station, and to the bridge if the talker's text names one.
+pub(crate) fn is_access(network: &Network<'_>, link: &WrittenLink<'_>, talker: &str) -> bool {
+    let (node, bridge) = ends_of_talker(talker);
+    if talker_of(network, link) != Some(node) {
+        return false;
+    }
+    match bridge {
+        Some(bridge) => network.edge_of(link) == bridge,
+        None => true,
+    }
+}
+
+/// Returns the first access link of a talker.
+pub(crate) fn access_link_of<'n, 'p>(
+    network: &'n Network<'p>,
+    talker: &str,
+) -> Option<&'n WrittenLink<'p>> {
+    for link in &network.links {
+        if is_access(network, link, talker) {
+            return Some(link);
+        }
+    }
+    None
+}
+
+/// Returns whether a text names a talker: a bridge, or a station with an access link.
+pub(crate) fn is_talker(network: &Network<'_>, talker: &str) -> bool {
+    network.is_bridge(talker) || access_link_of(network, talker).is_some()
+}
+
+/// Returns the branches of a stream, each its names.
+fn branches_of<'p>(alloc: Global, item: &WrittenItem<'p>) -> Result<Vec<&'p [Value]>, AllocError> {
+    let mut branches = Vec::new(alloc);
+    if let Some(path) = item.get("path").and_then(Value::as_array) {
+        branches.push(path.as_slice())?;
+    }
+    if let Some(paths) = item.get("paths").and_then(Value::as_array) {
+        for path in paths {
+            if let Some(names) = path.as_array() {
+                branches.push(names.as_slice())?;
+            }
+        }
+    }
+    Ok(branches)
+}
+
+/// Returns the texts that name a station's access links, with `or` between.
+fn texts_of_links(
+    alloc: Global,
+    network: &Network<'_>,
+    station: &str,
+) -> Result<String, AllocError> {
+    let mut words = String::new(alloc);
+    for link in &network.links {
+        if is_access(network, link, station) {
+            let (between, edge) = (
+                if words.is_empty() { "" } else { " or " },
+                network.edge_of(link),
+            );
+            let more = format!(in alloc; "{between}{station}@{edge}")?;
+            words.push_str(more.as_str())?;
+        }
+    }
+    Ok(words)
+}
+
+/// Returns the words about the access links that a station has.
+pub(crate) fn links_words(
+    alloc: Global,
+    network: &Network<'_>,
+    station: &str,
+) -> Result<String, AllocError> {
+    let texts = texts_of_links(alloc, network, station)?;
+    format!(in alloc; "; did you mean {texts}?")
+}
+
+/// Returns the words about a stream whose talker has several access links.
+fn several_words(alloc: Global, network: &Network<'_>, talker: &str) -> Result<String, AllocError> {
+    let texts = texts_of_links(alloc, network, talker)?;
+    format!(in alloc; "from: {talker} has several access links: say which, as {texts}")
+}
+
+/// Returns the words about a stream whose path begins at another bridge than where its talker's streams enter.
+fn other_edge_words(
+    alloc: Global,
+    network: &Network<'_>,
+    item: &WrittenItem<'_>,
+    talker: &str,
+) -> Result<String, AllocError> {
+    let edge = match access_link_of(network, talker) {
+        Some(link) => network.edge_of(link),
+        None => talker,
+    };
+    for branch in &branches_of(alloc, item)? {
+        let begins = branch.first().and_then(Value::as_str).unwrap_or("");
+        if begins != edge {
+            let (begins, talker) = (shortened(alloc, begins)?, shortened(alloc, talker)?);
+            return format!(in alloc;
+                "its path begins at {begins}, and its talker {talker} comes in at {edge}: let it begin there"
+            );
+        }
+    }
+    Ok(String::new(alloc))
+}
+
+/// Reports the stream of a name that doesn't enter as its text says.
+pub(crate) fn tell_entering(
+    given: &CommandInput<'_>,
+    told: &mut ToldLines,
+    stream: &str,
+    fault: &str,
+) -> Result<(), AllocError> {
+    let (alloc, network) = (given.alloc, given.network()?);
+    for item in &given.plant.items(KeyOwner::Stream)? {
+        if item.text("name") != Some(stream) {
+            continue;
+        }
+        let talker = item.text("from").unwrap_or("");
+        let (key, words) = match fault {
+            "TwoAccessLinks" => ("from", several_words(alloc, &network, talker)?),
+            "OtherEdge" => ("from", other_edge_words(alloc, &network, item, talker)?),
+            _ => {
+                let words =
+                    "to: its listeners aren't those of its paths, in their order; without to they are";
+                ("to", String::from_str(alloc, words)?)
+            }
+        };
+        let (place, label) = (item.place_of(key), item.label(alloc)?);
+        return told.tell(format!(in alloc; "{place}: {label}: {words}")?);
+    }
+    Ok(())
+}
+
+/// Returns whether a stream has its ends and no path between them.
+fn lacks_way(item: &WrittenItem<'_>) -> bool {
+    if item.get("path").is_some() || item.get("paths").is_some() {
+        return false;
+    }
+    item.get("from").is_some() && item.get("to").is_some()
+}
+
+/// Returns whether a stream has traffic, and doesn't say what it reserves.
+fn lacks_octets(item: &WrittenItem<'_>) -> bool {
+    item.get("octets").is_none() && has_traffic(item)
+}
+
+/// Returns whether a stream's talker is in step, and `every` is missing.
+fn lacks_turns(item: &WrittenItem<'_>) -> bool {
+    is_in_step(item) && item.get("every").is_none()
+}
+
+/// Returns what `plan` would add to a stream, in words; an empty text if nothing is open.
+fn open_words(item: &WrittenItem<'_>) -> &'static str {
+    if lacks_way(item) {
+        "has no path"
+    } else if lacks_octets(item) {
+        "has no octets"
+    } else if lacks_turns(item) {
+        "is in step, and has no every and phase"
+    } else {
+        ""
+    }
+}
+
+/// Reports each stream that has an open part.
+fn tell_open(given: &CommandInput<'_>, told: &mut ToldLines) -> Result<(), AllocError> {
+    let hint = plan_hint(given)?;
+    for item in &given.plant.items(KeyOwner::Stream)? {
+        let words = open_words(item);
+        if words.is_empty() || told.is_counted() {
+            continue;
+        }
+        let (place, label) = (item.place(), item.label(given.alloc)?);
+        told.tell(format!(in given.alloc; "{place}: {label} {words}{hint}")?)?;
+    }
+    Ok(())
+}
+
+/// Reports a cycle time that is open.
+fn tell_open_cycle(given: &CommandInput<'_>, told: &mut ToldLines) -> Result<(), AllocError> {
+    let hint = plan_hint(given)?;
+    let Some(found) = given.plant.top("cycle") else {
+        return Ok(());
+    };
+    let place = found.place;
+    told.tell(format!(in given.alloc; "{place}: cycle has several cycle times{hint}")?)
+}
+
+/// Returns what a stream takes of its access link, in tenths of a Mb/s: its frames with their preambles and gaps.
+fn taken_by(item: &WrittenItem<'_>) -> u64 {
+    let (interval, size) = (item.number("interval"), item.number("size"));
+    let frames = item.get("frames").map_or(1, |_| item.number("frames"));
+    let octets = frames.saturating_mul(size.saturating_add(20));
+    octets
+        .saturating_mul(80_000)
+        .checked_div(interval)
+        .unwrap_or(0)
+}
+
+/// Returns a number of tenths with its point.
+fn in_tenths(alloc: Global, tenths: u64) -> Result<String, AllocError> {
+    let (whole, rest) = (tenths / 10, tenths % 10);
+    format!(in alloc; "{whole}.{rest}")
+}
+
+/// How many streams a line about an access link names.
+const MOST_NAMED: u64 = 4;
+
+/// Returns what a link's streams take of it: all together in tenths of a Mb/s, and each in words. Returns `None` if it has no streams.
+fn use_words(
+    given: &CommandInput<'_>,
+    network: &Network<'_>,
+    link: &WrittenLink<'_>,
+) -> Result<Option<(u64, String)>, AllocError> {
+    let alloc = given.alloc;
+    let (mut all, mut count, mut words) = (0u64, 0u64, String::new(alloc));
+    let mut question = String::new(alloc);
+    for item in &given.plant.items(KeyOwner::Stream)? {
+        let talker = item.text("from").unwrap_or("");
+        if talker.is_empty() || !is_access(network, link, talker) {
+            continue;
+        }
+        let taken = taken_by(item);
+        all = all.saturating_add(taken);
+        count = count.saturating_add(1);
+        if question.is_empty() {
+            question = nanos_question(alloc, item, "interval")?;
+        }
+        if count <= MOST_NAMED {
+            let between = if count == 1 { "" } else { ", " };
+            let name = shortened(alloc, item.text("name").unwrap_or(""))?;
+            let share = in_tenths(alloc, taken)?;
+            words.push_str(format!(in alloc; "{between}{name} {share}")?.as_str())?;
+        }
+    }
+    if count == 0 {
+        return Ok(None);
+    }
+    if count > MOST_NAMED {
+        let more = count - MOST_NAMED;
+        words.push_str(format!(in alloc; " and {more} more")?.as_str())?;
+    }
+    words.push_str("; give it a higher rate, or them longer intervals")?;
+    words.push_str(question.as_str())?;
+    Ok(Some((all, words)))
+}
+
+/// Reports what the streams of a station take of its access links.
+fn tell_full(
+    given: &CommandInput<'_>,
+    told: &mut ToldLines,
+    station: &str,
+) -> Result<(), AllocError> {
+    let (alloc, network) = (given.alloc, given.network()?);
+    for link in &network.links {
+        if talker_of(&network, link) != Some(station) {
+            continue;
+        }
+        let Some((all, words)) = use_words(given, &network, link)? else {
+            continue;
+        };
+        let (place, number) = (link.item.place(), link.item.number);
+        let (edge, rate, all) = (network.edge_of(link), link.rate, in_tenths(alloc, all)?);
+        told.tell(format!(in alloc;
+            "{place}: link {number}, {station}>{edge}: its streams take {all} Mb/s of {rate}: {words}"
+        )?)?;
+    }
+    Ok(())
+}
+
+/// Reports why a network is refused.
+pub(crate) fn tell_network(
+    given: &CommandInput<'_>,
+    told: &mut ToldLines,
+    refusal: Refusal<'_>,
+) -> Result<(), AllocError> {
+    match refusal.fault {
+        "OpenCycle" => tell_open_cycle(given, told),
+        "Open" => tell_open(given, told),
+        "AccessFull" => tell_full(given, told, refusal.value),
+        "NoTalker" => tell_no_talkers(given, told),
+        fault => tell_entering(given, told, refusal.value, fault),
+    }
+}

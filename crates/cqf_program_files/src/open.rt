@@ -1,0 +1,140 @@
+//! What is open in the files of a network.
+ghost use Rattle.std.specs.Prelude.{◌≡◌, map, option_and_then, option_map};
+ghost use Rattle.std.specs.List.{list_any};
+ghost use Rattle.toml.specs.Data.{as_table};
+ghost use Rattle.toml.specs.View.{items_view, table_view, view};
+ghost use Rattle.cqf_program_files.specs.Opening.{first_open_among, first_open_of, first_open_stream, has, has_open_cycle, lacks_octets, lacks_turns};
+ghost use Rattle.cqf_program_files.specs.Opening.{lacks_way, open_name_in};
+
+use crate::keys::value_at;
+use toml::{Table, Value};
+
+/// The keys of a stream's traffic.
+const TRAFFIC: [&str; 5] = ["interval", "frames", "size", "jitter", "offset"];
+
+/// Returns whether a table has a key.
+fn has(table: &Table, key: &str) -> bool
+    ensures { result ≡ has key.now (table_view table.now) }
+{
+    value_at(table, key).is_some()
+}
+
+/// Returns whether a table has one of the keys.
+fn has_any(table: &Table, keys: &[&str]) -> bool
+    ensures { result ≡ list_any (λ key. has key (table_view table.now)) (map (λ key. key.now) keys.now) }
+{
+    for key in keys {
+        if has(table, key) {
+            return true;
+        }
+    }
+    false
+}
+
+/// Whether a network's table has several cycle times.
+fn has_several_cycles(table: &Table) -> bool
+    ensures { result ≡ has_open_cycle (table_view table.now) }
+{
+    match value_at(table, "cycle") {
+        Some(value) => value.is_array(),
+        None => false,
+    }
+}
+
+/// Whether one of a network's tables has several cycle times.
+pub(crate) fn has_open_cycle(tables: &[Table]) -> bool
+    ensures { result ≡ list_any has_open_cycle (map table_view tables.now) }
+{
+    for table in tables {
+        if has_several_cycles(table) {
+            return true;
+        }
+    }
+    false
+}
+
+/// Whether a stream's table has its ends and no way between them.
+fn lacks_way(table: &Table) -> bool
+    ensures { result ≡ lacks_way (table_view table.now) }
+{
+    if has(table, "path") || has(table, "paths") {
+        return false;
+    }
+    has(table, "from") && has(table, "to")
+}
+
+/// Whether it has traffic, and doesn't say what it reserves.
+fn lacks_octets(table: &Table) -> bool
+    ensures { result ≡ lacks_octets (table_view table.now) }
+{
+    if has(table, "octets") {
+        return false;
+    }
+    has_any(table, &TRAFFIC)
+}
+
+/// Whether its talker is in step, and nothing says of how many cycles it is offered in one.
+fn lacks_turns(table: &Table) -> bool
+    ensures { result ≡ lacks_turns (table_view table.now) }
+{
+    match value_at(table, "in-step").and_then(Value::as_bool) {
+        Some(true) => !has(table, "every"),
+        _ => false,
+    }
+}
+
+/// The name of a stream's table, where something of it is open that a plan can choose.
+fn open_name(table: &Table) -> Option<&str>
+    ensures { option_map (λ name. name.now) result ≡ open_name_in (table_view table.now) }
+{
+    if !lacks_way(table) && !lacks_octets(table) && !lacks_turns(table) {
+        return None;
+    }
+    value_at(table, "name").and_then(Value::as_str)
+}
+
+/// The same of a value, where it is a table.
+fn open_name_of(value: &Value) -> Option<&str>
+    ensures { option_map (λ name. name.now) result ≡ option_and_then open_name_in (as_table (view value.now)) }
+{
+    match value.as_table() {
+        Some(table) => open_name(table),
+        None => None,
+    }
+}
+
+/// The same of the first of an array's values that has one.
+fn first_open_of(values: &[Value]) -> Option<&str>
+    ensures { option_map (λ name. name.now) result ≡ first_open_of (items_view values.now) }
+{
+    for value in values {
+        let name = open_name_of(value);
+        if name.is_some() {
+            return name;
+        }
+    }
+    None
+}
+
+/// The same of the streams of a network's table.
+fn first_open_in(table: &Table) -> Option<&str>
+    ensures { option_map (λ name. name.now) result ≡ first_open_stream (table_view table.now) }
+{
+    match value_at(table, "streams").and_then(Value::as_array) {
+        Some(values) => first_open_of(values.as_slice()),
+        None => None,
+    }
+}
+
+/// The same of the first of a network's tables that has one.
+pub(crate) fn first_open_stream(tables: &[Table]) -> Option<&str>
+    ensures { option_map (λ name. name.now) result ≡ first_open_among (map table_view tables.now) }
+{
+    for table in tables {
+        let name = first_open_in(table);
+        if name.is_some() {
+            return name;
+        }
+    }
+    None
+}

@@ -1,0 +1,167 @@
+//! The part of access links that the streams of a plan take.
+ghost use Rattle.std.specs.Prelude.{ℕ, ◌≡◌, ◌+◌, ◌-◌, ◌<◌, ◌≤◌, ◌^◌, All, IfOk, None, length, map, option_copied, slice_index_or};
+ghost use Rattle.cqf_admission.specs.Asking.{asked_paced};
+ghost use Rattle.cqf_model.specs.Limits.{longest_cycle};
+ghost use Rattle.cqf_traffic.specs.FlowsText.{flow_text};
+ghost use Rattle.cqf_program_plans.specs.Load.Access.{IsLoadedBy, TakesLittle, access_budget, access_loads, added_load, loaded_by, most_taken, promised_in};
+ghost use Rattle.cqf_program_plans.specs.Load.Access.{reserved_in, taken_by, unloaded};
+
+use cqf_edge::{EdgeFlows, Handed};
+use cqf_sketch::{SketchDomain, TalkerLink};
+use cqf_topology::PacedRequest;
+use cqf_traffic::Traffic;
+use cqf_units::{Memory, Name, Nanos, Rate, octet_ticks};
+use std::alloc::Global;
+
+/// What streams take of an access link, in octets of a cycle.
+#[derive(Drop)]
+pub(crate) struct AccessLoad {
+    /// The name of the station that it leaves.
+    pub(crate) from: Name,
+    /// The name of the bridge in which it ends.
+    pub(crate) to: Name,
+    pub(crate) rate: Rate,
+    /// The number of octets that it can send in a cycle.
+    pub(crate) budget: u64,
+    /// The number of octets that its streams take, with preambles and gaps.
+    pub(crate) held: u128,
+    /// The number of these streams.
+    pub(crate) streams: u64,
+}
+
+impl AccessLoad {
+    /// Adds what one stream more takes, in octets of a cycle.
+    fn add(&mut self, taken: u128)
+        requires held { TakesLittle self.old }
+        requires few { self.old.streams < 2 ^ 64 - 1 }
+        requires little { taken ≤ most_taken }
+        ensures { self.new ≡ loaded_by taken self.old }
+    {
+        self.held += taken;
+        self.streams += 1;
+    }
+}
+
+/// Returns the number of octets that a link can send in a cycle. The cycle time is in nanoseconds.
+fn budget_in(cycle_time: Nanos, rate: Rate) -> u64
+    requires { cycle_time.0 ≤ longest_cycle }
+    ensures { result ≡ access_budget cycle_time.0 rate }
+{
+    25 * cycle_time.0 / octet_ticks(rate)
+}
+
+/// Returns the octets of a cycle that a talker takes of its access link by what it promises: the mean of many cycles, rounded up.
+fn promised_in(cycle_time: Nanos, traffic: Traffic) -> u128
+    requires { cycle_time.0 ≤ longest_cycle }
+    ensures value { result ≡ promised_in cycle_time.0 traffic }
+    ensures little { result ≤ most_taken }
+{
+    let frame = u128::from(traffic.size().0) + 20;
+    let taken = u128::from(traffic.frames()) * frame * u128::from(cycle_time.0);
+    taken.div_ceil(u128::from(traffic.interval().0))
+}
+
+/// Returns the octets of a cycle that a talker takes that promises nothing: the mean of what its reservation costs, rounded up. It takes that
+/// only in the cycles in which it is offered.
+fn reserved_in(request: &PacedRequest) -> u128
+    ensures value { result ≡ reserved_in (asked_paced request.now) }
+    ensures little { result ≤ most_taken }
+{
+    let octets = u128::from(request.octets);
+    let taken = octets + 20 * (octets / 64);
+    taken.div_ceil(u128::from(request.every.max(1)))
+}
+
+/// Returns the octets of a cycle that a stream takes of its access link.
+fn taken_by(cycle_time: Nanos, handed: &Handed, request: &PacedRequest) -> u128
+    requires { cycle_time.0 ≤ longest_cycle }
+    ensures value { result ≡ taken_by cycle_time.0 handed.now (asked_paced request.now) }
+    ensures little { result ≤ most_taken }
+{
+    match handed.traffic {
+        Some(traffic) => promised_in(cycle_time, traffic),
+        None => reserved_in(request),
+    }
+}
+
+/// Returns an access link, before any stream takes a part of it.
+fn unloaded(network: &SketchDomain, cycle_time: Nanos, link: &TalkerLink) -> AccessLoad
+    requires station { link.now.station < length network.now.stations }
+    requires bridge { link.now.bridge < length network.now.bridges }
+    requires short { cycle_time.0 ≤ longest_cycle }
+    ensures { result ≡ unloaded network.now cycle_time.0 link.now }
+{
+    AccessLoad {
+        from: network.stations().as_slice()[usize::from(link.station)].copied(),
+        to: network.bridges().as_slice()[usize::from(link.bridge)].copied(),
+        rate: link.rate,
+        budget: budget_in(cycle_time, link.rate),
+        held: 0,
+        streams: 0,
+    }
+}
+
+/// Returns the access links of a network, before any stream takes a part of them.
+fn all_unloaded(
+    alloc: Global,
+    network: &SketchDomain,
+    cycle_time: Nanos,
+) -> Result<Vec<AccessLoad>, Memory>
+    requires { cycle_time.0 ≤ longest_cycle }
+    ensures value { IfOk result (λ loads. loads.items ≡ map (unloaded network.now cycle_time.0) network.now.talkers) }
+{
+    let links = network.talkers();
+    let mut loads = Vec::with_capacity(alloc, links.len())?;
+    for link in links {
+        loads.push(unloaded(network, cycle_time, link))?;
+    }
+    Ok(loads)
+}
+
+/// Adds what a stream takes to the link that it is handed to.
+fn add_load(loads: &mut Vec<AccessLoad>, cycle_time: Nanos, handed: &Handed, request: &PacedRequest)
+    requires short { cycle_time.0 ≤ longest_cycle }
+    requires few { (count : ℕ) × (count < 2 ^ 64 - 1) × All (IsLoadedBy count) loads.old.items }
+    ensures value { loads.new.items ≡ added_load loads.old.items handed.now.place (taken_by cycle_time.0 handed.now (asked_paced request.now)) }
+    ensures few { (count : ℕ) → All (IsLoadedBy count) loads.old.items → All (IsLoadedBy (count + 1)) loads.new.items }
+{
+    if handed.place < loads.len() {
+        let taken = taken_by(cycle_time, handed, request);
+        loads[handed.place].add(taken);
+    }
+}
+
+/// Returns what the stream at a place hands to an access link.
+fn handed_at(all: &[Option<Handed>], place: usize) -> Option<&Handed>
+    ensures { option_copied result ≡ slice_index_or all.now place None }
+{
+    match all.get(place) {
+        Some(one) => one.as_ref(),
+        None => None,
+    }
+}
+
+/// Returns what the streams of a network take of its access links, in the links' order. The cycle time is in nanoseconds.
+///
+/// # Errors
+/// `Memory` if an allocation fails.
+pub(crate) fn access_loads(
+    alloc: Global,
+    network: &SketchDomain,
+    cycle_time: Nanos,
+    edge: &EdgeFlows,
+) -> Result<Vec<AccessLoad>, Memory>
+    requires { cycle_time.0 ≤ longest_cycle }
+    ensures value { IfOk result (λ loads. loads.items
+        ≡ access_loads network.now cycle_time.0 edge.now.handed.items (map flow_text edge.now.flows.items)) }
+    ensures little { IfOk result (λ loads. All TakesLittle loads.items) }
+{
+    let mut loads = all_unloaded(alloc, network, cycle_time)?;
+    let (handed, flows) = (edge.handed.as_slice(), edge.flows.as_slice());
+    for place in 0..flows.len() {
+        if let Some(one) = handed_at(handed, place) {
+            add_load(&mut loads, cycle_time, one, &flows[place].planned.request);
+        }
+    }
+    Ok(loads)
+}
