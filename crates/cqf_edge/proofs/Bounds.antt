@@ -11,7 +11,7 @@ use Rattle.cqf_units.specs.declared.timing.Nanos.{Nanos}
 use Rattle.cqf_units.specs.declared.timing.Octets.{Octets}
 use Rattle.cqf_laws_timing.specs.Traffic.{Traffic}
 use Rattle.cqf_traffic.specs.TrafficText.{TrafficText, promise_of}
-use Rattle.cqf_sketch.specs.declared.domain.TalkerLink.{TalkerLink}
+use Rattle.cqf_network.specs.declared.domain.TalkerLink.{TalkerLink}
 use Rattle.cqf_access.specs.Access.{AccessLink, IsBound, demand}
 use Rattle.cqf_access.specs.Bounding.{IsAccessBound, IsLeastBound, all_promises, link_of}
 use Rattle.cqf_edge.specs.Uses.{bound_by, bound_of, is_enough, least_bound, link_with, most_bound}

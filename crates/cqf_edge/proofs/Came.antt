@@ -5,8 +5,8 @@ use Rattle.std.specs.Prelude.{option_map}
 use Rattle.std.proofs.lemmas.List.{length-map}
 use Rattle.cqf_topology.specs.Fields.{and_first}
 use Rattle.cqf_topology.proofs.Refusals.{and_then-Ok}
-use Rattle.cqf_sketch.specs.NetworkFlows.{NetworkFlowText}
-use Rattle.cqf_sketch.specs.SketchDomain.{SketchDomain}
+use Rattle.cqf_network.specs.NetworkFlows.{NetworkFlowText}
+use Rattle.cqf_network.specs.NetworkDomain.{NetworkDomain}
 use Rattle.cqf_edge.specs.declared.edge.Passage.{Passage}
 use Rattle.cqf_edge.specs.declared.faults.EdgeFault.{EdgeFault}
 use Rattle.cqf_edge.specs.declared.uses.Handed.{Handed}
@@ -28,11 +28,11 @@ both (Err e) others xs h = absurd cc
 both (Ok x) (Err e) xs h = absurd cc
 both (Ok x) (Ok ys) xs h = let e : xs ≡ x ∷ ys = cc in record { one = x; more = ys; first_is = refl; others_are = refl; all = e }
 
-list_same : (network : SketchDomain) (hs : List (Option Handed)) → handed_of_all network [] ≡ Ok hs → hs ≡ []
+list_same : (network : NetworkDomain) (hs : List (Option Handed)) → handed_of_all network [] ≡ Ok hs → hs ≡ []
 list_same network hs h = cc
 
 -- each has its place
-handed_length : (network : SketchDomain) (found : List NetworkFlowText) (hs : List (Option Handed)) → handed_of_all network found ≡ Ok hs → length hs ≡ length found
+handed_length : (network : NetworkDomain) (found : List NetworkFlowText) (hs : List (Option Handed)) → handed_of_all network found ≡ Ok hs → length hs ≡ length found
 handed_length network [] hs h = ap length (list_same network hs h)
 handed_length network (one ∷ found) hs h =
     let w = both (handed_of network one) (handed_of_all network found) hs h in
@@ -44,7 +44,7 @@ flows_length [] (one ∷ found) e = absurd (omega (arith, e))
 flows_length (p ∷ ps) [] e = refl
 flows_length (p ∷ ps) (one ∷ found) e = ap suc (flows_length ps found (omega (arith, e)))
 
-by_places : (network : SketchDomain) (found : List NetworkFlowText) (hs : List (Option Handed)) → length hs ≡ length found → AreByPlaces found (edges_with network found hs)
+by_places : (network : NetworkDomain) (found : List NetworkFlowText) (hs : List (Option Handed)) → length hs ≡ length found → AreByPlaces found (edges_with network found hs)
 by_places network found hs e =
     let ps = map (passage_of network (bounds_of network hs)) hs in
     let many : length ps ≡ length found = length-map hs (passage_of network (bounds_of network hs)) ∙ e in
@@ -55,7 +55,7 @@ by_places network found hs e =
       handed = e;
     }
 
-pub edge_same : (network : SketchDomain) (found : List NetworkFlowText) (hs : List (Option Handed)) (edge : EdgeFlowsText) →
+pub edge_same : (network : NetworkDomain) (found : List NetworkFlowText) (hs : List (Option Handed)) (edge : EdgeFlowsText) →
     ◌≡◌ {A = Result EdgeFlowsText EdgeFault} (Ok (edges_with network found hs)) (Ok edge) → edges_with network found hs ≡ edge
 edge_same network found hs edge e = cc
 

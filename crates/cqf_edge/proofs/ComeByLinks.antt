@@ -16,10 +16,10 @@ use Rattle.cqf_topology.proofs.Refusals.{and_then-Ok, refuse-Ok}
 use Rattle.cqf_units.specs.Name.{is_name}
 use Rattle.cqf_laws_timing.specs.Traffic.{Traffic}
 use Rattle.cqf_traffic.specs.TrafficText.{TrafficText, promise_of}
-use Rattle.cqf_sketch.specs.declared.domain.TalkerLink.{TalkerLink}
-use Rattle.cqf_sketch.specs.declared.talkers.Talker.{Talker}
-use Rattle.cqf_sketch.specs.NetworkFlows.{NetworkFlowText}
-use Rattle.cqf_sketch.specs.SketchDomain.{SketchDomain}
+use Rattle.cqf_network.specs.declared.domain.TalkerLink.{TalkerLink}
+use Rattle.cqf_network.specs.declared.talkers.Talker.{Talker}
+use Rattle.cqf_network.specs.NetworkFlows.{NetworkFlowText}
+use Rattle.cqf_network.specs.NetworkDomain.{NetworkDomain}
 use Rattle.cqf_access.specs.Access.{IsBound}
 use Rattle.cqf_access.specs.Arriving.{longest_wait, way_of}
 use Rattle.cqf_edge.specs.declared.edge.Passage.{Passage}
@@ -43,7 +43,7 @@ use Rattle.cqf_edge.proofs.Written.{after}
 -- ---- what is handed over
 
 -- what a stream hands to an access link of the network
-record IsOver (network : SketchDomain) (one : NetworkFlowText) (h : Handed) : Type 0 where
+record IsOver (network : NetworkDomain) (one : NetworkFlowText) (h : Handed) : Type 0 where
   place : ℕ
   there : place < length network.talkers
   is : h ≡ handed_over place one.flow.0.0.octets one.shortest one.flow.1
@@ -56,12 +56,12 @@ by_found : (o : Option ℕ) (place : ℕ) → ◌≡◌ {A = Result Entrance Tal
 by_found None place h = absurd cc
 by_found (Some p) place h = cc
 
-to_inside : (network : SketchDomain) (station : ℕ) (o : Option ℕ) (place : ℕ) → by_that_to network station o ≡ Ok (ByAccess place) → place < length network.talkers
+to_inside : (network : NetworkDomain) (station : ℕ) (o : Option ℕ) (place : ℕ) → by_that_to network station o ≡ Ok (ByAccess place) → place < length network.talkers
 to_inside network station None place h = absurd cc
 to_inside network station (Some b) place h =
     found_inside (joins station b) network.talkers place (by_found (position (joins station b) network.talkers) place h)
 
-station_inside : (network : SketchDomain) (station : ℕ) (o : Option (List ℕ)) (place : ℕ) → by_station network station o ≡ Ok (ByAccess place) →
+station_inside : (network : NetworkDomain) (station : ℕ) (o : Option (List ℕ)) (place : ℕ) → by_station network station o ≡ Ok (ByAccess place) →
     place < length network.talkers
 station_inside network station None place h =
     found_inside (leaves_station station) network.talkers place (by_found (position (leaves_station station) network.talkers) place
@@ -69,14 +69,14 @@ station_inside network station None place h =
     (and_then (ok_or (position (leaves_station station) network.talkers) NoTalker) (λ p. Ok (ByAccess p))) (ByAccess place) h).1)
 station_inside network station (Some bridge) place h = to_inside network station (place_of bridge network.bridges) place h
 
-node_inside : (network : SketchDomain) (b s : Option ℕ) (o : Option (List ℕ)) (place : ℕ) → at_node network b s o ≡ Ok (ByAccess place) →
+node_inside : (network : NetworkDomain) (b s : Option ℕ) (o : Option (List ℕ)) (place : ℕ) → at_node network b s o ≡ Ok (ByAccess place) →
     place < length network.talkers
 node_inside network (Some b) s None place h = absurd cc
 node_inside network (Some b) s (Some x) place h = absurd cc
 node_inside network None (Some s) o place h = station_inside network s o place h
 node_inside network None None o place h = absurd cc
 
-over_by : (network : SketchDomain) (one : NetworkFlowText) (entrance : Entrance) (h : Handed) →
+over_by : (network : NetworkDomain) (one : NetworkFlowText) (entrance : Entrance) (h : Handed) →
     handed_by entrance one.flow.0.0.octets one.shortest one.flow.1 ≡ Some h → ((place : ℕ) → entrance ≡ ByAccess place → place < length network.talkers) →
     IsOver network one h
 over_by network one (AtBridge b) h e inside = absurd cc
@@ -85,7 +85,7 @@ over_by network one (ByAccess place) h e inside = record { place = place; there 
 handed_same : (x y : Option Handed) → ◌≡◌ {A = Result (Option Handed) TalkerFault} (Ok x) (Ok y) → x ≡ y
 handed_same x y e = cc
 
-over_with : (network : SketchDomain) (one : NetworkFlowText) (talker : Talker) (y : Option Handed) → handed_with network one talker ≡ Ok y →
+over_with : (network : NetworkDomain) (one : NetworkFlowText) (talker : Talker) (y : Option Handed) → handed_with network one talker ≡ Ok y →
     (h : Handed) → y ≡ Some h → IsOver network one h
 over_with network one talker =
     after (λ y. (h : Handed) → y ≡ Some h → IsOver network one h) (entrance_of network talker) _ (λ entrance at.
@@ -94,7 +94,7 @@ over_with network one talker =
     over_by network one entrance h (handed_same _ y made ∙ e) (λ place same.
     node_inside network (place_of talker.node network.bridges) (place_of talker.node network.stations) talker.bridge place (at ∙ ap Ok same)))))
 
-over_of : (network : SketchDomain) (one : NetworkFlowText) (h : Handed) → handed_of network one ≡ Ok (Some h) → IsOver network one h
+over_of : (network : NetworkDomain) (one : NetworkFlowText) (h : Handed) → handed_of network one ≡ Ok (Some h) → IsOver network one h
 over_of network one h e = by one.talker e
   where
     unmapped : (r : Result (Option Handed) TalkerFault) → result_map_both (λ handed. handed) (λ why. fault.Talker one.flow.0.0.name why) r ≡ Ok (Some h) → r ≡ Ok (Some h)
@@ -113,7 +113,7 @@ over_of network one h e = by one.talker e
     by None e = absurd cc
     by (Some talker) e = named (is_name one.flow.0.0.name) talker e
 
-handed_there : (network : SketchDomain) (found : List NetworkFlowText) (hs : List (Option Handed)) (k : ℕ) (one : NetworkFlowText) (x : Option Handed) →
+handed_there : (network : NetworkDomain) (found : List NetworkFlowText) (hs : List (Option Handed)) (k : ℕ) (one : NetworkFlowText) (x : Option Handed) →
     handed_of_all network found ≡ Ok hs → slice_get found k ≡ Some one → slice_get hs k ≡ Some x → handed_of network one ≡ Ok x
 handed_there network [] hs k one x h a b = absurd cc
 handed_there network (f ∷ found) hs zero one x h a b =
@@ -182,7 +182,7 @@ flow_there (q ∷ ps) (f ∷ found) (suc k) p one a b = flow_there ps found k p 
 abbrev made : TalkerLink → Handed → AccessBound → Passage
 made link h b = record { link = link; handed = h; bound = b }
 
-passage_is : (network : SketchDomain) (bounds : List AccessBound) (h : Handed) (link : TalkerLink) (b : AccessBound) →
+passage_is : (network : NetworkDomain) (bounds : List AccessBound) (h : Handed) (link : TalkerLink) (b : AccessBound) →
     slice_get network.talkers h.place ≡ Some link → slice_get bounds h.place ≡ Some b → passage_of network bounds (Some h) ≡ Some (made link h b)
 passage_is network bounds h link b at there =
     ap (λ (o : Option TalkerLink). option_and_then (λ l. option_map (λ found. made l h found) (slice_get bounds h.place)) o) at
@@ -192,7 +192,7 @@ min_right : (a b : ℕ) → min a b ≤ b
 min_right a b = omega arith
 
 -- the word of a stream whose passage is known
-word_kept : (network : SketchDomain) (found : List NetworkFlowText) (hs : List (Option Handed)) (k : ℕ) (h : Handed) (link : TalkerLink)
+word_kept : (network : NetworkDomain) (found : List NetworkFlowText) (hs : List (Option Handed)) (k : ℕ) (h : Handed) (link : TalkerLink)
     (t : TrafficText) → slice_get hs k ≡ Some (Some h) → h.traffic ≡ Some t → h.octets ≡ t.size → is_full (bound_for hs h.place link) ≡ false →
     KeepsWord (edges_with network found hs) h link (word_on (made link h (bound_for hs h.place link))) (times_on (made link h (bound_for hs h.place link))) t
 word_kept network found hs k h link t hands traffic size free =
@@ -210,7 +210,7 @@ word_kept network found hs k h link t hands traffic size free =
           + option_map_or (λ (u : TrafficText). longest_wait (link_by p) (time_in (bound_for hs h.place link)) (promise_of u)) (traffic i) 0);
     }
 
-comes_with : (network : SketchDomain) (found : List NetworkFlowText) (hs : List (Option Handed)) (k : ℕ) (one : NetworkFlowText) (h : Handed) →
+comes_with : (network : NetworkDomain) (found : List NetworkFlowText) (hs : List (Option Handed)) (k : ℕ) (one : NetworkFlowText) (h : Handed) →
     handed_of_all network found ≡ Ok hs → slice_get found k ≡ Some one → slice_get hs k ≡ Some (Some h) → ComesByLink network (edges_with network found hs) k one h
 comes_with network found hs k one h read at hands =
     let over = over_of network one h (handed_there network found hs k one (Some h) read at hands) in
@@ -243,7 +243,7 @@ comes_with network found hs k one h read at hands =
           (none_passes is_full bounds h.place b (unmapped_none (station_at network) (position is_full bounds) none) there);
     }
 
-begins_with : (network : SketchDomain) (found : List NetworkFlowText) (hs : List (Option Handed)) (k : ℕ) (one : NetworkFlowText) →
+begins_with : (network : NetworkDomain) (found : List NetworkFlowText) (hs : List (Option Handed)) (k : ℕ) (one : NetworkFlowText) →
     slice_get found k ≡ Some one → slice_get hs k ≡ Some None → BeginsAtEdge (edges_with network found hs) k one
 begins_with network found hs k one at hands =
     let ps = map (passage_of network (bounds_of network hs)) hs in

@@ -3,8 +3,8 @@ use Rattle.std.proofs.Common.{◌≡◌, ℕ, ◌<◌, ◌≤◌, Option, Some, 
 use Rattle.std.specs.Option.{ForSome}
 use Rattle.std.proofs.lemmas.Option.{same_Some}
 use Rattle.cqf_traffic.specs.TrafficText.{TrafficText}
-use Rattle.cqf_sketch.specs.SketchDomain.{SketchDomain}
-use Rattle.cqf_sketch.specs.StreamsText.{StreamText}
+use Rattle.cqf_network.specs.NetworkDomain.{NetworkDomain}
+use Rattle.cqf_network.specs.StreamsText.{StreamText}
 use Rattle.cqf_edge.specs.declared.entrances.Entrance.{Entrance}
 use Rattle.cqf_edge.specs.declared.entrances.Entrance.TheVariants.{ByAccess}
 use Rattle.cqf_edge.specs.declared.uses.Handed.{Handed}
@@ -14,7 +14,7 @@ use Rattle.cqf_edge.specs.EdgeStreams.{IsEntranceOne, IsWrittenStream}
 use Rattle.cqf_edge.specs.Uses.{handed_over}
 
 -- the link is one of the network's, and the sizes, the jitter and the offset are in their ranges
-pub is_handed : (network : SketchDomain) (stream : StreamText) (entrance : Option Entrance) (place octets : ℕ) (h : Handed) → IsEntranceOne network entrance →
+pub is_handed : (network : NetworkDomain) (stream : StreamText) (entrance : Option Entrance) (place octets : ℕ) (h : Handed) → IsEntranceOne network entrance →
     IsWrittenStream stream → entrance ≡ Some (ByAccess place) → h ≡ handed_over place octets stream.shortest stream.traffic → h.shortest ≤ h.octets →
     h.octets ≤ 1522 → IsHandedOne network (Some h)
 is_handed network stream entrance place octets h inside written at is sizes longest x e =

@@ -8,7 +8,7 @@ use Rattle.std.proofs.Math.Bool.{and-false}
 use Rattle.cqf_lists.specs.Results.{refuse}
 use Rattle.cqf_model.specs.Domain.{is_text}
 use Rattle.cqf_topology.specs.DomainText.{if_so}
-use Rattle.cqf_sketch.specs.SketchDomain.{SketchDomain}
+use Rattle.cqf_network.specs.NetworkDomain.{NetworkDomain}
 use Rattle.cqf_edge.specs.declared.entrances.Entrance.{Entrance}
 use Rattle.cqf_edge.specs.declared.faults.TalkerFault.TheVariants.{OtherEdge}
 use Rattle.cqf_edge.specs.Entrances.{agrees_with, begins_with, edge_name, end_at, ends_with}
@@ -32,7 +32,7 @@ end_differs f (name ∷ names) (path ∷ paths) apart =
     ∙ and-false (ends_with name (f path))
 
 -- whether all begin there
-module _ {X : Type 0} (f : X → List (List ℕ)) (network : SketchDomain) (entrance : Entrance) (paths : List X) (name : List ℕ)
+module _ {X : Type 0} (f : X → List (List ℕ)) (network : NetworkDomain) (entrance : Entrance) (paths : List X) (name : List ℕ)
     (is : name ≡ edge_name network entrance) where
   by_test : (b : Bool) → list_all (λ path. begins_with name (f path)) paths ≡ b →
       refuse (if_so (not b)) (λ _. OtherEdge) (Ok tt) ≡ agrees_with network (map f paths) entrance

@@ -8,7 +8,7 @@ use Rattle.std.proofs.lemmas.List.{flat_map_more, length-set}
 use Rattle.std.proofs.lemmas.Option.{same_Some, slice_get-get_or}
 use Rattle.cqf_lists.proofs.Written.{slice_get-set_other, slice_get-set_same}
 use Rattle.cqf_traffic.specs.TrafficText.{promise_of}
-use Rattle.cqf_sketch.specs.declared.domain.TalkerLink.{TalkerLink}
+use Rattle.cqf_network.specs.declared.domain.TalkerLink.{TalkerLink}
 use Rattle.cqf_edge.specs.declared.uses.AccessBound.{AccessBound}
 use Rattle.cqf_edge.specs.declared.uses.AccessUse.{AccessUse}
 use Rattle.cqf_edge.specs.declared.uses.Handed.{Handed}

@@ -19,10 +19,10 @@ use Rattle.cqf_traffic.specs.declared.keys.TrafficKey.TheVariants.{Interval, Fra
 use Rattle.cqf_traffic.specs.FlowsText.{FlowText, first_lack_of, flow_from, or_streams, traffic_or}
 use Rattle.cqf_traffic.specs.Keys.{least_of, most_of}
 use Rattle.cqf_traffic.specs.TrafficText.{TrafficText, has_traffic, number_at, number_by, numbers_from, traffic_from, value_at}
-use Rattle.cqf_sketch.specs.NetworkFlows.{NetworkFlowText, network_flow_from, network_flows_from, network_flows_in, network_flows_of_array, network_flows_of_text}
-use Rattle.cqf_sketch.specs.StreamsText.{StreamText, branches_if, listeners_read, octets_from, pacing_from, shortest_read, sketch_streams_of_text}
-use Rattle.cqf_sketch.specs.StreamsText.{stream_from, streams_from, streams_in, streams_of_array, talker_read, way_by}
-use Rattle.cqf_sketch.specs.StreamsText.{first_lack_of as wanted_lack}
+use Rattle.cqf_network.specs.NetworkFlows.{NetworkFlowText, network_flow_from, network_flows_from, network_flows_in, network_flows_of_array, network_flows_of_text}
+use Rattle.cqf_network.specs.StreamsText.{StreamText, branches_if, listeners_read, octets_from, pacing_from, shortest_read, network_streams_of_text}
+use Rattle.cqf_network.specs.StreamsText.{stream_from, streams_from, streams_in, streams_of_array, talker_read, way_by}
+use Rattle.cqf_network.specs.StreamsText.{first_lack_of as wanted_lack}
 use Rattle.cqf_edge.specs.Edge.{IsWritten}
 use Rattle.cqf_edge.specs.EdgeFlows.{IsWrittenFlow}
 use Rattle.cqf_edge.specs.EdgeStreams.{IsWrittenStream}
@@ -177,7 +177,7 @@ wanted_document_written : (table : Members) (streams : List StreamText) → stre
 wanted_document_written table =
     after AreWrittenStreams (or_streams (read_at key.Streams as_array table)) streams_of_array (λ items _ streams h. wanted_array_written items streams h)
 
-pub streams_written : (text : List ℕ) (streams : List StreamText) → sketch_streams_of_text text ≡ Ok streams → All IsWrittenStream streams
+pub streams_written : (text : List ℕ) (streams : List StreamText) → network_streams_of_text text ≡ Ok streams → All IsWrittenStream streams
 streams_written text =
     after AreWrittenStreams (or_streams (whole_document streams_keys key.Streams [] text)) _ (λ table _ streams h.
     wanted_document_written table streams (refuse-Ok (wanted_lack table) (λ fault. fault) (streams_in table) streams h).1)

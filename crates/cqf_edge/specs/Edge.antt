@@ -7,7 +7,7 @@ use Rattle.cqf_laws_timing.specs.Traffic.{Traffic}
 use Rattle.cqf_traffic.specs.declared.keys.TrafficKey.TheVariants.{Jitter, Offset}
 use Rattle.cqf_traffic.specs.Keys.{most_of}
 use Rattle.cqf_traffic.specs.TrafficText.{TrafficText, delayed_by, promise_of}
-use Rattle.cqf_sketch.specs.declared.domain.TalkerLink.{TalkerLink}
+use Rattle.cqf_network.specs.declared.domain.TalkerLink.{TalkerLink}
 use Rattle.cqf_access.specs.declared.edge.Delays.{Delays}
 use Rattle.cqf_access.specs.Access.{AccessLink}
 use Rattle.cqf_access.specs.Arriving.{at_edge, edge_offset, longest_wait, way_of}

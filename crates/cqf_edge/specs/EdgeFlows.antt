@@ -6,9 +6,9 @@ use Rattle.cqf_lists.specs.Results.{and_then}
 use Rattle.cqf_topology.specs.Fields.{and_first}
 use Rattle.cqf_traffic.specs.FlowsText.{FlowText}
 use Rattle.cqf_traffic.specs.TrafficText.{TrafficText}
-use Rattle.cqf_sketch.specs.declared.talkers.Talker.{Talker}
-use Rattle.cqf_sketch.specs.NetworkFlows.{NetworkFlowText}
-use Rattle.cqf_sketch.specs.SketchDomain.{SketchDomain}
+use Rattle.cqf_network.specs.declared.talkers.Talker.{Talker}
+use Rattle.cqf_network.specs.NetworkFlows.{NetworkFlowText}
+use Rattle.cqf_network.specs.NetworkDomain.{NetworkDomain}
 use Rattle.cqf_units.specs.Name.{is_name}
 use Rattle.cqf_edge.specs.declared.edge.AccessTimes.{AccessTimes}
 use Rattle.cqf_edge.specs.declared.edge.Passage.{Passage}
@@ -29,7 +29,7 @@ handed_by (entrance.AtBridge bridge) octets shortest traffic = None
 handed_by (entrance.ByAccess place) octets shortest traffic = Some (handed_over place octets shortest traffic)
 
 -- the same for a stream with a talker in its text. Its branches have to agree with the talker and with the listeners
-abbrev pub handed_with : SketchDomain → NetworkFlowText → Talker → Result (Option Handed) TalkerFault
+abbrev pub handed_with : NetworkDomain → NetworkFlowText → Talker → Result (Option Handed) TalkerFault
 handed_with network found talker =
     and_then (entrance_of network talker) (λ entrance.
     and_then (agrees_with network found.flow.0.0.paths entrance) (λ _.
@@ -40,16 +40,16 @@ handed_with network found talker =
 abbrev pub or_named : List ℕ → Result (Option Handed) TalkerFault → Result (Option Handed) EdgeFault
 or_named name found = if is_name name then result_map_both (λ handed. handed) (λ why. fault.Talker name why) found else Ok None
 
-abbrev pub handed_of : SketchDomain → NetworkFlowText → Result (Option Handed) EdgeFault
+abbrev pub handed_of : NetworkDomain → NetworkFlowText → Result (Option Handed) EdgeFault
 handed_of network found = option_map_or (λ talker. or_named found.flow.0.0.name (handed_with network found talker)) found.talker (Ok None)
 
 -- the same for all streams, or the first fault
-abbrev pub handed_of_all : SketchDomain → List NetworkFlowText → Result (List (Option Handed)) EdgeFault
+abbrev pub handed_of_all : NetworkDomain → List NetworkFlowText → Result (List (Option Handed)) EdgeFault
 handed_of_all network [] = Ok []
 handed_of_all network (found ∷ rest) = and_first (handed_of network found) (handed_of_all network rest)
 
 -- a stream's passage by the link that it is handed to
-abbrev pub passage_of : SketchDomain → List AccessBound → Option Handed → Option Passage
+abbrev pub passage_of : NetworkDomain → List AccessBound → Option Handed → Option Passage
 passage_of network bounds one = option_and_then (λ (handed : Handed).
     option_and_then (λ link. option_map (λ found. record { link = link; handed = handed; bound = found }) (slice_get bounds handed.place))
     (link_at network handed.place)) one
@@ -73,7 +73,7 @@ flows_behind [] all = []
 flows_behind (p ∷ ps) [] = []
 flows_behind (p ∷ ps) (found ∷ rest) = flow_behind p found.flow ∷ flows_behind ps rest
 
-abbrev pub edges_by : SketchDomain → List NetworkFlowText → List (Option Handed) → List AccessBound → EdgeFlowsText
+abbrev pub edges_by : NetworkDomain → List NetworkFlowText → List (Option Handed) → List AccessBound → EdgeFlowsText
 edges_by network all handed bounds = record {
   flows = flows_behind (map (passage_of network bounds) handed) all;
   deadlines = map (λ (found : NetworkFlowText). found.flow.0.1) all;
@@ -82,10 +82,10 @@ edges_by network all handed bounds = record {
   full = full_station network bounds;
 }
 
-abbrev pub edges_with : SketchDomain → List NetworkFlowText → List (Option Handed) → EdgeFlowsText
+abbrev pub edges_with : NetworkDomain → List NetworkFlowText → List (Option Handed) → EdgeFlowsText
 edges_with network all handed = edges_by network all handed (bounds_of network handed)
 
-abbrev pub edge_flows : SketchDomain → List NetworkFlowText → Result EdgeFlowsText EdgeFault
+abbrev pub edge_flows : NetworkDomain → List NetworkFlowText → Result EdgeFlowsText EdgeFault
 edge_flows network all = and_then (handed_of_all network all) (λ handed. Ok (edges_with network all handed))
 
 -- the same for a network without access links: each stream begins at its edge bridge
@@ -103,13 +103,13 @@ abbrev pub IsWrittenFlow : NetworkFlowText → Type 0
 IsWrittenFlow found = ForSome found.flow.1 IsWritten
 
 -- what is handed to an access link of a network
-pub record IsHandedIn (network : SketchDomain) (handed : Handed) : Type 0 where
+pub record IsHandedIn (network : NetworkDomain) (handed : Handed) : Type 0 where
   pub there : handed.place < length network.talkers
   pub sizes : handed.shortest ≤ handed.octets
   pub longest : handed.octets ≤ 1522
   pub written : ForSome handed.traffic IsWritten
 
-abbrev pub IsHandedOne : SketchDomain → Option Handed → Type 0
+abbrev pub IsHandedOne : NetworkDomain → Option Handed → Type 0
 IsHandedOne network one = ForSome one (IsHandedIn network)
 
 abbrev pub IsPassageOne : Option Passage → Type 0

@@ -3,9 +3,9 @@ use Rattle.std.specs.Prelude.{ℕ, ◌≡◌, ◌+◌, ◌≤◌, List, Option, 
 use Rattle.std.specs.Option.{ForSome}
 use Rattle.cqf_traffic.specs.FlowsText.{FlowText}
 use Rattle.cqf_traffic.specs.TrafficText.{TrafficText, promise_of}
-use Rattle.cqf_sketch.specs.declared.domain.TalkerLink.{TalkerLink}
-use Rattle.cqf_sketch.specs.NetworkFlows.{NetworkFlowText}
-use Rattle.cqf_sketch.specs.SketchDomain.{SketchDomain}
+use Rattle.cqf_network.specs.declared.domain.TalkerLink.{TalkerLink}
+use Rattle.cqf_network.specs.NetworkFlows.{NetworkFlowText}
+use Rattle.cqf_network.specs.NetworkDomain.{NetworkDomain}
 use Rattle.cqf_access.specs.Access.{AccessLink, IsBound}
 use Rattle.cqf_access.specs.Arriving.{edge_offset, longest_wait, way_of}
 use Rattle.cqf_access.specs.Closer.{closer_at_edge}
@@ -32,7 +32,7 @@ pub record KeepsWord (edge : EdgeFlowsText) (handed : Handed) (link : TalkerLink
   pub most : times.most ≡ way_of (link_used edge handed link) link.delay t.size + longest_wait (link_used edge handed link) bound (promise_of t)
 
 -- a stream that is handed to an access link of the network: only its deadline and its traffic are different at its edge bridge
-pub record ComesByLink (network : SketchDomain) (edge : EdgeFlowsText) (stream : ℕ) (one : NetworkFlowText) (handed : Handed) : Type 0 where
+pub record ComesByLink (network : NetworkDomain) (edge : EdgeFlowsText) (stream : ℕ) (one : NetworkFlowText) (handed : Handed) : Type 0 where
   pub link : TalkerLink
   pub is_link : slice_get network.talkers handed.place ≡ Some link
   pub promise : handed.traffic ≡ one.flow.1
@@ -47,7 +47,7 @@ pub record ComesByLink (network : SketchDomain) (edge : EdgeFlowsText) (stream :
 
 abbrev pub StreamsComeByLinks : Type 0
 StreamsComeByLinks =
-    (network : SketchDomain) (found : List NetworkFlowText) (edge : EdgeFlowsText) (stream : ℕ) (one : NetworkFlowText) (handed : Handed) →
+    (network : NetworkDomain) (found : List NetworkFlowText) (edge : EdgeFlowsText) (stream : ℕ) (one : NetworkFlowText) (handed : Handed) →
     edge_flows network found ≡ Ok edge → slice_get found stream ≡ Some one →
     slice_get edge.handed stream ≡ Some (Some handed) → ComesByLink network edge stream one handed
 
@@ -58,7 +58,7 @@ pub record BeginsAtEdge (edge : EdgeFlowsText) (stream : ℕ) (one : NetworkFlow
 
 abbrev pub OthersBeginAtEdges : Type 0
 OthersBeginAtEdges =
-    (network : SketchDomain) (found : List NetworkFlowText) (edge : EdgeFlowsText) (stream : ℕ) (one : NetworkFlowText) →
+    (network : NetworkDomain) (found : List NetworkFlowText) (edge : EdgeFlowsText) (stream : ℕ) (one : NetworkFlowText) →
     edge_flows network found ≡ Ok edge → slice_get found stream ≡ Some one → slice_get edge.handed stream ≡ Some None → BeginsAtEdge edge stream one
 
 -- each stream has its flow, its deadline, its times, and what it hands over, by the same places; the deadlines are those in the text
@@ -69,4 +69,4 @@ pub record AreByPlaces (found : List NetworkFlowText) (edge : EdgeFlowsText) : T
   pub handed : length edge.handed ≡ length found
 
 abbrev pub EdgesAreByPlaces : Type 0
-EdgesAreByPlaces = (network : SketchDomain) (found : List NetworkFlowText) (edge : EdgeFlowsText) → edge_flows network found ≡ Ok edge → AreByPlaces found edge
+EdgesAreByPlaces = (network : NetworkDomain) (found : List NetworkFlowText) (edge : EdgeFlowsText) → edge_flows network found ≡ Ok edge → AreByPlaces found edge

@@ -4,9 +4,9 @@ use Rattle.std.specs.Option.{ForSome, option_map_or}
 use Rattle.cqf_lists.specs.Results.{and_then}
 use Rattle.cqf_topology.specs.Fields.{and_first}
 use Rattle.cqf_units.specs.Name.{is_name}
-use Rattle.cqf_sketch.specs.declared.talkers.Talker.{Talker}
-use Rattle.cqf_sketch.specs.StreamsText.{StreamText, WantedText, Along, Between}
-use Rattle.cqf_sketch.specs.SketchDomain.{SketchDomain}
+use Rattle.cqf_network.specs.declared.talkers.Talker.{Talker}
+use Rattle.cqf_network.specs.StreamsText.{StreamText, WantedText, Along, Between}
+use Rattle.cqf_network.specs.NetworkDomain.{NetworkDomain}
 use Rattle.cqf_edge.specs.declared.edge.AccessTimes.{AccessTimes}
 use Rattle.cqf_edge.specs.declared.edge.Passage.{Passage}
 use Rattle.cqf_edge.specs.declared.uses.AccessBound.{AccessBound}
@@ -17,20 +17,20 @@ use Rattle.cqf_edge.specs.declared.faults.TalkerFault.{TalkerFault}
 use Rattle.cqf_edge.specs.declared.faults.TalkerFault.TheVariants.{NoTalker, TwoAccessLinks, OtherEdge, OtherListeners}
 use Rattle.cqf_edge.specs.declared.uses.Handed.{Handed}
 use Rattle.cqf_traffic.specs.TrafficText.{TrafficText}
-use Rattle.cqf_sketch.specs.declared.pacing.Pacing.{Pacing}
-use Rattle.cqf_sketch.specs.declared.pacing.Pacing.TheVariants.{Given, InStep}
+use Rattle.cqf_network.specs.declared.pacing.Pacing.{Pacing}
+use Rattle.cqf_network.specs.declared.pacing.Pacing.TheVariants.{Given, InStep}
 use Rattle.cqf_edge.specs.Edge.{IsWritten, left_behind, steps_on, times_on, word_on}
 use Rattle.cqf_edge.specs.EdgeFlows.{handed_by, passage_of}
 use Rattle.cqf_edge.specs.Entrances.{IsEntrance, agrees_with, edge_name, entrance_of, listeners_agree}
 use Rattle.cqf_edge.specs.Uses.{bounds_of, full_station}
 
 -- where a stream of a talker enters. Its branches, if they are given, have to agree with the talker and with the listeners
-abbrev pub entrance_by : SketchDomain → StreamText → Entrance → WantedText → Result Entrance TalkerFault
+abbrev pub entrance_by : NetworkDomain → StreamText → Entrance → WantedText → Result Entrance TalkerFault
 entrance_by network stream entrance (Between from to) = Ok entrance
 entrance_by network stream entrance (Along paths) =
     and_then (agrees_with network paths entrance) (λ _. and_then (listeners_agree paths stream.listeners) (λ _. Ok entrance))
 
-abbrev pub entrance_with : SketchDomain → StreamText → Talker → Result Entrance TalkerFault
+abbrev pub entrance_with : NetworkDomain → StreamText → Talker → Result Entrance TalkerFault
 entrance_with network stream talker = and_then (entrance_of network talker) (λ entrance. entrance_by network stream entrance stream.way)
 
 -- whether a stream's way is open; and a stream's fault. `NoTalker` isn't one here if the stream's way is open and its text names no bridge with
@@ -50,11 +50,11 @@ told_now stream talker (Ok entrance) = Ok (Some entrance)
 told_now stream talker (Err why) = or_later stream talker why
 
 -- where a stream enters, if its text has a talker. A stream whose name isn't well-formed is never settled, so it enters nowhere
-abbrev pub entrance_of_stream : SketchDomain → StreamText → Result (Option Entrance) EdgeFault
+abbrev pub entrance_of_stream : NetworkDomain → StreamText → Result (Option Entrance) EdgeFault
 entrance_of_stream network stream =
     option_map_or (λ talker. if is_name stream.name then told_now stream talker (entrance_with network stream talker) else Ok None) stream.talker (Ok None)
 
-abbrev pub entrances_of : SketchDomain → List StreamText → Result (List (Option Entrance)) EdgeFault
+abbrev pub entrances_of : NetworkDomain → List StreamText → Result (List (Option Entrance)) EdgeFault
 entrances_of network [] = Ok []
 entrances_of network (stream ∷ streams) = and_first (entrance_of_stream network stream) (entrances_of network streams)
 
@@ -69,7 +69,7 @@ handed_at_each (stream ∷ streams) [] = []
 handed_at_each (stream ∷ streams) (entrance ∷ entrances) = handed_at stream entrance ∷ handed_at_each streams entrances
 
 -- the way of a stream from its edge bridge on: an open way begins at the bridge where the stream enters
-abbrev pub way_behind : SketchDomain → Entrance → WantedText → WantedText
+abbrev pub way_behind : NetworkDomain → Entrance → WantedText → WantedText
 way_behind network entrance (Along paths) = Along paths
 way_behind network entrance (Between from to) = Between (edge_name network entrance) to
 
@@ -87,7 +87,7 @@ abbrev pub traffic_behind : Option Passage → Pacing → Option TrafficText →
 traffic_behind None pacing traffic = traffic
 traffic_behind (Some p) pacing traffic = word_at pacing p
 
-abbrev pub stream_at : SketchDomain → Entrance → Option Passage → StreamText → StreamText
+abbrev pub stream_at : NetworkDomain → Entrance → Option Passage → StreamText → StreamText
 stream_at network entrance passage stream = record {
   name = stream.name;
   octets = stream.octets;
@@ -100,11 +100,11 @@ stream_at network entrance passage stream = record {
   shortest = stream.shortest;
 }
 
-abbrev pub stream_behind : SketchDomain → Option Entrance → Option Passage → StreamText → StreamText
+abbrev pub stream_behind : NetworkDomain → Option Entrance → Option Passage → StreamText → StreamText
 stream_behind network None passage stream = stream
 stream_behind network (Some entrance) passage stream = stream_at network entrance passage stream
 
-abbrev pub streams_behind : SketchDomain → List (Option Entrance) → List (Option Passage) → List StreamText → List StreamText
+abbrev pub streams_behind : NetworkDomain → List (Option Entrance) → List (Option Passage) → List StreamText → List StreamText
 streams_behind network entrances ps [] = []
 streams_behind network [] ps (stream ∷ streams) = []
 streams_behind network (entrance ∷ entrances) [] (stream ∷ streams) = []
@@ -117,17 +117,17 @@ pub record EdgeStreamsText : Type 0 where
   pub times : List (Option AccessTimes)
   pub full : Option (List ℕ)
 
-abbrev pub streams_by : SketchDomain → List StreamText → List (Option Entrance) → List (Option Handed) → List AccessBound → EdgeStreamsText
+abbrev pub streams_by : NetworkDomain → List StreamText → List (Option Entrance) → List (Option Handed) → List AccessBound → EdgeStreamsText
 streams_by network all entrances handed bounds = record {
   streams = streams_behind network entrances (map (passage_of network bounds) handed) all;
   times = map (option_map times_on) (map (passage_of network bounds) handed);
   full = full_station network bounds;
 }
 
-abbrev pub streams_from : SketchDomain → List StreamText → List (Option Entrance) → List (Option Handed) → EdgeStreamsText
+abbrev pub streams_from : NetworkDomain → List StreamText → List (Option Entrance) → List (Option Handed) → EdgeStreamsText
 streams_from network all entrances handed = streams_by network all entrances handed (bounds_of network handed)
 
-abbrev pub edge_streams : SketchDomain → List StreamText → Result EdgeStreamsText EdgeFault
+abbrev pub edge_streams : NetworkDomain → List StreamText → Result EdgeStreamsText EdgeFault
 edge_streams network all =
     and_then (entrances_of network all) (λ entrances. Ok (streams_from network all entrances (handed_at_each all entrances)))
 
@@ -136,5 +136,5 @@ abbrev pub IsWrittenStream : StreamText → Type 0
 IsWrittenStream stream = ForSome stream.traffic IsWritten
 
 -- a stream enters at a bridge or by an access link of the network, or nowhere
-abbrev pub IsEntranceOne : SketchDomain → Option Entrance → Type 0
+abbrev pub IsEntranceOne : NetworkDomain → Option Entrance → Type 0
 IsEntranceOne network one = ForSome one (IsEntrance network)

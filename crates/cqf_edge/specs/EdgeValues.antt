@@ -1,7 +1,7 @@
 -- What the values of streams at their edge bridges mean.
 use Rattle.std.specs.Prelude.{map}
 use Rattle.cqf_traffic.specs.FlowsText.{flow_text}
-use Rattle.cqf_sketch.specs.StreamsText.{stream_text}
+use Rattle.cqf_network.specs.StreamsText.{stream_text}
 use Rattle.cqf_edge.specs.declared.flows.EdgeFlows.{EdgeFlows}
 use Rattle.cqf_edge.specs.declared.streams.EdgeStreams.{EdgeStreams}
 use Rattle.cqf_edge.specs.EdgeFlows.{EdgeFlowsText}

@@ -6,9 +6,9 @@ use Rattle.std.specs.Option.{option_map_or}
 use Rattle.cqf_lists.specs.Results.{and_then, refuse}
 use Rattle.cqf_model.specs.Domain.{is_text}
 use Rattle.cqf_topology.specs.DomainText.{if_so, place_of}
-use Rattle.cqf_sketch.specs.declared.domain.TalkerLink.{TalkerLink}
-use Rattle.cqf_sketch.specs.declared.talkers.Talker.{Talker}
-use Rattle.cqf_sketch.specs.SketchDomain.{SketchDomain}
+use Rattle.cqf_network.specs.declared.domain.TalkerLink.{TalkerLink}
+use Rattle.cqf_network.specs.declared.talkers.Talker.{Talker}
+use Rattle.cqf_network.specs.NetworkDomain.{NetworkDomain}
 use Rattle.cqf_edge.specs.declared.entrances.Entrance.{Entrance}
 use Rattle.cqf_edge.specs.declared.entrances.Entrance.TheVariants.{AtBridge, ByAccess}
 use Rattle.cqf_edge.specs.declared.faults.TalkerFault.{TalkerFault}
@@ -22,16 +22,16 @@ abbrev pub joins : ℕ → ℕ → TalkerLink → Bool
 joins station bridge link = (link.station == station) && (link.bridge == bridge)
 
 -- by a station's access link: the one to a bridge, or the only one if the text names no bridge
-abbrev pub by_the_only : SketchDomain → ℕ → Result Entrance TalkerFault
+abbrev pub by_the_only : NetworkDomain → ℕ → Result Entrance TalkerFault
 by_the_only network station =
     refuse (if_so (nat_lt 1 (count_by (leaves_station station) network.talkers))) (λ _. TwoAccessLinks) (
     and_then (ok_or (position (leaves_station station) network.talkers) NoTalker) (λ place. Ok (ByAccess place)))
 
-abbrev pub by_that_to : SketchDomain → ℕ → Option ℕ → Result Entrance TalkerFault
+abbrev pub by_that_to : NetworkDomain → ℕ → Option ℕ → Result Entrance TalkerFault
 by_that_to network station None = Err NoTalker
 by_that_to network station (Some bridge) = and_then (ok_or (position (joins station bridge) network.talkers) NoTalker) (λ place. Ok (ByAccess place))
 
-abbrev pub by_station : SketchDomain → ℕ → Option (List ℕ) → Result Entrance TalkerFault
+abbrev pub by_station : NetworkDomain → ℕ → Option (List ℕ) → Result Entrance TalkerFault
 by_station network station None = by_the_only network station
 by_station network station (Some bridge) = by_that_to network station (place_of bridge network.bridges)
 
@@ -40,29 +40,29 @@ abbrev pub at_bridge : ℕ → Option (List ℕ) → Result Entrance TalkerFault
 at_bridge bridge None = Ok (AtBridge bridge)
 at_bridge bridge (Some other) = Err NoTalker
 
-abbrev pub at_node : SketchDomain → Option ℕ → Option ℕ → Option (List ℕ) → Result Entrance TalkerFault
+abbrev pub at_node : NetworkDomain → Option ℕ → Option ℕ → Option (List ℕ) → Result Entrance TalkerFault
 at_node network (Some bridge) station other = at_bridge bridge other
 at_node network None (Some station) other = by_station network station other
 at_node network None None other = Err NoTalker
 
 -- where a talker's streams enter
-abbrev pub entrance_of : SketchDomain → Talker → Result Entrance TalkerFault
+abbrev pub entrance_of : NetworkDomain → Talker → Result Entrance TalkerFault
 entrance_of network talker = at_node network (place_of talker.node network.bridges) (place_of talker.node network.stations) talker.bridge
 
 -- the access link at a place, and the name of the bridge at which streams enter
-abbrev pub link_at : SketchDomain → ℕ → Option TalkerLink
+abbrev pub link_at : NetworkDomain → ℕ → Option TalkerLink
 link_at network place = slice_get network.talkers place
 
-abbrev pub edge_bridge : SketchDomain → Entrance → ℕ
+abbrev pub edge_bridge : NetworkDomain → Entrance → ℕ
 edge_bridge network (AtBridge bridge) = bridge
 edge_bridge network (ByAccess place) = option_map_or (λ (link : TalkerLink). link.bridge) (link_at network place) 0
 
 -- streams enter at a bridge of the network, or by one of its access links
-abbrev pub IsEntrance : SketchDomain → Entrance → Type 0
+abbrev pub IsEntrance : NetworkDomain → Entrance → Type 0
 IsEntrance network (AtBridge bridge) = bridge < length network.bridges
 IsEntrance network (ByAccess place) = place < length network.talkers
 
-abbrev pub edge_name : SketchDomain → Entrance → List ℕ
+abbrev pub edge_name : NetworkDomain → Entrance → List ℕ
 edge_name network entrance = slice_index_or network.bridges (edge_bridge network entrance) []
 
 -- given branches begin there, and end at the listeners, in the same order
@@ -81,7 +81,7 @@ end_at [] (path ∷ paths) = false
 end_at (name ∷ names) [] = false
 end_at (name ∷ names) (path ∷ paths) = ends_with name path && end_at names paths
 
-abbrev pub agrees_with : SketchDomain → List (List (List ℕ)) → Entrance → Result (Unit {0}) TalkerFault
+abbrev pub agrees_with : NetworkDomain → List (List (List ℕ)) → Entrance → Result (Unit {0}) TalkerFault
 agrees_with network paths entrance =
     refuse (if_so (not (list_all (begins_with (edge_name network entrance)) paths))) (λ _. OtherEdge) (Ok tt)
 

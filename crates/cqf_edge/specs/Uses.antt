@@ -6,8 +6,8 @@ use Rattle.cqf_lists.specs.Lists.{least}
 use Rattle.cqf_units.specs.Timing.{ticks_of_octet}
 use Rattle.cqf_laws_timing.specs.Traffic.{Traffic}
 use Rattle.cqf_traffic.specs.TrafficText.{TrafficText, promise_of}
-use Rattle.cqf_sketch.specs.declared.domain.TalkerLink.{TalkerLink}
-use Rattle.cqf_sketch.specs.SketchDomain.{SketchDomain}
+use Rattle.cqf_network.specs.declared.domain.TalkerLink.{TalkerLink}
+use Rattle.cqf_network.specs.NetworkDomain.{NetworkDomain}
 use Rattle.cqf_access.specs.Access.{AccessLink, demand}
 use Rattle.cqf_edge.specs.declared.uses.Handed.{Handed}
 use Rattle.cqf_edge.specs.declared.uses.AccessUse.{AccessUse}
@@ -105,7 +105,7 @@ abbrev pub bounds_from : List (Option Handed) → ℕ → List TalkerLink → Li
 bounds_from all place [] = []
 bounds_from all place (link ∷ links) = bound_for all place link ∷ bounds_from all (place + 1) links
 
-abbrev pub bounds_of : SketchDomain → List (Option Handed) → List AccessBound
+abbrev pub bounds_of : NetworkDomain → List (Option Handed) → List AccessBound
 bounds_of network all = bounds_from all 0 network.talkers
 
 -- the time of a bound. If no wait is known, it is taken as 0
@@ -123,8 +123,8 @@ is_full bound.Idle = false
 is_full (bound.Within time) = false
 is_full bound.Full = true
 
-abbrev pub station_at : SketchDomain → ℕ → List ℕ
+abbrev pub station_at : NetworkDomain → ℕ → List ℕ
 station_at network place = slice_index_or network.stations (option_map_or (λ (link : TalkerLink). link.station) (slice_get network.talkers place) 0) []
 
-abbrev pub full_station : SketchDomain → List AccessBound → Option (List ℕ)
+abbrev pub full_station : NetworkDomain → List AccessBound → Option (List ℕ)
 full_station network bounds = option_map (station_at network) (position is_full bounds)

@@ -1,7 +1,7 @@
 -- Streams of a text have a jitter and an offset that may be written, as their way to their edge bridges requires.
 use Rattle.std.specs.Prelude.{ℕ, ◌≡◌, All, List, Ok}
-use Rattle.cqf_sketch.specs.NetworkFlows.{NetworkFlowText, network_flows_of_text}
-use Rattle.cqf_sketch.specs.StreamsText.{StreamText, sketch_streams_of_text}
+use Rattle.cqf_network.specs.NetworkFlows.{NetworkFlowText, network_flows_of_text}
+use Rattle.cqf_network.specs.StreamsText.{StreamText, network_streams_of_text}
 use Rattle.cqf_edge.specs.EdgeFlows.{IsWrittenFlow}
 use Rattle.cqf_edge.specs.EdgeStreams.{IsWrittenStream}
 
@@ -11,4 +11,4 @@ ReadFlowsAreWritten = (text : List ℕ) (found : List NetworkFlowText) → netwo
 
 -- streams of a network that is to be planned
 abbrev pub ReadStreamsAreWritten : Type 0
-ReadStreamsAreWritten = (text : List ℕ) (streams : List StreamText) → sketch_streams_of_text text ≡ Ok streams → All IsWrittenStream streams
+ReadStreamsAreWritten = (text : List ℕ) (streams : List StreamText) → network_streams_of_text text ≡ Ok streams → All IsWrittenStream streams

@@ -9,7 +9,7 @@ ghost use Rattle.cqf_edge.specs.Uses.{time_in};
 
 use crate::uses::{AccessBound, Handed};
 use cqf_access::{Delays, edge_jitter, edge_offset, grid_jitter};
-use cqf_sketch::TalkerLink;
+use cqf_network::TalkerLink;
 use cqf_traffic::{Traffic, TrafficKey};
 use cqf_units::{Nanos, Octets, Rate, slot, time_of};
 

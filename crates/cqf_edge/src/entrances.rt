@@ -6,7 +6,7 @@ ghost use Rattle.cqf_edge.specs.Entrances.{IsEntrance, agrees_with, at_bridge, b
 ghost use Rattle.cqf_edge.specs.Entrances.{end_at, ends_with, entrance_of, joins, leaves_station, listeners_agree};
 
 use crate::faults::TalkerFault;
-use cqf_sketch::{SketchDomain, Talker, TalkerLink};
+use cqf_network::{NetworkDomain, Talker, TalkerLink};
 use cqf_units::Name;
 
 /// Where a stream enters: at the bridge of a number, or by the access link at a place among the network's.
@@ -57,7 +57,7 @@ fn first_joining(links: &[TalkerLink], station: usize, bridge: usize) -> Option<
 }
 
 /// Returns the entrance by the only access link of a station.
-fn by_the_only(network: &SketchDomain, station: usize) -> Result<Entrance, TalkerFault>
+fn by_the_only(network: &NetworkDomain, station: usize) -> Result<Entrance, TalkerFault>
     ensures value { result ≡ by_the_only network.now station }
     ensures inside { IfOk result (IsEntrance network.now) }
 {
@@ -72,7 +72,7 @@ fn by_the_only(network: &SketchDomain, station: usize) -> Result<Entrance, Talke
 
 /// Returns the entrance by a station's access link to the bridge with this number.
 fn by_that_to(
-    network: &SketchDomain,
+    network: &NetworkDomain,
     station: usize,
     bridge: usize,
 ) -> Result<Entrance, TalkerFault>
@@ -87,7 +87,7 @@ fn by_that_to(
 
 /// Returns the entrance by an access link of a station: the one to the named bridge, or the only one if no bridge is named.
 fn by_station(
-    network: &SketchDomain,
+    network: &NetworkDomain,
     station: usize,
     bridge: &Option<Name>,
 ) -> Result<Entrance, TalkerFault>
@@ -118,7 +118,7 @@ fn at_bridge(bridge: usize, other: &Option<Name>) -> Result<Entrance, TalkerFaul
 /// # Errors
 /// `NoTalker` if it is no bridge and no station with such an access link; `TwoAccessLinks` if it is a station with several and the text names
 /// none of them.
-pub(crate) fn entrance_of(network: &SketchDomain, talker: &Talker) -> Result<Entrance, TalkerFault>
+pub(crate) fn entrance_of(network: &NetworkDomain, talker: &Talker) -> Result<Entrance, TalkerFault>
     ensures value { result ≡ entrance_of network.now talker.now }
     ensures inside { IfOk result (IsEntrance network.now) }
 {
@@ -132,7 +132,7 @@ pub(crate) fn entrance_of(network: &SketchDomain, talker: &Talker) -> Result<Ent
 }
 
 /// Returns the number of the bridge where streams enter.
-fn edge_bridge(network: &SketchDomain, entrance: Entrance) -> usize
+fn edge_bridge(network: &NetworkDomain, entrance: Entrance) -> usize
     requires { IsEntrance network.now entrance }
     ensures value { result ≡ edge_bridge network.now entrance }
     ensures inside { result < length network.now.bridges }
@@ -144,7 +144,7 @@ fn edge_bridge(network: &SketchDomain, entrance: Entrance) -> usize
 }
 
 /// Returns the name of the bridge where streams enter.
-pub(crate) fn edge_name(network: &SketchDomain, entrance: Entrance) -> &Name
+pub(crate) fn edge_name(network: &NetworkDomain, entrance: Entrance) -> &Name
     requires { IsEntrance network.now entrance }
     ensures { result.now ≡ edge_name network.now entrance }
 {
@@ -188,7 +188,7 @@ fn all_begin_with(paths: &[Vec<String>], name: &Name) -> bool
 
 /// Checks that branches begin where a stream enters.
 pub(crate) fn agrees_with(
-    network: &SketchDomain,
+    network: &NetworkDomain,
     paths: &[Vec<String>],
     entrance: Entrance,
 ) -> Result<(), TalkerFault>

@@ -3,7 +3,7 @@ ghost use Rattle.std.specs.Prelude.{◌≡◌, All, IfOk, length, map, option_ma
 ghost use Rattle.std.specs.Option.{ForSome};
 ghost use Rattle.cqf_topology.specs.Fields.{Gives};
 ghost use Rattle.cqf_traffic.specs.FlowsText.{flow_text};
-ghost use Rattle.cqf_sketch.specs.NetworkFlows.{NetworkFlowText, network_flow_text};
+ghost use Rattle.cqf_network.specs.NetworkFlows.{NetworkFlowText, network_flow_text};
 ghost use Rattle.cqf_edge.specs.Edge.{IsPassage, times_on};
 ghost use Rattle.cqf_edge.specs.EdgeFlows.{IsHandedOne, IsPassageOne, IsWrittenFlow, at_edges, edge_flows, edges_with, flow_behind, flows_behind};
 ghost use Rattle.cqf_edge.specs.EdgeFlows.{handed_of, handed_of_all, handed_with, passage_of};
@@ -14,7 +14,7 @@ use crate::edge::{AccessTimes, Passage};
 use crate::entrances::{Entrance, agrees_with, entrance_of, listeners_agree};
 use crate::faults::{EdgeFault, TalkerFault};
 use crate::uses::{AccessBound, Handed, bounds_of, full_station};
-use cqf_sketch::{NetworkFlow, SketchDomain, Talker};
+use cqf_network::{NetworkDomain, NetworkFlow, Talker};
 use cqf_topology::Planned;
 use cqf_traffic::Flow;
 use cqf_units::{Memory, Name};
@@ -37,7 +37,7 @@ pub struct EdgeFlows {
 
 /// Returns what a stream of a talker hands to an access link, or why it doesn't enter as its text says.
 fn handed_with(
-    network: &SketchDomain,
+    network: &NetworkDomain,
     found: &NetworkFlow,
     talker: &Talker,
 ) -> Result<Option<Handed>, TalkerFault>
@@ -61,7 +61,7 @@ fn handed_with(
 }
 
 /// Returns what a stream hands to an access link. A stream whose name isn't well-formed is never admitted, so it hands nothing over.
-fn handed_of(network: &SketchDomain, found: &NetworkFlow) -> Result<Option<Handed>, EdgeFault>
+fn handed_of(network: &NetworkDomain, found: &NetworkFlow) -> Result<Option<Handed>, EdgeFault>
     requires { IsWrittenFlow (network_flow_text found.now) }
     ensures value { result ≡ handed_of network.now (network_flow_text found.now) }
     ensures inside { IfOk result (IsHandedOne network.now) }
@@ -81,7 +81,7 @@ fn handed_of(network: &SketchDomain, found: &NetworkFlow) -> Result<Option<Hande
 /// Returns what streams hand to access links.
 fn handed_of_all(
     alloc: Global,
-    network: &SketchDomain,
+    network: &NetworkDomain,
     all: &[NetworkFlow],
 ) -> Result<Vec<Option<Handed>>, EdgeFault>
     requires { All IsWrittenFlow (map network_flow_text all.now) }
@@ -99,7 +99,7 @@ fn handed_of_all(
 
 /// Returns a stream's passage by the access link that it is handed to.
 fn passage_of(
-    network: &SketchDomain,
+    network: &NetworkDomain,
     bounds: &[AccessBound],
     handed: &Option<Handed>,
 ) -> Option<Passage>
@@ -122,7 +122,7 @@ fn passage_of(
 /// Returns the passages of streams by the access links that they are handed to.
 pub(crate) fn passages_of(
     alloc: Global,
-    network: &SketchDomain,
+    network: &NetworkDomain,
     bounds: &[AccessBound],
     handed: &[Option<Handed>],
 ) -> Result<Vec<Option<Passage>>, Memory>
@@ -209,7 +209,7 @@ fn deadlines_of(alloc: Global, all: &[NetworkFlow]) -> Result<Vec<Option<u32>>, 
 /// Returns the streams of a network at their edge bridges, given what they hand to access links.
 fn edges_with(
     alloc: Global,
-    network: &SketchDomain,
+    network: &NetworkDomain,
     all: Vec<NetworkFlow>,
     handed: Vec<Option<Handed>>,
 ) -> Result<EdgeFlows, Memory>
@@ -242,7 +242,7 @@ fn edges_with(
 /// `Talker` of the first stream that doesn't enter as its text says; `Memory` if memory for the result is refused.
 pub fn edge_flows(
     alloc: Global,
-    network: &SketchDomain,
+    network: &NetworkDomain,
     all: Vec<NetworkFlow>,
 ) -> Result<EdgeFlows, EdgeFault>
     requires { All IsWrittenFlow (map network_flow_text all.items) }

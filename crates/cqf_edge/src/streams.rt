@@ -1,7 +1,7 @@
 //! Streams that are to be planned, at their edge bridges.
 ghost use Rattle.std.specs.Prelude.{◌≡◌, ◌&&◌, All, IfOk, IfSome, is_none, length, map};
 ghost use Rattle.cqf_topology.specs.Fields.{Gives};
-ghost use Rattle.cqf_sketch.specs.StreamsText.{stream_text, wanted_text};
+ghost use Rattle.cqf_network.specs.StreamsText.{stream_text, wanted_text};
 ghost use Rattle.cqf_edge.specs.EdgeFlows.{IsHandedOne, IsPassageOne};
 ghost use Rattle.cqf_edge.specs.EdgeStreams.{IsEntranceOne, IsWrittenStream, edge_streams, entrance_of_stream, entrance_with, entrances_of, handed_at};
 ghost use Rattle.cqf_edge.specs.EdgeStreams.{handed_at_each, is_between, stream_behind, streams_behind, streams_from, told_now, way_behind, word_at};
@@ -14,7 +14,7 @@ use crate::entrances::{Entrance, agrees_with, edge_name, entrance_of, listeners_
 use crate::faults::{EdgeFault, TalkerFault};
 use crate::flows::{passages_of, times_of};
 use crate::uses::{Handed, bounds_of, full_station};
-use cqf_sketch::{Pacing, SketchDomain, Stream, Talker, WantedWay};
+use cqf_network::{NetworkDomain, Pacing, Stream, Talker, WantedWay};
 use cqf_traffic::Traffic;
 use cqf_units::{Memory, Name};
 use std::alloc::Global;
@@ -31,7 +31,7 @@ pub struct EdgeStreams {
 
 /// Returns where a stream of a talker enters. Its branches, if they are given, have to agree with the talker and with the listeners.
 fn entrance_with(
-    network: &SketchDomain,
+    network: &NetworkDomain,
     stream: &Stream,
     talker: &Talker,
 ) -> Result<Entrance, TalkerFault>
@@ -82,7 +82,7 @@ fn told_now(
 
 /// Returns where a stream enters if its text has a talker. A stream whose name isn't well-formed is never settled, so it enters nowhere.
 fn entrance_of_stream(
-    network: &SketchDomain,
+    network: &NetworkDomain,
     stream: &Stream,
 ) -> Result<Option<Entrance>, EdgeFault>
     ensures value { result ≡ entrance_of_stream network.now (stream_text stream.now) }
@@ -101,7 +101,7 @@ fn entrance_of_stream(
 /// Returns where streams enter.
 fn entrances_of(
     alloc: Global,
-    network: &SketchDomain,
+    network: &NetworkDomain,
     streams: &[Stream],
 ) -> Result<Vec<Option<Entrance>>, EdgeFault>
     ensures value { Gives EdgeFault.Memory (λ entrances. entrances.items) result (entrances_of network.now (map stream_text streams.now)) }
@@ -117,7 +117,7 @@ fn entrances_of(
 }
 
 /// Returns what a stream hands to an access link.
-fn handed_at(network: &SketchDomain, stream: &Stream, entrance: Option<Entrance>) -> Option<Handed>
+fn handed_at(network: &NetworkDomain, stream: &Stream, entrance: Option<Entrance>) -> Option<Handed>
     requires inside { IsEntranceOne network.now entrance }
     requires written { IsWrittenStream (stream_text stream.now) }
     ensures value { result ≡ handed_at (stream_text stream.now) entrance }
@@ -137,7 +137,7 @@ fn handed_at(network: &SketchDomain, stream: &Stream, entrance: Option<Entrance>
 /// Returns what streams hand to access links.
 fn handed_at_each(
     alloc: Global,
-    network: &SketchDomain,
+    network: &NetworkDomain,
     streams: &[Stream],
     entrances: &[Option<Entrance>],
 ) -> Result<Vec<Option<Handed>>, Memory>
@@ -156,7 +156,7 @@ fn handed_at_each(
 }
 
 /// Returns a stream's way from its edge bridge on.
-fn way_behind(network: &SketchDomain, entrance: Entrance, way: WantedWay) -> WantedWay
+fn way_behind(network: &NetworkDomain, entrance: Entrance, way: WantedWay) -> WantedWay
     requires { IsEntrance network.now entrance }
     ensures { wanted_text result ≡ way_behind network.now entrance (wanted_text way) }
 {
@@ -182,7 +182,7 @@ fn word_at(pacing: Pacing, passage: &Passage) -> Option<Traffic>
 
 /// Returns a stream at its edge bridge.
 fn stream_behind(
-    network: &SketchDomain,
+    network: &NetworkDomain,
     entrance: Option<Entrance>,
     passage: &Option<Passage>,
     stream: Stream,
@@ -209,7 +209,7 @@ fn stream_behind(
 /// Returns streams at their edge bridges.
 fn streams_behind(
     alloc: Global,
-    network: &SketchDomain,
+    network: &NetworkDomain,
     entrances: &[Option<Entrance>],
     passages: &[Option<Passage>],
     all: Vec<Stream>,
@@ -232,7 +232,7 @@ fn streams_behind(
 /// Returns the streams of a network at their edge bridges, given where they enter and what they hand to access links.
 fn streams_from(
     alloc: Global,
-    network: &SketchDomain,
+    network: &NetworkDomain,
     all: Vec<Stream>,
     entrances: &[Option<Entrance>],
     handed: &[Option<Handed>],
@@ -266,7 +266,7 @@ fn streams_from(
 /// talker; `Memory` if memory for the result is refused.
 pub fn edge_streams(
     alloc: Global,
-    network: &SketchDomain,
+    network: &NetworkDomain,
     all: Vec<Stream>,
 ) -> Result<EdgeStreams, EdgeFault>
     requires { All IsWrittenStream (map stream_text all.items) }

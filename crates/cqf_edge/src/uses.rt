@@ -6,7 +6,7 @@ ghost use Rattle.cqf_edge.specs.Uses.{AreUses, IsHandedTo, IsShort, bound_of, bo
 ghost use Rattle.cqf_edge.specs.Uses.{promise_in, shortest_frame, time_in, unpromised};
 
 use cqf_access::access_bound;
-use cqf_sketch::{SketchDomain, TalkerLink};
+use cqf_network::{NetworkDomain, TalkerLink};
 use cqf_traffic::Traffic;
 use cqf_units::{Memory, Name, Nanos, Octets};
 use std::alloc::Global;
@@ -207,7 +207,7 @@ fn uses_of(
 /// If memory for the result is refused.
 pub(crate) fn bounds_of(
     alloc: Global,
-    network: &SketchDomain,
+    network: &NetworkDomain,
     all: &[Option<Handed>],
 ) -> Result<Vec<AccessBound>, Memory>
     requires { All (IsHandedTo (length network.now.talkers)) all.now }
@@ -233,7 +233,7 @@ fn first_full(bounds: &[AccessBound]) -> Option<usize>
 }
 
 /// Returns the name of the station of the first access link that is full.
-pub(crate) fn full_station(network: &SketchDomain, bounds: &[AccessBound]) -> Option<Name>
+pub(crate) fn full_station(network: &NetworkDomain, bounds: &[AccessBound]) -> Option<Name>
     requires { length bounds.now ≡ length network.now.talkers }
     ensures { result ≡ full_station network.now bounds.now }
 {

@@ -30,7 +30,7 @@ use Rattle.cqf_program_runs.specs.Line.Output.{IsLineOutput, line_input}
 use Rattle.cqf_program_runs.specs.Deliveries.PlannedScenario.{planned_scenario}
 use Rattle.cqf_program_runs.specs.Report.Output.{IsReportOutput}
 use Rattle.cqf_program_runs.specs.Run.Output.{IsRunOutput}
-use Rattle.cqf_program_sketch.specs.PlanOutput.{IsPlanOf, IsPlanRefusal}
+use Rattle.cqf_program_planning.specs.PlanOutput.{IsPlanOf, IsPlanRefusal}
 use Rattle.cqf_program_summary.specs.Hops.Known.{wanted_scenario}
 use Rattle.cqf_program_summary.specs.Hops.Output.{IsHopsOutput}
 use Rattle.cqf_program_summary.specs.Hops.Legs.{Wanted}

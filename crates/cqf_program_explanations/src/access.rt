@@ -3,8 +3,8 @@
 use crate::given::CommandInput;
 use crate::network::{Network, WrittenLink};
 use crate::network_faults::{access_link_of, is_access};
-use crate::plant::{KeyOwner, WrittenItem};
-use crate::sketch::{has_traffic, longest_frame, time_on};
+use crate::planning::{has_traffic, longest_frame, time_on};
+use crate::written::{KeyOwner, WrittenItem};
 use std::alloc::AllocError;
 
 /// The octets of a frame's preamble, start delimiter and gap (IEEE 802.3).
@@ -91,7 +91,7 @@ fn handed_to(
     link: &WrittenLink<'_>,
 ) -> Result<(Vec<HandedOver>, u64), AllocError> {
     let (mut handed, mut other) = (Vec::new(given.alloc), link.item.number("other"));
-    for item in &given.plant.items(KeyOwner::Stream)? {
+    for item in &given.written.items(KeyOwner::Stream)? {
         if !is_access(network, link, item.text("from").unwrap_or("")) {
             continue;
         }

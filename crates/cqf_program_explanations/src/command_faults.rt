@@ -2,12 +2,12 @@
 
 use crate::given::CommandInput;
 use crate::places::Grouped;
-use crate::plant::KeyOwner;
 use crate::refusal::Refusal;
 use crate::script_faults::names_of;
 use crate::table_faults::count_of_offers;
 use crate::told::ToldLines;
 use crate::words::{question, shortened};
+use crate::written::KeyOwner;
 use std::alloc::{AllocError, Global};
 
 /// How many names a line has.
@@ -54,7 +54,7 @@ pub(crate) fn tell_unknown_bridge(
     name: &str,
 ) -> Result<(), AllocError> {
     let (alloc, network) = (given.alloc, given.network()?);
-    let Some(found) = given.plant.top("bridges") else {
+    let Some(found) = given.written.top("bridges") else {
         return Ok(());
     };
     let (place, shown) = (found.place, shortened(alloc, name)?);
@@ -81,7 +81,7 @@ fn tell_unknown_stream(
         let shown = shortened(alloc, name)?;
         format!(in alloc; "no stream {shown}")?
     };
-    let items = given.plant.items(KeyOwner::Stream)?;
+    let items = given.written.items(KeyOwner::Stream)?;
     match items.first() {
         Some(first) => {
             let place = first.place();

@@ -3,10 +3,10 @@
 use crate::given::CommandInput;
 use crate::network::{Network, WrittenLink};
 use crate::places::{Grouped, Place};
-use crate::plant::{FoundKey, KeyOwner, WrittenItem};
-use crate::sketch::{candidates_of, is_duplex, is_of_plant, talker_of};
+use crate::planning::{candidates_of, is_duplex, is_of_domain, talker_of};
 use crate::told::ToldLines;
 use crate::words::shortened;
+use crate::written::{FoundKey, KeyOwner, WrittenItem};
 use cqf_model::{LARGE, Limits};
 use std::alloc::{AllocError, Global};
 use std::collections::BTreeMap;
@@ -51,8 +51,8 @@ pub(crate) fn tell_name_taken(
     told: &mut ToldLines,
 ) -> Result<(), AllocError> {
     let (bridges, stations) = (
-        given.plant.names("bridges")?,
-        given.plant.names("stations")?,
+        given.written.names("bridges")?,
+        given.written.names("stations")?,
     );
     let mut firsts = BTreeMap::new(given.alloc);
     tell_taken(given, told, &mut firsts, "bridges", bridges.as_slice())?;
@@ -259,7 +259,7 @@ fn greatest_cycle(given: &CommandInput<'_>) -> Result<u64, AllocError> {
 
 /// Returns whether delays and gaps are checked for a link: an access link isn't one of the domain's.
 fn is_checked(network: &Network<'_>, link: &WrittenLink<'_>) -> bool {
-    is_of_plant(network, link)
+    is_of_domain(network, link)
 }
 
 /// Reports a guard band that isn't shorter than a cycle time.
@@ -268,9 +268,9 @@ pub(crate) fn tell_guard_at(
     told: &mut ToldLines,
     cycle: u64,
 ) -> Result<(), AllocError> {
-    if let Some(found) = given.plant.top("guard") {
+    if let Some(found) = given.written.top("guard") {
         let (place, cycle) = (found.place, Grouped(cycle));
-        let guard = Grouped(given.plant.number("guard"));
+        let guard = Grouped(given.written.number("guard"));
         told.tell(format!(in given.alloc;
             "{place}: the guard band of {guard} ns isn't shorter than the cycle time, {cycle} ns"
         )?)?;
@@ -387,7 +387,7 @@ fn access_links_within(limits: Limits) -> u64 {
 }
 
 /// Returns how many links the domain of a network file has.
-fn count_of_plant(given: &CommandInput<'_>) -> Result<u64, AllocError> {
+fn count_of_domain(given: &CommandInput<'_>) -> Result<u64, AllocError> {
     let network = given.network()?;
     let mut count: u64 = 0;
     for link in &network.links {
@@ -401,9 +401,9 @@ fn count_of_plant(given: &CommandInput<'_>) -> Result<u64, AllocError> {
 /// Returns how many elements the arrays at a key of the top level have together.
 fn count_of(given: &CommandInput<'_>, key: &str) -> Result<u64, AllocError> {
     if key == "links" {
-        return count_of_plant(given);
+        return count_of_domain(given);
     }
-    let count = given.plant.names(key)?.len();
+    let count = given.written.names(key)?.len();
     Ok(count as u64)
 }
 
@@ -432,7 +432,7 @@ fn tell_many_access_links(
 ) -> Result<(), AllocError> {
     let count = count_of_access(&given.network()?);
     let most = access_links_within(given.limits);
-    match given.plant.top("links") {
+    match given.written.top("links") {
         Some(found) if count > most => {
             let (place, count, most) = (found.place, Grouped(count), Grouped(most));
             let larger = given.larger(access_links_within(LARGE))?;
@@ -452,7 +452,7 @@ pub(crate) fn tell_too_many(
     for key in &COUNTED {
         let (count, most) = (count_of(given, key)?, most_of(given.limits, key) as u64);
         if count > most {
-            if let Some(found) = given.plant.top(key) {
+            if let Some(found) = given.written.top(key) {
                 let (place, count, most) = (found.place, Grouped(count), Grouped(most));
                 let larger = given.larger(most_of(LARGE, key) as u64)?;
                 told.tell(format!(in given.alloc;

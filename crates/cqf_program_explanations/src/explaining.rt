@@ -8,11 +8,11 @@ use crate::domain_faults::{
     tell_delays, tell_gaps, tell_guard, tell_link_guards, tell_links_twice, tell_misplaced_others,
     tell_name_taken, tell_syncs, tell_too_many, tell_unknown_names,
 };
+use crate::file_faults::{tell_key_twice, tell_long_lines, tell_unknown_keys};
 use crate::given::{CommandInput, given_of};
 use crate::network_faults::tell_network;
 use crate::part_faults::tell_parts;
 use crate::plan_faults::{tell_below_traffic, tell_plan};
-use crate::plant_faults::{tell_key_twice, tell_long_lines, tell_unknown_keys};
 use crate::refusal::{Refusal, refusal_of};
 use crate::script_faults::{
     tell_bad_lines, tell_too_many_lines, tell_unknown_offer, tell_unknown_streams,
@@ -57,7 +57,7 @@ fn tell_text(
 }
 
 /// Reports why files aren't a plan.
-fn tell_plant(
+fn tell_file_fault(
     given: &CommandInput<'_>,
     told: &mut ToldLines,
     refusal: Refusal<'_>,
@@ -128,7 +128,7 @@ fn tell_refusal(
 ) -> Result<(), AllocError> {
     match refusal.part {
         "domain" | "streams" => tell_text(given, told, refusal),
-        "plant" => tell_plant(given, told, refusal),
+        "plant" => tell_file_fault(given, told, refusal),
         "plan" => tell_plan(given, told, refusal),
         "network" => tell_network(given, told, refusal),
         "script" => tell_script(given, told, refusal),

@@ -1,8 +1,8 @@
 //! Which values a plan may have at each key.
 
 use crate::lexer::before_comment;
-use crate::plant::{FoundKey, KeyOwner, number_of};
 use crate::words::{shortened, shown};
+use crate::written::{FoundKey, KeyOwner, number_of};
 use cqf_model::{Limits, PROFILE};
 use cqf_units::Name;
 use std::alloc::{AllocError, Global};

@@ -4,7 +4,7 @@ use crate::explaining::NamedFile;
 use crate::hints::larger_words;
 use crate::network::{Network, network_of, smallest_network};
 use crate::parts::{Input, input_of};
-use crate::plant::Plant;
+use crate::written::WrittenNetwork;
 use cqf_model::Limits;
 use std::alloc::{AllocError, Global};
 
@@ -21,7 +21,7 @@ pub(crate) struct CommandInput<'a> {
     pub limits: Limits,
     pub sources: &'a [NamedFile<'a>],
     pub input: Input<'a>,
-    pub plant: Plant<'a>,
+    pub written: WrittenNetwork<'a>,
 }
 
 /// Returns whether a fault is about texts that aren't parsed, since parsing them may take much.
@@ -40,10 +40,10 @@ pub(crate) fn given_of<'a>(
     fault: &str,
 ) -> Result<CommandInput<'a>, AllocError> {
     let input = input_of(alloc, command, sources)?;
-    let plant = if is_unread(fault) {
-        Plant::unread(alloc, input.plant.as_slice())?
+    let written = if is_unread(fault) {
+        WrittenNetwork::unread(alloc, input.written.as_slice())?
     } else {
-        Plant::read(alloc, input.plant.as_slice(), input.are_two)?
+        WrittenNetwork::read(alloc, input.written.as_slice(), input.are_two)?
     };
     Ok(CommandInput {
         alloc,
@@ -53,7 +53,7 @@ pub(crate) fn given_of<'a>(
         limits,
         sources,
         input,
-        plant,
+        written,
     })
 }
 
@@ -68,6 +68,6 @@ impl CommandInput<'_> {
         if self.command == "line" {
             return smallest_network(self.alloc, self.limits);
         }
-        network_of(self.alloc, &self.plant, self.limits)
+        network_of(self.alloc, &self.written, self.limits)
     }
 }

@@ -3,8 +3,8 @@
 use crate::given::CommandInput;
 use crate::parts::takes_domain;
 use crate::places::Grouped;
-use crate::plant::{KeyOwner, WrittenItem};
-use crate::sketch::is_planning;
+use crate::planning::is_planning;
+use crate::written::{KeyOwner, WrittenItem};
 use cqf_model::PROFILE;
 use std::alloc::AllocError;
 
@@ -18,10 +18,10 @@ pub(crate) fn larger_words(given: &CommandInput<'_>, most: u64) -> Result<String
 }
 
 /// Returns the names of the files from which the plan is read.
-fn plant_files(given: &CommandInput<'_>) -> Result<String, AllocError> {
+fn network_files(given: &CommandInput<'_>) -> Result<String, AllocError> {
     let mut names = String::new(given.alloc);
     let mut before = None;
-    for file in &given.plant.files {
+    for file in &given.written.files {
         if before != Some(file.part.file) {
             names.push(' ')?;
             names.push_str(file.part.file)?;
@@ -39,10 +39,10 @@ fn is_open_stream(item: &WrittenItem<'_>) -> bool {
 /// Returns whether the plan is a network file with open parts: it has several cycle times, or a stream is open.
 pub(crate) fn is_open(given: &CommandInput<'_>) -> Result<bool, AllocError> {
     let has_several = given
-        .plant
+        .written
         .top("cycle")
         .is_some_and(|found| found.value.is_array());
-    let streams = given.plant.items(KeyOwner::Stream)?;
+    let streams = given.written.items(KeyOwner::Stream)?;
     Ok(has_several || streams.iter().any(is_open_stream))
 }
 
@@ -51,7 +51,7 @@ pub(crate) fn plan_hint(given: &CommandInput<'_>) -> Result<String, AllocError> 
     if is_planning(given) {
         return Ok(String::new(given.alloc));
     }
-    let files = plant_files(given)?;
+    let files = network_files(given)?;
     let word = if given.limits == PROFILE {
         ""
     } else {

@@ -1,8 +1,8 @@
 //! The network of a plan: its nodes and links by name.
 
-use crate::plant::{FoundKey, KeyOwner, Plant, WrittenItem, number_of};
-use crate::sketch::is_duplex;
+use crate::planning::is_duplex;
 use crate::words::question;
+use crate::written::{FoundKey, KeyOwner, WrittenItem, WrittenNetwork, number_of};
 use cqf_model::Limits;
 use std::alloc::{AllocError, Global};
 use std::collections::BTreeMap;
@@ -97,20 +97,20 @@ fn link_of<'p>(item: &WrittenItem<'p>, guard: u64) -> WrittenLink<'p> {
 /// Returns the network that files have.
 pub(crate) fn network_of<'p>(
     alloc: Global,
-    plant: &'p Plant<'_>,
+    written: &'p WrittenNetwork<'_>,
     limits: Limits,
 ) -> Result<Network<'p>, AllocError> {
-    let (bridge_names, station_names) = (plant.names("bridges")?, plant.names("stations")?);
+    let (bridge_names, station_names) = (written.names("bridges")?, written.names("stations")?);
     let (mut bridges, mut nodes) = (Vec::new(alloc), Vec::new(alloc));
     put_texts(&mut bridges, bridge_names.as_slice())?;
     put_texts(&mut nodes, bridge_names.as_slice())?;
     put_texts(&mut nodes, station_names.as_slice())?;
-    let items = plant.items(KeyOwner::Link)?;
+    let items = written.items(KeyOwner::Link)?;
     let mut network = nodes_alone(alloc, bridges, nodes, limits)?;
-    network.cycle = plant.number("cycle");
-    let guard = plant.number("guard");
+    network.cycle = written.number("cycle");
+    let guard = written.number("guard");
     network.guard = guard;
-    network.sync = plant.number("sync");
+    network.sync = written.number("sync");
     for item in &items {
         network.put_link(alloc, link_of(item, guard))?;
     }

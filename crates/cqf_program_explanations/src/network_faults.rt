@@ -4,11 +4,11 @@ use crate::given::CommandInput;
 use crate::hints::plan_hint;
 use crate::network::{Network, WrittenLink};
 use crate::plan_faults::tell_no_talkers;
-use crate::plant::{KeyOwner, WrittenItem};
+use crate::planning::{has_traffic, is_in_step, nanos_question, talker_of};
 use crate::refusal::Refusal;
-use crate::sketch::{has_traffic, is_in_step, nanos_question, talker_of};
 use crate::told::ToldLines;
 use crate::words::shortened;
+use crate::written::{KeyOwner, WrittenItem};
 use std::alloc::{AllocError, Global};
 use toml::Value;
 
@@ -133,7 +133,7 @@ pub(crate) fn tell_entering(
     fault: &str,
 ) -> Result<(), AllocError> {
     let (alloc, network) = (given.alloc, given.network()?);
-    for item in &given.plant.items(KeyOwner::Stream)? {
+    for item in &given.written.items(KeyOwner::Stream)? {
         if item.text("name") != Some(stream) {
             continue;
         }
@@ -187,7 +187,7 @@ fn open_words(item: &WrittenItem<'_>) -> &'static str {
 /// Reports each stream that has an open part.
 fn tell_open(given: &CommandInput<'_>, told: &mut ToldLines) -> Result<(), AllocError> {
     let hint = plan_hint(given)?;
-    for item in &given.plant.items(KeyOwner::Stream)? {
+    for item in &given.written.items(KeyOwner::Stream)? {
         let words = open_words(item);
         if words.is_empty() || told.is_counted() {
             continue;
@@ -201,7 +201,7 @@ fn tell_open(given: &CommandInput<'_>, told: &mut ToldLines) -> Result<(), Alloc
 /// Reports a cycle time that is open.
 fn tell_open_cycle(given: &CommandInput<'_>, told: &mut ToldLines) -> Result<(), AllocError> {
     let hint = plan_hint(given)?;
-    let Some(found) = given.plant.top("cycle") else {
+    let Some(found) = given.written.top("cycle") else {
         return Ok(());
     };
     let place = found.place;
@@ -237,7 +237,7 @@ fn use_words(
     let alloc = given.alloc;
     let (mut all, mut count, mut words) = (0u64, 0u64, String::new(alloc));
     let mut question = String::new(alloc);
-    for item in &given.plant.items(KeyOwner::Stream)? {
+    for item in &given.written.items(KeyOwner::Stream)? {
         let talker = item.text("from").unwrap_or("");
         if talker.is_empty() || !is_access(network, link, talker) {
             continue;

@@ -7,12 +7,12 @@ use crate::given::{CommandInput, given_of};
 use crate::network::delays_of;
 use crate::parts::takes_domain;
 use crate::places::Grouped;
-use crate::plant::{FoundKey, KeyOwner, WrittenItem};
+use crate::planning::listeners_of;
 use crate::refusal::refusal_of;
-use crate::sketch::listeners_of;
 use crate::stream_faults::{WrittenStream, streams_of};
 use crate::told::ToldLines;
 use crate::words::shortened;
+use crate::written::{FoundKey, KeyOwner, WrittenItem};
 use cqf_model::Limits;
 use std::alloc::{AllocError, Global};
 use std::collections::BTreeSet;
@@ -69,7 +69,7 @@ fn note_nanos(
     nanos: NanosKey,
 ) -> Result<(), AllocError> {
     let (mut most, mut first): (u64, Option<WrittenItem<'_>>) = (0, None);
-    let items = given.plant.items(nanos.owner)?;
+    let items = given.written.items(nanos.owner)?;
     for item in &items {
         let value = greatest_at(item, nanos.key);
         if most == 0 && value > 0 {
@@ -119,7 +119,7 @@ fn note_bridges(given: &CommandInput<'_>, told: &mut ToldLines) -> Result<(), Al
         linked.insert(link.to)?;
     }
     let mut apart = Vec::new(given.alloc);
-    for found in &given.plant.names("bridges")? {
+    for found in &given.written.names("bridges")? {
         if !linked.contains(found.value.as_str().unwrap_or("")) {
             apart.push(*found)?;
         }

@@ -30,7 +30,7 @@ impl InputPart<'_> {
 /// The input that is made from the files: the plan's parts, and those after it.
 #[derive(Drop)]
 pub(crate) struct Input<'a> {
-    pub plant: Vec<InputPart<'a>>,
+    pub written: Vec<InputPart<'a>>,
     pub rest: Vec<InputPart<'a>>,
     /// Whether the plan's parts are the domain and its streams, and not files that are one plan.
     pub are_two: bool,
@@ -116,7 +116,7 @@ fn all_parts<'a>(
 }
 
 /// Returns how many of the parts are the plan: the files that are one plan, one file without a divider, or else the domain and its streams.
-fn plant_parts(
+fn network_parts(
     command: &str,
     joint: usize,
     sources: &[NamedFile<'_>],
@@ -147,15 +147,15 @@ pub(crate) fn input_of<'a>(
         0
     };
     let parts = all_parts(alloc, joint, sources)?;
-    let plants = plant_parts(command, joint, sources, parts.as_slice());
+    let plans = network_parts(command, joint, sources, parts.as_slice());
     let mut input = Input {
-        plant: Vec::new(alloc),
+        written: Vec::new(alloc),
         rest: Vec::new(alloc),
-        are_two: joint == 0 && plants == 2,
+        are_two: joint == 0 && plans == 2,
     };
     for (place, part) in parts.iter().enumerate() {
-        if place < plants {
-            input.plant.push(*part)?;
+        if place < plans {
+            input.written.push(*part)?;
         } else {
             input.rest.push(*part)?;
         }
@@ -165,8 +165,8 @@ pub(crate) fn input_of<'a>(
 
 impl Input<'_> {
     /// Returns whether a file after the plan is one of calls, if no line divides it: the plan is one file, or several that are one.
-    pub(crate) fn has_plant(&self) -> bool {
-        match *self.plant.as_slice() {
+    pub(crate) fn has_network(&self) -> bool {
+        match *self.written.as_slice() {
             [] => false,
             [only] => only.is_whole,
             [first, ..] => first.is_whole && is_toml(first.file),

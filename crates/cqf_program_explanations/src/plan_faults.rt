@@ -8,14 +8,14 @@ use crate::network_faults::{
     access_link_of, ends_of_talker, is_talker, links_words, tell_entering,
 };
 use crate::places::Grouped;
-use crate::plant::{KeyOwner, WrittenItem};
-use crate::refusal::Refusal;
-use crate::sketch::{
+use crate::planning::{
     candidates_of, is_in_step, listeners_of, longest_frame, nanos_question, time_on,
 };
+use crate::refusal::Refusal;
 use crate::stream_faults::{FormFault, form_fault_of, tell_form_faults};
 use crate::told::ToldLines;
 use crate::words::{question, shortened};
+use crate::written::{KeyOwner, WrittenItem};
 use cqf_model::LARGE;
 use std::alloc::{AllocError, Global};
 use std::collections::BTreeMap;
@@ -97,7 +97,7 @@ pub(crate) fn tell_no_talkers(
     told: &mut ToldLines,
 ) -> Result<(), AllocError> {
     let network = given.network()?;
-    for item in &given.plant.items(KeyOwner::Stream)? {
+    for item in &given.written.items(KeyOwner::Stream)? {
         let Some(talker) = item.text("from") else {
             continue;
         };
@@ -136,7 +136,7 @@ fn no_listener(alloc: Global, network: &Network<'_>, name: &str) -> Result<Strin
 /// Reports each listener that isn't a station.
 fn tell_no_listeners(given: &CommandInput<'_>, told: &mut ToldLines) -> Result<(), AllocError> {
     let network = given.network()?;
-    for item in &given.plant.items(KeyOwner::Stream)? {
+    for item in &given.written.items(KeyOwner::Stream)? {
         for name in &listeners_of(given.alloc, item)? {
             if network.is_node(name) && !network.is_bridge(name) || told.is_counted() {
                 continue;
@@ -152,7 +152,7 @@ fn tell_no_listeners(given: &CommandInput<'_>, told: &mut ToldLines) -> Result<(
 /// Reports each stream whose name an earlier one has.
 fn tell_names_twice(given: &CommandInput<'_>, told: &mut ToldLines) -> Result<(), AllocError> {
     let mut firsts: BTreeMap<&str, WrittenItem<'_>> = BTreeMap::new(given.alloc);
-    for item in &given.plant.items(KeyOwner::Stream)? {
+    for item in &given.written.items(KeyOwner::Stream)? {
         let name = item.text("name").unwrap_or("");
         if let Some(first) = firsts.get(name) {
             if told.is_counted() {
@@ -227,7 +227,7 @@ pub(crate) fn tell_below_traffic(
     let number = number_in(refusal.part.strip_prefix("stream "));
     let (octets, needed) = refusal.value.split_once(' ').unwrap_or(("", ""));
     let (octets, needed) = (number_in(Some(octets)), Grouped(number_in(Some(needed))));
-    for item in &given.plant.items(KeyOwner::Stream)? {
+    for item in &given.written.items(KeyOwner::Stream)? {
         if item.number.saturating_add(1) == number {
             let (place, label) = (item.place_of("octets"), item.counted(given.alloc)?);
             let question = nanos_question(given.alloc, item, "interval")?;
@@ -331,7 +331,7 @@ fn tell_many_hops(
     told: &mut ToldLines,
     stream: &str,
 ) -> Result<(), AllocError> {
-    for item in &given.plant.items(KeyOwner::Stream)? {
+    for item in &given.written.items(KeyOwner::Stream)? {
         if item.text("name") == Some(stream) && item.get("to").is_some() {
             return tell_wide(given, told, item);
         }
@@ -356,7 +356,7 @@ fn step_words(
     item: &WrittenItem<'_>,
     cycle: u64,
 ) -> Result<Option<(&'static str, String)>, AllocError> {
-    let (alloc, sync) = (given.alloc, given.plant.number("sync"));
+    let (alloc, sync) = (given.alloc, given.written.number("sync"));
     if item.get("interval").is_none() {
         let words = String::from_str(alloc, "without traffic it can't be in step")?;
         return Ok(Some(("in-step", words)));
@@ -463,7 +463,7 @@ fn tell_guards_at(
     told: &mut ToldLines,
     cycle: u64,
 ) -> Result<(), AllocError> {
-    if given.plant.number("guard") >= cycle {
+    if given.written.number("guard") >= cycle {
         tell_guard_at(given, told, cycle)?;
     }
     tell_link_guards_at(given, told, cycle)
@@ -491,7 +491,7 @@ pub(crate) fn tell_plan(
     if let Some(fault) = form_fault_of(unplaced.fault) {
         return tell_form_faults(given, told, fault);
     }
-    for item in &given.plant.items(KeyOwner::Stream)? {
+    for item in &given.written.items(KeyOwner::Stream)? {
         if item.text("name") == Some(unplaced.stream) {
             let cycle = cycle_tried(given, refusal)?;
             return tell_unplaced(given, told, item, unplaced, cycle);

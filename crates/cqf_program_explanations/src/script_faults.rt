@@ -4,10 +4,10 @@ use crate::given::CommandInput;
 use crate::lines::Lines;
 use crate::parts::InputPart;
 use crate::places::{Grouped, Place};
-use crate::plant::KeyOwner;
 use crate::table_faults::place_of_offer;
 use crate::told::ToldLines;
 use crate::words::{question, shown};
+use crate::written::KeyOwner;
 use cqf_text::read_decimal;
 use std::alloc::{AllocError, Global};
 use std::collections::BTreeSet;
@@ -49,7 +49,7 @@ fn lines_of<'a>(
     part: InputPart<'a>,
 ) -> Result<Vec<ScriptLine<'a>>, AllocError> {
     let mut lines = Vec::new(given.alloc);
-    let is_call = part.is_whole && given.input.has_plant();
+    let is_call = part.is_whole && given.input.has_network();
     for (number, text) in Lines::of(part.text, part.before) {
         let text = if is_call { without_return(text) } else { text };
         let is_passed_over = is_call && (text.is_empty() || text.starts_with(b"#"));
@@ -286,7 +286,7 @@ fn admitted<'a>(line: &ScriptLine<'a>) -> Option<&'a str> {
 /// Returns the names of the plan's streams.
 pub(crate) fn names_of<'p>(given: &'p CommandInput<'_>) -> Result<Vec<&'p str>, AllocError> {
     let mut names = Vec::new(given.alloc);
-    for item in &given.plant.items(KeyOwner::Stream)? {
+    for item in &given.written.items(KeyOwner::Stream)? {
         if let Some(name) = item.text("name") {
             names.push(name)?;
         }

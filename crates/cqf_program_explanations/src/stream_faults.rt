@@ -4,9 +4,9 @@ use crate::forms::{EVERY_FORM, NAME_FORM, PHASE_FORM};
 use crate::given::CommandInput;
 use crate::network::Network;
 use crate::places::{Grouped, Place};
-use crate::plant::{KeyOwner, WrittenItem, number_of};
 use crate::told::ToldLines;
 use crate::words::shortened;
+use crate::written::{KeyOwner, WrittenItem, number_of};
 use cqf_model::{LARGE, MOST_OCTETS};
 use cqf_units::Name;
 use std::alloc::{AllocError, Global};
@@ -107,7 +107,7 @@ pub(crate) fn streams_of<'p>(
     given: &'p CommandInput<'_>,
 ) -> Result<Vec<WrittenStream<'p>>, AllocError> {
     let mut streams = Vec::new(given.alloc);
-    for item in &given.plant.items(KeyOwner::Stream)? {
+    for item in &given.written.items(KeyOwner::Stream)? {
         streams.push(asked_of(given.alloc, item)?)?;
     }
     Ok(streams)
@@ -605,7 +605,7 @@ pub(crate) fn tell_gates_twice(
     told: &mut ToldLines,
 ) -> Result<(), AllocError> {
     let mut firsts: BTreeMap<u64, WrittenItem<'_>> = BTreeMap::new(given.alloc);
-    for item in &given.plant.items(KeyOwner::Stream)? {
+    for item in &given.written.items(KeyOwner::Stream)? {
         if let Some(first) = firsts.get(&gate_of(item)) {
             if !told.is_counted() {
                 tell_gate_twice(given, told, item, first)?;

@@ -8,10 +8,10 @@ use crate::given::CommandInput;
 use crate::hints::{is_open, plan_hint};
 use crate::outline::{Element, KeyLine, Outline};
 use crate::places::Place;
-use crate::plant::{KeyOwner, PlantFile, WrittenItem};
-use crate::sketch::{has_traffic, is_in_step, is_planning};
+use crate::planning::{has_traffic, is_in_step, is_planning};
 use crate::told::ToldLines;
 use crate::words::{nearest, shown};
+use crate::written::{KeyOwner, NetworkFile, WrittenItem};
 use cqf_program_files::{LINK, STREAM, TOP};
 use std::alloc::AllocError;
 use toml::Value;
@@ -107,7 +107,7 @@ fn twice_in<'p>(outline: &'p Outline<'p>, line: u64) -> Option<(&'p [u8], u64)> 
 fn tell_no_toml(
     given: &CommandInput<'_>,
     told: &mut ToldLines,
-    file: &PlantFile<'_>,
+    file: &NetworkFile<'_>,
     error: &toml::de::Error,
 ) -> Result<(), AllocError> {
     if let Some(other) = other_text(file.part.text) {
@@ -140,7 +140,7 @@ pub(crate) fn tell_not_toml(
     given: &CommandInput<'_>,
     told: &mut ToldLines,
 ) -> Result<(), AllocError> {
-    for file in &given.plant.files {
+    for file in &given.written.files {
         match toml::table_from_slice(given.alloc, file.part.text) {
             Ok(_) => {}
             Err(error) if error.is_memory() => return Err(AllocError),
@@ -158,7 +158,7 @@ fn tell_misplaced(
     key: &str,
 ) -> Result<bool, AllocError> {
     let mut found = false;
-    for item in &given.plant.items(kind)? {
+    for item in &given.written.items(kind)? {
         if item.get(key).is_some() {
             found = true;
             if told.is_counted() {
@@ -180,7 +180,7 @@ fn tell_near_top(
     key: &str,
 ) -> Result<bool, AllocError> {
     let mut found = false;
-    for file in given.plant.files_of(key) {
+    for file in given.written.files_of(key) {
         for line in &file.outline.top {
             let written = shown(given.alloc, line.key)?;
             let is_known = TOP.contains(&written.as_str());
@@ -214,7 +214,7 @@ fn tell_missing_top(
         Some((_, words)) => words,
         None => "",
     };
-    if let Some(file) = given.plant.files_of(key).first() {
+    if let Some(file) = given.written.files_of(key).first() {
         let place = file.at(None);
         told.tell(format!(in given.alloc; "{place}: no {key} at the top: {words}")?)?;
     }
@@ -278,7 +278,7 @@ fn tell_missing_within(
     } else {
         key
     };
-    for item in &given.plant.items(kind)? {
+    for item in &given.written.items(kind)? {
         if !lacks(given, item, key) || told.is_counted() {
             continue;
         }
@@ -342,7 +342,7 @@ fn tell_bad_top(
     let Some((form, words)) = form_at_top(given, key) else {
         return Ok(());
     };
-    for file in given.plant.files_of(key) {
+    for file in given.written.files_of(key) {
         let Some(found) = file.found(key) else {
             continue;
         };
@@ -363,14 +363,14 @@ fn tell_bad_names(
     told: &mut ToldLines,
     key: &str,
 ) -> Result<(), AllocError> {
-    let names = given.plant.names(key)?;
+    let names = given.written.names(key)?;
     for name in &names {
         if !is_name(name.value) && !told.is_counted() {
             let (place, value) = (name.place, told_value(given.alloc, name.value)?);
             told.tell(format!(in given.alloc; "{place}: {key}: {value}: {NAME_FORM}")?)?;
         }
     }
-    match given.plant.top(key) {
+    match given.written.top(key) {
         Some(found) if names.is_empty() && key == "bridges" && found.value.is_array() => {
             let place = found.place;
             told.tell(format!(in given.alloc;
@@ -392,7 +392,7 @@ fn tell_bad_tables(
     } else {
         KeyOwner::Stream
     };
-    for item in &given.plant.items(kind)? {
+    for item in &given.written.items(kind)? {
         if !item.value.is_table() && !told.is_counted() {
             let (place, label) = (item.place(), item.label(given.alloc)?);
             let value = told_value(given.alloc, item.value)?;
@@ -446,7 +446,7 @@ fn tell_bad_within(
     kind: KeyOwner,
     key: &str,
 ) -> Result<(), AllocError> {
-    for item in &given.plant.items(kind)? {
+    for item in &given.written.items(kind)? {
         let Some(words) = bad_form(given, item, key) else {
             continue;
         };

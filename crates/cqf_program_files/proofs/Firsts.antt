@@ -6,8 +6,8 @@ use Rattle.std.specs.Option.{option_or}
 use Rattle.toml.specs.Data.{Members}
 use Rattle.cqf_output.specs.declared.stops.Stop.{Stop}
 use Rattle.cqf_program_files.specs.Opening.{network_texts, open_refusal, open_refusal_of}
-use Rattle.cqf_program_files.specs.Plants.{EndsPlant, EndsTogether, IsCheckedPlant, IsPlantText, are_several, first_refusal, first_strange_among, joint_refusal, leading}
-use Rattle.cqf_program_files.specs.Plants.{strange_in, tables_of, texts_refusal, toml_text, toml_texts}
+use Rattle.cqf_program_files.specs.Files.{EndsFiles, EndsTogether, IsCheckedJoint, IsNetworkText, are_several, first_refusal, first_strange_among, joint_refusal, leading}
+use Rattle.cqf_program_files.specs.Files.{strange_in, tables_of, texts_refusal, toml_text, toml_texts}
 
 -- what is found here is what is found first
 pub found_here : {X Y : Type 0} (f : X → Y) (here rest : Option X) (y : Y) → Some y ≡ option_map f here → Some y ≡ option_map f (option_or here rest)
@@ -37,16 +37,16 @@ pub strange_at : {A : Type 0} (g : A → List ℕ) (texts : List A) (i : ℕ) (t
 strange_at g texts i text inside = rw (drop_more texts i text inside) refl
 
 -- several files that are one plan
-pub plant_is_good : (names texts : List (List ℕ)) (text : List ℕ) → texts_refusal (toml_texts names texts) ≡ None → first_refusal names texts ≡ None
+pub plan_is_good : (names texts : List (List ℕ)) (text : List ℕ) → texts_refusal (toml_texts names texts) ≡ None → first_refusal names texts ≡ None
     → are_several names ≡ true
-    → joint_refusal (tables_of (take (leading names) texts)) ≡ None → IsPlantText (take (leading names) texts) text → IsCheckedPlant names texts (Some text)
-plant_is_good names texts text alone first several together is = record { sound = rw (alone, first, several, together) refl; text = rw several is }
+    → joint_refusal (tables_of (take (leading names) texts)) ≡ None → IsNetworkText (take (leading names) texts) text → IsCheckedJoint names texts (Some text)
+plan_is_good names texts text alone first several together is = record { sound = rw (alone, first, several, together) refl; text = rw several is }
 
 -- and the end if they aren't
-pub plant_ends : (names texts : List (List ℕ)) (stop : Stop) → texts_refusal (toml_texts names texts) ≡ None → first_refusal names texts ≡ None
+pub plan_ends : (names texts : List (List ℕ)) (stop : Stop) → texts_refusal (toml_texts names texts) ≡ None → first_refusal names texts ≡ None
     → are_several names ≡ true
-    → EndsTogether (take (leading names) texts) stop → EndsPlant names texts stop
-plant_ends names texts stop alone first several ends = record {
+    → EndsTogether (take (leading names) texts) stop → EndsFiles names texts stop
+plan_ends names texts stop alone first several ends = record {
   statuses = ends.statuses;
   line = λ refused. elim (ends.line refused) [
     | inl told ↦ inl (rw (alone, first, several) told)

@@ -8,7 +8,7 @@ use Rattle.toml.specs.Data.{Data, Items, no_items, item, push_item}
 use Rattle.toml.specs.declared.value.Value.{Value}
 use Rattle.toml.specs.View.{view, items_view, members_view}
 use Rattle.toml.proofs.Views.{Entry, items_view-push}
-use Rattle.cqf_program_files.specs.Plants.{append_items, put}
+use Rattle.cqf_program_files.specs.Files.{append_items, put}
 
 -- nothing after some items
 pub append_nothing : (items : Items) → append_items items no_items ≡ items

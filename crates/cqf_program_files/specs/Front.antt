@@ -5,12 +5,12 @@ use Rattle.cqf_output.specs.Stops.{fault_line}
 use Rattle.cqf_output.specs.declared.stops.Stop.{Stop}
 use Rattle.cqf_program_words.specs.declared.words.Job.{Job}
 use Rattle.cqf_program_words.specs.declared.words.Job.TheVariants as job
-use Rattle.cqf_program_words.specs.Composing.{composed_of, is_plant, is_undivided}
+use Rattle.cqf_program_words.specs.Composing.{composed_of, is_network, is_undivided}
 use Rattle.cqf_program_words.specs.Words.{takes_domain}
 use Rattle.cqf_program_files.specs.declared.front.Front.{Front}
 use Rattle.cqf_program_files.specs.Calls.{numbers_of_script, script_of_calls, text_of_script}
 use Rattle.cqf_program_files.specs.Opening.{closed_refusal}
-use Rattle.cqf_program_files.specs.Plants.{EndsBy, EndsFor, EndsPlant, IsCheckedPlant, leading}
+use Rattle.cqf_program_files.specs.Files.{EndsBy, EndsFor, EndsFiles, IsCheckedJoint, leading}
 
 -- the cycles of a job that reads a script
 abbrev pub cycles_of : Job → Option ℕ
@@ -48,7 +48,7 @@ begins_as_offers (first ∷ more) = not (is_mark first) && has_fields (not (is_d
 -- the script of the file of calls, if there is one: the file directly follows a plan, no line divides it, and it isn't a table of offers
 abbrev pub called_script : Job → List (List ℕ) → List ℕ → List ℕ → ℕ → Option (List (ℕ × List ℕ))
 called_script it names first second cycles =
-    if is_plant it names first && (is_undivided second && not (begins_as_offers second)) then Some (script_of_calls cycles second) else None
+    if is_network it names first && (is_undivided second && not (begins_as_offers second)) then Some (script_of_calls cycles second) else None
 
 abbrev pub script_at : Job → List (List ℕ) → List ℕ → List (List ℕ) → Option (List (ℕ × List ℕ))
 script_at it names first [] = None
@@ -78,44 +78,44 @@ joint_names names = drop (leading names - 1) names
 
 -- the input that is made from texts; the first of them are those of one plan with this text, if there is one. No texts make an empty input
 abbrev pub IsGatheredWith : Job → List (List ℕ) → List (List ℕ) → Option (List ℕ) → Front → Type 0
-IsGatheredWith it names texts (Some plant) front = IsGathered it (joint_names names) plant (drop (leading names) texts) front
+IsGatheredWith it names texts (Some joint) front = IsGathered it (joint_names names) joint (drop (leading names) texts) front
 IsGatheredWith it names (first ∷ rest) None front = IsGathered it names first rest front
 IsGatheredWith it names [] None front = front.input.items ≡ []
 
 -- an empty text is the only one after a plan, of a job that reads a script: it is a text of offers that lacks their header
 abbrev pub lacks_header : Job → List (List ℕ) → List ℕ → List (List ℕ) → Bool
-lacks_header it names first (second ∷ []) = is_some (cycles_of it) && (nat_eq (length second) 0 && is_plant it names first)
+lacks_header it names first (second ∷ []) = is_some (cycles_of it) && (nat_eq (length second) 0 && is_network it names first)
 lacks_header it names first rest = false
 
 -- the same for texts that begin with those of one plan with this text, if there is one
 abbrev pub is_headless : Job → List (List ℕ) → List (List ℕ) → Option (List ℕ) → Bool
-is_headless it names texts (Some plant) = lacks_header it (joint_names names) plant (drop (leading names) texts)
+is_headless it names texts (Some joint) = lacks_header it (joint_names names) joint (drop (leading names) texts)
 is_headless it names (first ∷ rest) None = lacks_header it names first rest
 is_headless it names [] None = false
 
 -- the files of a job that takes a domain are checked, and several files that are one plan have its text; those of another job aren't
 -- checked
 abbrev pub IsJointFor : Bool → List (List ℕ) → List (List ℕ) → Option (List ℕ) → Type 0
-IsJointFor true names texts plant = IsCheckedPlant names texts plant
-IsJointFor false names texts plant = plant ≡ None
+IsJointFor true names texts joint = IsCheckedJoint names texts joint
+IsJointFor false names texts joint = joint ≡ None
 
 -- the input that is made from files for a job
 pub record IsFrontOf (it : Job) (names texts : List (List ℕ)) (front : Front) : Type 0 where
-  pub plant : Option (List ℕ)
-  pub is_joint : IsJointFor (takes_domain it) names texts plant
+  pub joint : Option (List ℕ)
+  pub is_joint : IsJointFor (takes_domain it) names texts joint
   pub none_open : closed_refusal it names texts ≡ None
-  pub headed : is_headless it names texts plant ≡ false
-  pub gathered : IsGatheredWith it names texts plant front
+  pub headed : is_headless it names texts joint ≡ false
+  pub gathered : IsGatheredWith it names texts joint front
 
 -- the end if a plan's files are refused: only those of a job that takes a domain are; for any other job memory lacked
 abbrev pub EndsJoint : Bool → List (List ℕ) → List (List ℕ) → Stop → Type 0
-EndsJoint true names texts stop = EndsPlant names texts stop
+EndsJoint true names texts stop = EndsFiles names texts stop
 EndsJoint false names texts stop = EndsFor (λ line. ⊥) stop
 
 -- where they are good, but something is open that this job doesn't choose
 pub record EndsOpen (it : Job) (names texts : List (List ℕ)) (stop : Stop) : Type 0 where
-  pub plant : Option (List ℕ)
-  pub is_joint : IsJointFor (takes_domain it) names texts plant
+  pub joint : Option (List ℕ)
+  pub is_joint : IsJointFor (takes_domain it) names texts joint
   pub ends : EndsBy (closed_refusal it names texts) stop
 
 -- and where nothing is, but the offers lack their header
@@ -123,13 +123,13 @@ abbrev pub headless_line : List ℕ
 headless_line = fault_line (codes "offers") (codes "BadHeader")
 
 abbrev pub EndsHeader : Job → List (List ℕ) → List (List ℕ) → Option (List ℕ) → Stop → Type 0
-EndsHeader it names texts plant = EndsFor (λ line. (is_headless it names texts plant ≡ true) × (line ≡ headless_line))
+EndsHeader it names texts joint = EndsFor (λ line. (is_headless it names texts joint ≡ true) × (line ≡ headless_line))
 
 pub record EndsHeadless (it : Job) (names texts : List (List ℕ)) (stop : Stop) : Type 0 where
-  pub plant : Option (List ℕ)
-  pub is_joint : IsJointFor (takes_domain it) names texts plant
+  pub joint : Option (List ℕ)
+  pub is_joint : IsJointFor (takes_domain it) names texts joint
   pub none_open : closed_refusal it names texts ≡ None
-  pub ends : EndsHeader it names texts plant stop
+  pub ends : EndsHeader it names texts joint stop
 
 abbrev pub EndsFront : Job → List (List ℕ) → List (List ℕ) → Stop → Type 0
 EndsFront it names texts stop = EndsJoint (takes_domain it) names texts stop ⊎ (EndsOpen it names texts stop ⊎ EndsHeadless it names texts stop)

@@ -1,6 +1,6 @@
 pub mod Lines
 pub mod Keys
-pub mod Plants
+pub mod Files
 pub mod Calls
 pub mod Front
 pub mod Numbers

@@ -8,7 +8,7 @@ use Rattle.cqf_output.specs.Stops.{fault_line}
 use Rattle.cqf_program_words.specs.declared.words.Job.{Job}
 use Rattle.cqf_program_words.specs.declared.words.Job.TheVariants as job
 use Rattle.cqf_program_words.specs.Words.{takes_domain}
-use Rattle.cqf_program_files.specs.Plants.{is_plain, leading, shown_key, tables_of}
+use Rattle.cqf_program_files.specs.Files.{is_plain, leading, shown_key, tables_of}
 
 -- whether a table has a key
 abbrev pub has : List ℕ → Members → Bool

@@ -4,16 +4,16 @@ ghost use Rattle.toml.specs.View.{table_view};
 ghost use Rattle.cqf_output.specs.Stops.{EndsWith};
 ghost use Rattle.cqf_program_files.specs.Keys.{strange_key};
 ghost use Rattle.cqf_program_files.specs.Opening.{count_of_network, count_of_plain, open_refusal, open_refusal_of};
-ghost use Rattle.cqf_program_files.specs.Plants.{EndsBy, EndsPlant, EndsTogether, EndsUnwritten, IsCheckedPlant, IsPlantText, IsTextOf};
-ghost use Rattle.cqf_program_files.specs.Plants.{first_long_among, first_refusal, first_strange_among, is_plain, joint_refusal, most_shown};
-ghost use Rattle.cqf_program_files.specs.Plants.{plain_fault, plant_fault_line};
-ghost use Rattle.cqf_program_files.specs.Plants.{shown_key, shown_octet, strange_in, table_of, tables_of, tables_refusal, texts_refusal, toml_text, toml_texts};
+ghost use Rattle.cqf_program_files.specs.Files.{EndsBy, EndsFiles, EndsTogether, EndsUnwritten, IsCheckedJoint, IsNetworkText, IsTextOf};
+ghost use Rattle.cqf_program_files.specs.Files.{first_long_among, first_refusal, first_strange_among, is_plain, joint_refusal, most_shown};
+ghost use Rattle.cqf_program_files.specs.Files.{plain_fault, files_fault_line};
+ghost use Rattle.cqf_program_files.specs.Files.{shown_key, shown_octet, strange_in, table_of, tables_of, tables_refusal, texts_refusal, toml_text, toml_texts};
 
-use crate::faults::PlantFault;
+use crate::faults::FilesFault;
+use crate::joining::{are_several, joint_of, key_twice, leading};
 use crate::keys::strange_key;
 use crate::lines::first_long_line;
 use crate::open::{first_open_stream, has_open_cycle};
-use crate::plants::{are_several, key_twice, leading, plant_of};
 use cqf_output::Stop;
 use cqf_program_words::{is_toml, is_undivided};
 use cqf_units::Memory;
@@ -165,27 +165,27 @@ fn first_strange_among(alloc: Global, texts: &[&[u8]]) -> Result<Option<String>,
 }
 
 /// Returns the fault of a plan's texts by themselves, if there is one. Returns `Memory` if an allocation fails.
-fn texts_refusal(alloc: Global, texts: &[&[u8]]) -> Result<Option<PlantFault>, Memory>
-    ensures { IfOk result (λ found. option_map plant_fault_line found ≡ texts_refusal (map (λ text. text.now) texts.now)) }
+fn texts_refusal(alloc: Global, texts: &[&[u8]]) -> Result<Option<FilesFault>, Memory>
+    ensures { IfOk result (λ found. option_map files_fault_line found ≡ texts_refusal (map (λ text. text.now) texts.now)) }
 {
     if let Some(line) = first_long_among(texts) {
-        return Ok(Some(PlantFault::LineTooLong(line)));
+        return Ok(Some(FilesFault::LineTooLong(line)));
     }
     match first_strange_among(alloc, texts)? {
-        Some(key) => Ok(Some(PlantFault::UnknownKey(key))),
+        Some(key) => Ok(Some(FilesFault::UnknownKey(key))),
         None => Ok(None),
     }
 }
 
 /// Returns the fault of one text by itself, if there is one; the octets of its lines don't count. Returns `Memory` if an allocation fails.
-fn plain_fault(alloc: Global, text: &[u8]) -> Result<Option<PlantFault>, Memory>
-    ensures { IfOk result (λ found. option_map plant_fault_line found ≡ plain_fault text.now) }
+fn plain_fault(alloc: Global, text: &[u8]) -> Result<Option<FilesFault>, Memory>
+    ensures { IfOk result (λ found. option_map files_fault_line found ≡ plain_fault text.now) }
 {
     if let Some(line) = first_long_line(false, text) {
-        return Ok(Some(PlantFault::LineTooLong(line)));
+        return Ok(Some(FilesFault::LineTooLong(line)));
     }
     match strange_in(alloc, text)? {
-        Some(key) => Ok(Some(PlantFault::UnknownKey(key))),
+        Some(key) => Ok(Some(FilesFault::UnknownKey(key))),
         None => Ok(None),
     }
 }
@@ -206,8 +206,8 @@ fn first_refusal(
     alloc: Global,
     names: &[&str],
     texts: &[&[u8]],
-) -> Result<Option<PlantFault>, Memory>
-    ensures { IfOk result (λ found. option_map plant_fault_line found
+) -> Result<Option<FilesFault>, Memory>
+    ensures { IfOk result (λ found. option_map files_fault_line found
         ≡ first_refusal (map (λ name. name.now) names.now) (map (λ text. text.now) texts.now)) }
 {
     match (names, texts) {
@@ -222,35 +222,35 @@ fn first_refusal(
 }
 
 /// Returns the fault of several tables that are one plan, if there is one.
-fn tables_refusal(tables: &[Table]) -> Option<PlantFault>
-    ensures { option_map plant_fault_line result ≡ tables_refusal (map table_view tables.now) }
+fn tables_refusal(tables: &[Table]) -> Option<FilesFault>
+    ensures { option_map files_fault_line result ≡ tables_refusal (map table_view tables.now) }
 {
     match key_twice(tables) {
-        Some(key) => Some(PlantFault::KeyTwice(key)),
+        Some(key) => Some(FilesFault::KeyTwice(key)),
         None => None,
     }
 }
 
 /// Returns the end if a plan's files are refused: status 1 and the fault's line; status 3 if an allocation for it fails.
-pub(crate) fn stop_of(alloc: Global, fault: &PlantFault) -> Stop
-    ensures { EndsWith 1 (plant_fault_line fault.now) result }
+pub(crate) fn stop_of(alloc: Global, fault: &FilesFault) -> Stop
+    ensures { EndsWith 1 (files_fault_line fault.now) result }
 {
     match fault {
-        PlantFault::NotToml => Stop::refused(alloc, "domain", fault),
-        PlantFault::NoHeader => Stop::refused(alloc, "offers", fault),
-        PlantFault::OpenCycle | PlantFault::Open(_) => Stop::refused(alloc, "network", fault),
+        FilesFault::NotToml => Stop::refused(alloc, "domain", fault),
+        FilesFault::NoHeader => Stop::refused(alloc, "offers", fault),
+        FilesFault::OpenCycle | FilesFault::Open(_) => Stop::refused(alloc, "network", fault),
         _ => Stop::refused(alloc, "plant", fault),
     }
 }
 
 /// Returns the text of a table. Returns `Err` if the table has a date that no text writes, or if an allocation fails.
-fn text_of(alloc: Global, plant: &Table) -> Result<String, Stop>
-    ensures ok { IfOk result (λ text. IsTextOf (table_view plant.now) (string_bytes text)) }
-    ensures err { IfErr result (EndsUnwritten (table_view plant.now)) }
+fn text_of(alloc: Global, joint: &Table) -> Result<String, Stop>
+    ensures ok { IfOk result (λ text. IsTextOf (table_view joint.now) (string_bytes text)) }
+    ensures err { IfErr result (EndsUnwritten (table_view joint.now)) }
 {
-    match toml::table_to_string(alloc, plant) {
+    match toml::table_to_string(alloc, joint) {
         Ok(text) => Ok(text),
-        Err(toml::ser::Error::DateInvalid) => Err(stop_of(alloc, &PlantFault::NotToml)),
+        Err(toml::ser::Error::DateInvalid) => Err(stop_of(alloc, &FilesFault::NotToml)),
         Err(toml::ser::Error::OutOfMemory) => Err(Stop::memory(alloc)),
     }
 }
@@ -258,19 +258,19 @@ fn text_of(alloc: Global, plant: &Table) -> Result<String, Stop>
 /// Returns the text of the plan of several texts. Returns `Err` if they are refused, or if an allocation fails.
 fn joined(alloc: Global, texts: &[&[u8]]) -> Result<String, Stop>
     ensures sound { OnOk result (joint_refusal (tables_of (map (λ text. text.now) texts.now)) ≡ None) }
-    ensures ok { IfOk result (λ text. IsPlantText (map (λ text. text.now) texts.now) (string_bytes text)) }
+    ensures ok { IfOk result (λ text. IsNetworkText (map (λ text. text.now) texts.now) (string_bytes text)) }
     ensures err { IfErr result (EndsTogether (map (λ text. text.now) texts.now)) }
 {
     let tables = match tables_of(alloc, texts) {
         Ok(Some(tables)) => tables,
-        Ok(None) => return Err(stop_of(alloc, &PlantFault::NotToml)),
+        Ok(None) => return Err(stop_of(alloc, &FilesFault::NotToml)),
         Err(_) => return Err(Stop::memory(alloc)),
     };
     if let Some(fault) = tables_refusal(tables.as_slice()) {
         return Err(stop_of(alloc, &fault));
     }
-    match plant_of(alloc, tables.as_slice()) {
-        Ok(plant) => text_of(alloc, &plant),
+    match joint_of(alloc, tables.as_slice()) {
+        Ok(joint) => text_of(alloc, &joint),
         Err(_) => Err(Stop::memory(alloc)),
     }
 }
@@ -305,14 +305,14 @@ fn check_first(alloc: Global, names: &[&str], texts: &[&[u8]]) -> Result<(), Sto
 
 /// Checks the files of a plan, and returns the text of their one plan if the first of them are 2 to 16 TOML files. Returns `Err` with
 /// status 1 and the line of the first fault; with status 3 if an allocation fails.
-pub(crate) fn check_plant(
+pub(crate) fn check_joint(
     alloc: Global,
     names: &[&str],
     texts: &[&[u8]],
 ) -> Result<Option<String>, Stop>
     requires { length names.now ≡ length texts.now }
-    ensures ok { IfOk result (λ text. IsCheckedPlant (map (λ name. name.now) names.now) (map (λ text. text.now) texts.now) (option_map string_bytes text)) }
-    ensures err { IfErr result (EndsPlant (map (λ name. name.now) names.now) (map (λ text. text.now) texts.now)) }
+    ensures ok { IfOk result (λ text. IsCheckedJoint (map (λ name. name.now) names.now) (map (λ text. text.now) texts.now) (option_map string_bytes text)) }
+    ensures err { IfErr result (EndsFiles (map (λ name. name.now) names.now) (map (λ text. text.now) texts.now)) }
 {
     check_texts(alloc, names, texts)?;
     check_first(alloc, names, texts)?;
@@ -326,16 +326,16 @@ pub(crate) fn check_plant(
 }
 
 /// What is open of a network's tables, as a fault. The error is want of memory.
-fn open_fault(alloc: Global, tables: &[Table]) -> Result<Option<PlantFault>, Memory>
-    ensures { IfOk result (λ found. option_map plant_fault_line found ≡ open_refusal (map table_view tables.now)) }
+fn open_fault(alloc: Global, tables: &[Table]) -> Result<Option<FilesFault>, Memory>
+    ensures { IfOk result (λ found. option_map files_fault_line found ≡ open_refusal (map table_view tables.now)) }
 {
     if has_open_cycle(tables) {
-        return Ok(Some(PlantFault::OpenCycle));
+        return Ok(Some(FilesFault::OpenCycle));
     }
     match first_open_stream(tables) {
         Some(name) => {
             let shown = shown_key(alloc, name)?;
-            Ok(Some(PlantFault::Open(shown)))
+            Ok(Some(FilesFault::Open(shown)))
         }
         None => Ok(None),
     }
@@ -378,9 +378,9 @@ fn open_fault_of(
     alloc: Global,
     names: &[&str],
     texts: &[&[u8]],
-) -> Result<Option<PlantFault>, Memory>
+) -> Result<Option<FilesFault>, Memory>
     requires { length names.now ≡ length texts.now }
-    ensures { IfOk result (λ found. option_map plant_fault_line found
+    ensures { IfOk result (λ found. option_map files_fault_line found
         ≡ open_refusal_of (map (λ name. name.now) names.now) (map (λ text. text.now) texts.now)) }
 {
     let count = count_of_network(alloc, names, texts)?;

@@ -1,6 +1,6 @@
 //! Why the files of a plan are refused.
 ghost use Rattle.std.specs.Prelude.{Some};
-ghost use Rattle.cqf_program_files.specs.Plants.{plant_fault_text};
+ghost use Rattle.cqf_program_files.specs.Files.{files_fault_text};
 
 use cqf_units::Memory;
 use std::fmt;
@@ -8,7 +8,7 @@ use thiserror::Error;
 
 /// Why the files of a plan are refused. A fault prints as its name, followed by its value.
 #[derive(Debug, Drop, Error)]
-pub enum PlantFault {
+pub enum FilesFault {
     /// The first line, from 1, of the first file that has one, with a key of more than 4 parts, or, in a TOML file, of more than 4,096
     /// octets.
     LineTooLong(u64),
@@ -26,18 +26,18 @@ pub enum PlantFault {
     NoHeader,
 }
 
-impl fmt::Display for PlantFault {
-    ghost output = { λ fault. Some (plant_fault_text fault) };
+impl fmt::Display for FilesFault {
+    ghost output = { λ fault. Some (files_fault_text fault) };
 
     fn fmt<W: fmt::Write>(&self, f: &mut fmt::Formatter<W>) -> fmt::Result {
         match self {
-            PlantFault::LineTooLong(line) => write!(f, "LineTooLong {line}"),
-            PlantFault::UnknownKey(key) => write!(f, "UnknownKey {key}"),
-            PlantFault::NotToml => f.write_str("NotToml"),
-            PlantFault::OpenCycle => f.write_str("OpenCycle"),
-            PlantFault::Open(name) => write!(f, "Open {name}"),
-            PlantFault::KeyTwice(key) => write!(f, "KeyTwice {key}"),
-            PlantFault::NoHeader => f.write_str("BadHeader"),
+            FilesFault::LineTooLong(line) => write!(f, "LineTooLong {line}"),
+            FilesFault::UnknownKey(key) => write!(f, "UnknownKey {key}"),
+            FilesFault::NotToml => f.write_str("NotToml"),
+            FilesFault::OpenCycle => f.write_str("OpenCycle"),
+            FilesFault::Open(name) => write!(f, "Open {name}"),
+            FilesFault::KeyTwice(key) => write!(f, "KeyTwice {key}"),
+            FilesFault::NoHeader => f.write_str("BadHeader"),
         }
     }
 }

@@ -6,14 +6,14 @@ ghost use Rattle.cqf_program_files.specs.Front.{EndsFront, EndsHeader, EndsJoint
 ghost use Rattle.cqf_program_files.specs.Front.{called_script, cycles_of, has_fields, is_between, is_digit, is_headless, is_mark, joint_names};
 ghost use Rattle.cqf_program_files.specs.Front.{lacks_header, parts_of_script, script_at, with_first};
 ghost use Rattle.cqf_program_files.specs.Opening.{closed_refusal, takes_closed};
-ghost use Rattle.cqf_program_files.specs.Plants.{EndsBy};
+ghost use Rattle.cqf_program_files.specs.Files.{EndsBy};
 
 use crate::calls::{CallsScript, script_of_calls};
-use crate::checking::{check_open, check_plant, stop_of};
-use crate::faults::PlantFault;
-use crate::plants::leading;
+use crate::checking::{check_joint, check_open, stop_of};
+use crate::faults::FilesFault;
+use crate::joining::leading;
 use cqf_output::Stop;
-use cqf_program_words::{Job, composed_behind, composed_between, is_plant, is_undivided};
+use cqf_program_words::{Job, composed_behind, composed_between, is_network, is_undivided};
 use cqf_units::Memory;
 use std::alloc::Global;
 
@@ -106,7 +106,7 @@ fn called_script(
     ensures { IfOk result (λ found. option_map (λ script. (script.text.items, script.numbers.items)) found
         ≡ option_map parts_of_script (called_script job.now (map (λ name. name.now) names.now) first.now second.now cycles)) }
 {
-    if !is_plant(alloc, job, names, first)? {
+    if !is_network(alloc, job, names, first)? {
         return Ok(None);
     }
     if !is_undivided(alloc, second)? {
@@ -200,18 +200,18 @@ fn gathered_with(
     job: &Job,
     names: &[&str],
     texts: &[&[u8]],
-    plant: Option<&str>,
+    joint: Option<&str>,
 ) -> Result<Front, Memory>
     requires { length names.now ≡ length texts.now }
     ensures { IfOk result (IsGatheredWith job.now (map (λ name. name.now) names.now) (map (λ text. text.now) texts.now)
-        (option_map (λ plant. plant.now) plant.entry)) }
+        (option_map (λ joint. joint.now) joint.entry)) }
 {
-    match (plant, texts) {
-        (Some(plant), _) => gathered(
+    match (joint, texts) {
+        (Some(joint), _) => gathered(
             alloc,
             job,
             joint_names(names),
-            plant.as_bytes(),
+            joint.as_bytes(),
             &texts[leading(names)..],
         ),
         (None, [first, rest @ ..]) => gathered(alloc, job, names, first, rest),
@@ -223,19 +223,19 @@ fn gathered_with(
 }
 
 /// Returns the text of the plan of the first files, if they are several. Returns `Err` if they are refused, or if an allocation fails.
-fn joint_plant(
+fn joint_network(
     alloc: Global,
     job: &Job,
     names: &[&str],
     texts: &[&[u8]],
 ) -> Result<Option<String>, Stop>
     requires { length names.now ≡ length texts.now }
-    ensures ok { IfOk result (λ plant. IsJointFor (takes_domain job.now) (map (λ name. name.now) names.now) (map (λ text. text.now) texts.now)
-        (option_map string_bytes plant)) }
+    ensures ok { IfOk result (λ joint. IsJointFor (takes_domain job.now) (map (λ name. name.now) names.now) (map (λ text. text.now) texts.now)
+        (option_map string_bytes joint)) }
     ensures err { IfErr result (EndsJoint (takes_domain job.now) (map (λ name. name.now) names.now) (map (λ text. text.now) texts.now)) }
 {
     if job.takes_domain() {
-        check_plant(alloc, names, texts)
+        check_joint(alloc, names, texts)
     } else {
         Ok(None)
     }
@@ -259,7 +259,7 @@ fn lacks_header(
             if !second.is_empty() {
                 return Ok(false);
             }
-            is_plant(alloc, job, names, first)
+            is_network(alloc, job, names, first)
         }
         _ => Ok(false),
     }
@@ -272,18 +272,18 @@ fn is_headless(
     job: &Job,
     names: &[&str],
     texts: &[&[u8]],
-    plant: Option<&str>,
+    joint: Option<&str>,
 ) -> Result<bool, Memory>
     requires { length names.now ≡ length texts.now }
     ensures { IfOk result (λ headless. headless ≡ is_headless job.now (map (λ name. name.now) names.now) (map (λ text. text.now) texts.now)
-        (option_map (λ plant. plant.now) plant.entry)) }
+        (option_map (λ joint. joint.now) joint.entry)) }
 {
-    match (plant, texts) {
-        (Some(plant), _) => lacks_header(
+    match (joint, texts) {
+        (Some(joint), _) => lacks_header(
             alloc,
             job,
             joint_names(names),
-            plant.as_bytes(),
+            joint.as_bytes(),
             &texts[leading(names)..],
         ),
         (None, [first, rest @ ..]) => lacks_header(alloc, job, names, first, rest),
@@ -297,17 +297,17 @@ fn check_header(
     job: &Job,
     names: &[&str],
     texts: &[&[u8]],
-    plant: Option<&str>,
+    joint: Option<&str>,
 ) -> Result<(), Stop>
     requires { length names.now ≡ length texts.now }
     ensures ok { OnOk result (is_headless job.now (map (λ name. name.now) names.now) (map (λ text. text.now) texts.now)
-        (option_map (λ plant. plant.now) plant.entry) ≡ false) }
+        (option_map (λ joint. joint.now) joint.entry) ≡ false) }
     ensures err { IfErr result (EndsHeader job.now (map (λ name. name.now) names.now) (map (λ text. text.now) texts.now)
-        (option_map (λ plant. plant.now) plant.entry)) }
+        (option_map (λ joint. joint.now) joint.entry)) }
 {
-    match is_headless(alloc, job, names, texts, plant) {
+    match is_headless(alloc, job, names, texts, joint) {
         Ok(false) => Ok(()),
-        Ok(true) => Err(stop_of(alloc, &PlantFault::NoHeader)),
+        Ok(true) => Err(stop_of(alloc, &FilesFault::NoHeader)),
         Err(_) => Err(Stop::memory(alloc)),
     }
 }
@@ -355,19 +355,19 @@ pub fn front_of(alloc: Global, job: &Job, names: &[&str], texts: &[&[u8]]) -> Re
     ensures ok { IfOk result (IsFrontOf job.now (map (λ name. name.now) names.now) (map (λ text. text.now) texts.now)) }
     ensures err { IfErr result (EndsFront job.now (map (λ name. name.now) names.now) (map (λ text. text.now) texts.now)) }
 {
-    let plant = match joint_plant(alloc, job, names, texts) {
-        Ok(plant) => plant,
+    let joint = match joint_network(alloc, job, names, texts) {
+        Ok(joint) => joint,
         Err(stop) => return Err(stop),
     };
     match check_closed(alloc, job, names, texts) {
         Ok(()) => {}
         Err(stop) => return Err(stop),
     }
-    match check_header(alloc, job, names, texts, plant.as_deref()) {
+    match check_header(alloc, job, names, texts, joint.as_deref()) {
         Ok(()) => {}
         Err(stop) => return Err(stop),
     }
-    match gathered_with(alloc, job, names, texts, plant.as_deref()) {
+    match gathered_with(alloc, job, names, texts, joint.as_deref()) {
         Ok(front) => Ok(front),
         Err(_) => Err(Stop::memory(alloc)),
     }

@@ -2,11 +2,11 @@
 //!
 //! - [`front_of`] checks the files of a plan, and returns the input that is made from all files, a [`Front`].
 //! - `strange_key` and `first_long_line` are its checks of a plan's texts; [`TOP`], [`LINK`] and [`STREAM`] are the keys that commands
-//!   know. `PlantFault` says why a plan is refused.
+//!   know. `FilesFault` says why a plan is refused.
 //! - `script_of_calls` makes a script from a file of calls, a `CallsScript`. [`renumbered`] puts the number of the file's line into the
 //!   line of a script's fault.
 //!
-//! `specs/Front.antt` defines the input that is made from files, `Plants` when they are refused, and `Calls` the script that replaces a
+//! `specs/Front.antt` defines the input that is made from files, `Files` when they are refused, and `Calls` the script that replaces a
 //! file of calls:
 //!
 //! ```text
@@ -21,11 +21,11 @@ mod calls;
 mod checking;
 mod faults;
 mod front;
+mod joining;
 mod keys;
 mod lines;
 mod numbers;
 mod open;
-mod plants;
 
 pub use front::{Front, begins_as_offers, cycles_of, front_of};
 pub use keys::{LINK, OWN, STREAM, TOP};

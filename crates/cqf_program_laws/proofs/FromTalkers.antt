@@ -24,9 +24,9 @@ use Rattle.cqf_laws_timing.specs.Latency.{least_of, whole_of}
 use Rattle.cqf_laws_timing.specs.Traffic.{Conforms, IsTraffic, Traffic, offers_named}
 use Rattle.cqf_traffic.specs.FlowsText.{FlowText}
 use Rattle.cqf_traffic.specs.TrafficText.{TrafficText, promise_of}
-use Rattle.cqf_sketch.specs.declared.domain.TalkerLink.{TalkerLink}
-use Rattle.cqf_sketch.specs.NetworkFlows.{NetworkFlowText}
-use Rattle.cqf_sketch.specs.SketchDomain.{SketchDomain}
+use Rattle.cqf_network.specs.declared.domain.TalkerLink.{TalkerLink}
+use Rattle.cqf_network.specs.NetworkFlows.{NetworkFlowText}
+use Rattle.cqf_network.specs.NetworkDomain.{NetworkDomain}
 use Rattle.cqf_access.specs.declared.edge.Delays.{Delays}
 use Rattle.cqf_access.specs.Access.{AccessLink, Crossing, IsBound, handed as handed_over, promises_of, taken_of}
 use Rattle.cqf_access.specs.Arriving.{FramesAreWholeWithin, way_of}
@@ -81,7 +81,7 @@ pub promised_by : (o : Option TrafficText) (p : Traffic) → option_map promise_
 promised_by None p h = absurd (cc)
 promised_by (Some t) p h = (t, refl, same_Some (promise_of t) p h)
 
-module _ (waits : FramesAreWholeWithin) (closer : EdgeConformsCloser) (come : StreamsComeByLinks) (network : SketchDomain) (found : List NetworkFlowText)
+module _ (waits : FramesAreWholeWithin) (closer : EdgeConformsCloser) (come : StreamsComeByLinks) (network : NetworkDomain) (found : List NetworkFlowText)
     (edge : EdgeFlowsText) (run : Run) (at_edges : edge_flows network found ≡ Ok edge) (none_full : edge.full ≡ None) (one : NetworkFlowText)
     (flow : FlowText) (row : Row) (x : Crossing) (o : Offered) (offers : List Offer) (h : IsHandedInRun network found run edge one flow row x o offers) where
   abbrev link : AccessLink

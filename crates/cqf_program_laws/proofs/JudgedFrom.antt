@@ -18,9 +18,9 @@ use Rattle.cqf_model.specs.Domain.{Domain, IsAccepted, end_of}
 use Rattle.cqf_model.specs.History.{most_beside}
 use Rattle.cqf_laws_timing.specs.Verdicts.{InTime, Late, MayBeLate, Sure, sure_of}
 use Rattle.cqf_traffic.specs.FlowsText.{FlowText}
-use Rattle.cqf_sketch.specs.declared.domain.TalkerLink.{TalkerLink}
-use Rattle.cqf_sketch.specs.NetworkFlows.{NetworkFlowText}
-use Rattle.cqf_sketch.specs.SketchDomain.{IsSketch, IsTalkerLink, SketchDomain}
+use Rattle.cqf_network.specs.declared.domain.TalkerLink.{TalkerLink}
+use Rattle.cqf_network.specs.NetworkFlows.{NetworkFlowText}
+use Rattle.cqf_network.specs.NetworkDomain.{IsNetwork, IsTalkerLink, NetworkDomain}
 use Rattle.cqf_access.specs.Access.{AccessLink}
 use Rattle.cqf_access.specs.Arriving.{way_of}
 use Rattle.cqf_access.specs.Bounding.{link_of}
@@ -81,7 +81,7 @@ no_times (flow ∷ flows) zero times is = absurd (cc)
 no_times (flow ∷ flows) (suc n) times is = no_times flows n times is
 
 -- where some are
-each_left : (network : SketchDomain) (whole handed : List (Option Handed)) (all : List NetworkFlowText) (n : ℕ) → length handed ≡ length all →
+each_left : (network : NetworkDomain) (whole handed : List (Option Handed)) (all : List NetworkFlowText) (n : ℕ) → length handed ≡ length all →
     deadline_of (edge_deadlines (flows_behind (map (passage_of network (bounds_of network whole)) handed) all)) n
     ≡ left_by (times_of (map (option_map times_on) (map (passage_of network (bounds_of network whole)) handed)) n)
     (deadline_of (map (λ (found : NetworkFlowText). found.flow.0.1) all) n)
@@ -94,7 +94,7 @@ each_left network whole (h ∷ handed) (one ∷ all) zero same =
 each_left network whole (h ∷ handed) (one ∷ all) (suc n) same = each_left network whole handed all n (omega (arith, same))
 
 -- times are of a link of the network, and of what is handed over
-times_at : (network : SketchDomain) (whole handed : List (Option Handed)) (n : ℕ) (times : AccessTimes) →
+times_at : (network : NetworkDomain) (whole handed : List (Option Handed)) (n : ℕ) (times : AccessTimes) →
     times_of (map (option_map times_on) (map (passage_of network (bounds_of network whole)) handed)) n ≡ Some times →
     (one : Option Handed) × (slice_get handed n ≡ Some one) × (option_map times_on (passage_of network (bounds_of network whole) one) ≡ Some times)
 times_at network whole [] n times is = absurd (cc)
@@ -116,7 +116,7 @@ no_less : (least way wait : ℕ) → least ≤ way → least ≤ way + wait
 no_less least way wait less = omega (arith, less)
 
 -- so they are in order, if its delays and its sizes are
-one_ordered : (network : SketchDomain) (whole : List (Option Handed)) (handed : Option Handed) (times : AccessTimes) →
+one_ordered : (network : NetworkDomain) (whole : List (Option Handed)) (handed : Option Handed) (times : AccessTimes) →
     option_map times_on (passage_of network (bounds_of network whole) handed) ≡ Some times →
     ((h : Handed) (link : TalkerLink) → handed ≡ Some h → link_at network h.place ≡ Some link → (link.least ≤ link.delay) × (h.shortest ≤ h.octets)) →
     times.least ≤ times.most
@@ -135,9 +135,9 @@ there_is (x ∷ xs) zero within = (x, refl)
 there_is (x ∷ xs) (suc k) within = there_is xs k (omega (arith, within))
 
 -- of a network's streams
-left_with : StreamsComeByLinks → (network : SketchDomain) (found : List NetworkFlowText) (edge : EdgeFlowsText) → IsSketch network →
+left_with : StreamsComeByLinks → (network : NetworkDomain) (found : List NetworkFlowText) (edge : EdgeFlowsText) → IsNetwork network →
     edge_flows network found ≡ Ok edge → AreLeft edge
-left_with come network found edge is_sketch h =
+left_with come network found edge is_network h =
     let e = stepped {B = EdgeFlowsText} (handed_of_all network found) (λ (handed : List (Option Handed)). Ok (edges_with network found handed)) edge h in
     let many = handed_each network found e.0 e.1 in
     let same = same_ok (edges_with network found e.0) edge e.2 in
@@ -149,20 +149,20 @@ left_with come network found edge is_sketch h =
           let hands : slice_get e.0 n ≡ Some (Some handed) = there.1 ∙ ap (λ (o : Option Handed). Some o) own in
           let one = there_is found n (omega (arith, slice_get_within e.0 n (Some handed) hands, many)) in
           let by_link = come network found edge n one.0 handed h one.1 (ap (λ (x : EdgeFlowsText). slice_get x.handed n) (sym same) ∙ hands) in
-          let good = All-contains (IsTalkerLink network) network.talkers link is_sketch.has_talkers.each_there
+          let good = All-contains (IsTalkerLink network) network.talkers link is_network.has_talkers.each_there
           (contains_at network.talkers handed.place link is_link) in
           (good.ordered, by_link.sizes));
     })
 
 -- and of a part's
-pub are_left : StreamsComeByLinks → (limits : Limits) (domain streams : List ℕ) (network : SketchDomain) (edge : EdgeFlowsText) →
+pub are_left : StreamsComeByLinks → (limits : Limits) (domain streams : List ℕ) (network : NetworkDomain) (edge : EdgeFlowsText) →
     network_of_part limits domain ≡ Ok network → open_edges_of_part network streams ≡ Ok edge → AreLeft edge
 are_left come limits domain streams network edge read h = by (has_access network) h
   where
     by : (b : Bool) → and_then (if b then edges_by_access network streams else edges_without streams) open_edge ≡ Ok edge → AreLeft edge
     by true is =
         let are = open_by_access network streams edge is in
-        left_with come network are.found edge (network_is_read limits domain network read).is_sketch are.at_edges
+        left_with come network are.found edge (network_is_read limits domain network read).is_network are.at_edges
     by false is =
         let are = open_without streams edge is in
         subst AreLeft are.same (record { left = none_left are.flows; ordered = λ n times at. absurd (no_times are.flows n times at) })

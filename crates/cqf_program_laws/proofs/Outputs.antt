@@ -14,7 +14,7 @@ use Rattle.cqf_topology.specs.PacedText.{PacedText}
 use Rattle.cqf_topology.specs.PlannedText.{PlannedText}
 use Rattle.cqf_topology.proofs.Refusals.{refuse-Ok}
 use Rattle.cqf_traffic.specs.FlowsText.{FlowText}
-use Rattle.cqf_sketch.specs.SketchDomain.{SketchDomain}
+use Rattle.cqf_network.specs.NetworkDomain.{NetworkDomain}
 use Rattle.cqf_edge.specs.EdgeFlows.{EdgeFlowsText}
 use Rattle.cqf_edge.specs.EdgeLaws.{StreamsComeByLinks}
 use Rattle.cqf_admission.specs.Asking.{asked_by}
@@ -57,7 +57,7 @@ record IsRunOver (limits : Limits) (cycles : ℕ) (input : List ℕ) (d : Domain
 
 module _ (agree : ReadersAgreeOnParts) (may_run : ScenariosMayBeRun) (limits : Limits) (cycles : ℕ) (domain streams input : List ℕ)
     (begins : BeginsWith domain streams input) where
-  run_over : (network : SketchDomain) (planned : List PlannedText) (s : Scenario) → network_of_part limits domain ≡ Ok network →
+  run_over : (network : NetworkDomain) (planned : List PlannedText) (s : Scenario) → network_of_part limits domain ≡ Ok network →
       planned_of_part network streams ≡ Ok planned → scenario_input limits cycles input ≡ Ok s →
       IsRunOver limits cycles input (domain_of network) planned s
   run_over network planned s is_network streams_read holds =
@@ -66,12 +66,12 @@ module _ (agree : ReadersAgreeOnParts) (may_run : ScenariosMayBeRun) (limits : L
       let own : network_of_part limits texts.domain ≡ Ok network = ap (network_of_part limits) begins.domain_is ∙ is_network in
       let read : planned_of_part network texts.streams ≡ Ok planned = ap (planned_of_part network) begins.streams_are ∙ streams_read in
       let both = agree limits cycles texts planned (λ other is.
-      subst (λ (n : SketchDomain). planned_of_part n texts.streams ≡ Ok planned) (same_ok network other (sym own ∙ is)) read)
+      subst (λ (n : NetworkDomain). planned_of_part n texts.streams ≡ Ok planned) (same_ok network other (sym own ∙ is)) read)
       ∙ ap (λ found. and_then found (λ (one : Scenario). Ok (one, planned))) whole in
       let made = parts_of_scenario limits cycles texts s whole in
       record {
         holds = ap (λ parts. and_then parts (planned_scenario_of limits cycles)) begins.parts ∙ both;
-        domain_is = same_ok s.domain (domain_of network) (sym made.domain ∙ ap (λ found. and_then found (λ (n : SketchDomain). Ok (domain_of n))) own);
+        domain_is = same_ok s.domain (domain_of network) (sym made.domain ∙ ap (λ found. and_then found (λ (n : NetworkDomain). Ok (domain_of n))) own);
         runnable = may_run limits cycles input s holds;
       }
 
@@ -130,7 +130,7 @@ threads_keep_told_plans edges agree may_run runs words keep limits given network
 
 -- what an output of `latency` says about the texts of a domain and of streams
 record IsLatencyOf (limits : Limits) (domain streams written : List ℕ) : Type 0 where
-  network : SketchDomain
+  network : NetworkDomain
   is_network : network_of_part limits domain ≡ Ok network
   edge : EdgeFlowsText
   at_edges : open_edges_of_part network streams ≡ Ok edge
@@ -144,7 +144,7 @@ same_asked [] = refl
 same_asked (flow ∷ flows) = ap (λ (rest : List Asked). asked_by flow.0.0 ∷ rest) (same_asked flows)
 
 -- what is written of streams that reserve enough
-latencies_written : (strict : Bool) (network : SketchDomain) (edge : EdgeFlowsText) (found : PlanFromTalkers) (written : List ℕ) →
+latencies_written : (strict : Bool) (network : NetworkDomain) (edge : EdgeFlowsText) (found : PlanFromTalkers) (written : List ℕ) →
     plan_from network edge ≡ Ok found → latency_from_talkers strict found ≡ Ok written →
     (plan : List Recorded) × (admitted_from (domain_of network) [] 1 (asked_in (bare edge)) ≡ Ok plan)
     × (written ≡ text_of_latency (latencies_from (domain_of network) (held_in (domain_of network) plan 0) edge.deadlines edge.times))
@@ -170,8 +170,8 @@ latency_read : (limits : Limits) (strict : Bool) (domain streams plan written : 
 latency_read limits strict domain streams plan written parts h =
     let t = stepped {B = List ℕ} (latency_input limits plan) (latency_from_talkers strict) written h in
     let inner = sym (ap (λ there. and_then there (λ (texts : List ℕ × List ℕ). and_then (network_of_part limits texts.0)
-    (λ (network : SketchDomain). streams_for network texts.1))) parts) ∙ t.1 in
-    let a = stepped {B = PlanFromTalkers} (network_of_part limits domain) (λ (network : SketchDomain). streams_for network streams) t.0 inner in
+    (λ (network : NetworkDomain). streams_for network texts.1))) parts) ∙ t.1 in
+    let a = stepped {B = PlanFromTalkers} (network_of_part limits domain) (λ (network : NetworkDomain). streams_for network streams) t.0 inner in
     let b = stepped {B = PlanFromTalkers} (open_edges_of_part a.0 streams) (plan_from a.0) t.0 a.2 in
     let told = latencies_written strict a.0 b.0 t.0 written b.2 t.2 in
     record { network = a.0; is_network = a.1; edge = b.0; at_edges = b.1; plan = told.0; admitted = told.1; written_is = told.2 }
@@ -225,7 +225,7 @@ threads_are_as_written come edges agree may_run verdicts limits strict domain st
     let over = run_over agree may_run limits cycles domain streams input begins l.network planned s l.is_network read told.holds in
     let one : l.network ≡ network = same_ok l.network network (sym l.is_network ∙ is_network) in
     let same : planned ≡ streams_planned =
-    same_ok planned streams_planned (sym read ∙ ap (λ (n : SketchDomain). planned_of_part n streams) one ∙ are_planned) in
+    same_ok planned streams_planned (sym read ∙ ap (λ (n : NetworkDomain). planned_of_part n streams) one ∙ are_planned) in
     let run = run_of_history s.domain told.entries s.offers s.background cycles in
     subst (λ (st : List PlannedText). AreAsWritten limits domain streams written (deliveries_of run st told.book)) same
     (as_written come limits domain streams written l s.domain (deliveries_of run planned told.book) over.runnable.domain over.domain_is

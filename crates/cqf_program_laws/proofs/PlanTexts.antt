@@ -4,8 +4,8 @@ use Rattle.cqf_lists.specs.Results.{and_then}
 use Rattle.cqf_model.specs.declared.limits.Limits.{Limits}
 use Rattle.cqf_model.specs.Domain.{Domain}
 use Rattle.cqf_text.specs.Parts.{parts_of}
-use Rattle.cqf_sketch.specs.SketchDomain.{AreCandidates, SketchDomain, sketch_domain_of_text}
-use Rattle.cqf_sketch.specs.StreamsText.{StreamText, sketch_streams_of_text}
+use Rattle.cqf_network.specs.NetworkDomain.{AreCandidates, NetworkDomain, open_network_of_text}
+use Rattle.cqf_network.specs.StreamsText.{StreamText, network_streams_of_text}
 use Rattle.cqf_edge.specs.EdgeStreams.{EdgeStreamsText, edge_streams}
 use Rattle.cqf_output.specs.Stops.{or_line}
 use Rattle.cqf_program_scenario.specs.Lines.{domain_line}
@@ -14,54 +14,54 @@ use Rattle.cqf_program_scenario.specs.Parts.{two_parts}
 use Rattle.cqf_program_plans.specs.Reserving.{flows_line}
 use Rattle.cqf_program_plans.proofs.CompileLemmas.{same_ok}
 use Rattle.cqf_program_placing.specs.Settled.{SettledStream}
-use Rattle.cqf_program_sketch.specs.PlanOutput.{IsPlanText, IsPlannedOf, Sketched, settled_edges, sketch_input, sketch_line, unentered_line}
-use Rattle.cqf_program_sketch.specs.ReadPlans.{ToldPlansReadBack}
+use Rattle.cqf_program_planning.specs.PlanOutput.{IsPlanText, IsPlannedOf, PlanSource, settled_edges, planning_input, network_line, unentered_line}
+use Rattle.cqf_program_planning.specs.ReadPlans.{ToldPlansReadBack}
 use Rattle.cqf_program_laws.specs.PlanLaws.{IsKeptPlan}
 use Rattle.cqf_program_laws.specs.ToldPlans.{AreShallow, HasKeptPlan, ToldPlansRun}
 use Rattle.cqf_program_laws.proofs.ReadNetworks.{domain_is_read, network_is_read}
 use Rattle.cqf_program_laws.proofs.Scripts.{stepped}
 
 -- the texts of a network that is to be planned are the parts of its input
-abbrev with_settled : List ℕ × List ℕ → SketchDomain → EdgeStreamsText → List SettledStream → Result Sketched (List ℕ)
+abbrev with_settled : List ℕ × List ℕ → NetworkDomain → EdgeStreamsText → List SettledStream → Result PlanSource (List ℕ)
 with_settled parts network edge settled =
     Ok (record { domain = network; streams = settled; times = edge.times; domain_text = parts.0; streams_text = parts.1 })
 
-abbrev with_edges : List ℕ × List ℕ → SketchDomain → EdgeStreamsText → Result Sketched (List ℕ)
+abbrev with_edges : List ℕ × List ℕ → NetworkDomain → EdgeStreamsText → Result PlanSource (List ℕ)
 with_edges parts network edge = and_then (settled_edges network edge) (with_settled parts network edge)
 
-abbrev with_streams : List ℕ × List ℕ → SketchDomain → List StreamText → Result Sketched (List ℕ)
+abbrev with_streams : List ℕ × List ℕ → NetworkDomain → List StreamText → Result PlanSource (List ℕ)
 with_streams parts network wanted = and_then (or_line unentered_line (edge_streams network wanted)) (with_edges parts network)
 
-abbrev with_network : List ℕ × List ℕ → SketchDomain → Result Sketched (List ℕ)
-with_network parts network = and_then (or_line flows_line (sketch_streams_of_text parts.1)) (with_streams parts network)
+abbrev with_network : List ℕ × List ℕ → NetworkDomain → Result PlanSource (List ℕ)
+with_network parts network = and_then (or_line flows_line (network_streams_of_text parts.1)) (with_streams parts network)
 
-abbrev with_parts : Limits → Option (List ℕ) → List ℕ × List ℕ → Result Sketched (List ℕ)
-with_parts limits given parts = and_then (or_line sketch_line (sketch_domain_of_text limits given parts.0)) (with_network parts)
+abbrev with_parts : Limits → Option (List ℕ) → List ℕ × List ℕ → Result PlanSource (List ℕ)
+with_parts limits given parts = and_then (or_line network_line (open_network_of_text limits given parts.0)) (with_network parts)
 
-are_texts : (limits : Limits) (given : Option (List ℕ)) (input : List ℕ) (sketched : Sketched) → sketch_input limits given input ≡ Ok sketched →
-    two_parts (parts_of input) ≡ Ok (sketched.domain_text, sketched.streams_text)
-are_texts limits given input sketched h =
-    let p = stepped {B = Sketched} (two_parts (parts_of input)) (with_parts limits given) sketched h in
-    let a = stepped {B = Sketched} (or_line sketch_line (sketch_domain_of_text limits given p.0.0)) (with_network p.0) sketched p.2 in
-    let b = stepped {B = Sketched} (or_line flows_line (sketch_streams_of_text p.0.1)) (with_streams p.0 a.0) sketched a.2 in
-    let c = stepped {B = Sketched} (or_line unentered_line (edge_streams a.0 b.0)) (with_edges p.0 a.0) sketched b.2 in
-    let e = stepped {B = Sketched} (settled_edges a.0 c.0) (with_settled p.0 a.0 c.0) sketched c.2 in
-    let made : Sketched = record { domain = a.0; streams = e.0; times = c.0.times; domain_text = p.0.0; streams_text = p.0.1 } in
-    let same = same_ok made sketched e.2 in
-    p.1 ∙ ap (λ (s : Sketched). Ok (s.domain_text, s.streams_text)) same
+are_texts : (limits : Limits) (given : Option (List ℕ)) (input : List ℕ) (source : PlanSource) → planning_input limits given input ≡ Ok source →
+    two_parts (parts_of input) ≡ Ok (source.domain_text, source.streams_text)
+are_texts limits given input source h =
+    let p = stepped {B = PlanSource} (two_parts (parts_of input)) (with_parts limits given) source h in
+    let a = stepped {B = PlanSource} (or_line network_line (open_network_of_text limits given p.0.0)) (with_network p.0) source p.2 in
+    let b = stepped {B = PlanSource} (or_line flows_line (network_streams_of_text p.0.1)) (with_streams p.0 a.0) source a.2 in
+    let c = stepped {B = PlanSource} (or_line unentered_line (edge_streams a.0 b.0)) (with_edges p.0 a.0) source b.2 in
+    let e = stepped {B = PlanSource} (settled_edges a.0 c.0) (with_settled p.0 a.0 c.0) source c.2 in
+    let made : PlanSource = record { domain = a.0; streams = e.0; times = c.0.times; domain_text = p.0.0; streams_text = p.0.1 } in
+    let same = same_ok made source e.2 in
+    p.1 ∙ ap (λ (s : PlanSource). Ok (s.domain_text, s.streams_text)) same
 
 -- the text of a plan
-told_plan : ToldPlansReadBack → (limits : Limits) (given : Option (List ℕ)) (input text : List ℕ) (sketched : Sketched) → IfSome given AreCandidates →
-    AreShallow input → sketch_input limits given input ≡ Ok sketched → IsPlanText sketched text → HasKeptPlan limits given input text
-told_plan back limits given input text sketched candidates shallow h plan =
-    let texts = shallow sketched.domain_text sketched.streams_text (are_texts limits given input sketched h) in
-    let read = back limits given input text sketched candidates h texts.0 texts.1 plan in
+told_plan : ToldPlansReadBack → (limits : Limits) (given : Option (List ℕ)) (input text : List ℕ) (source : PlanSource) → IfSome given AreCandidates →
+    AreShallow input → planning_input limits given input ≡ Ok source → IsPlanText source text → HasKeptPlan limits given input text
+told_plan back limits given input text source candidates shallow h plan =
+    let texts = shallow source.domain_text source.streams_text (are_texts limits given input source h) in
+    let read = back limits given input text source candidates h texts.0 texts.1 plan in
     let network = read.network in
     let part : network_of_part limits text ≡ Ok network = ap (or_line domain_line) read.reads.network_is in
     let good = read.good in
-    let whole = domain_is_read limits text (domain_of network) (ap (λ found. and_then found (λ (n : SketchDomain). Ok (domain_of n))) part) in
+    let whole = domain_is_read limits text (domain_of network) (ap (λ found. and_then found (λ (n : NetworkDomain). Ok (domain_of n))) part) in
     record {
-      sketched = sketched;
+      source = source;
       is_input = h;
       domain = plan.domain;
       flows = plan.flows;
@@ -87,8 +87,8 @@ told_plan back limits given input text sketched candidates shallow h plan =
     }
 
 pub told_plans_run : ToldPlansReadBack → ToldPlansRun
-told_plans_run back limits given input text candidates shallow told = by (sketch_input limits given input) refl told
+told_plans_run back limits given input text candidates shallow told = by (planning_input limits given input) refl told
   where
-    by : (found : Result Sketched (List ℕ)) → sketch_input limits given input ≡ found → IsPlannedOf false found (Ok text) → HasKeptPlan limits given input text
-    by (Ok sketched) is plan = told_plan back limits given input text sketched candidates shallow is plan
+    by : (found : Result PlanSource (List ℕ)) → planning_input limits given input ≡ found → IsPlannedOf false found (Ok text) → HasKeptPlan limits given input text
+    by (Ok source) is plan = told_plan back limits given input text source candidates shallow is plan
     by (Err line) is refused = absurd (cc)

@@ -25,9 +25,9 @@ use Rattle.cqf_traffic.specs.declared.faults.FlowsFault.TheVariants as flows_fau
 use Rattle.cqf_traffic.specs.FlowsText.{FlowText, first_lack, first_lack_of, first_lack_within, flow_from, flows_from, flows_in, flows_of_array}
 use Rattle.cqf_traffic.specs.FlowsText.{flows_of_text, or_streams, traffic_or}
 use Rattle.cqf_traffic.specs.TrafficText.{first_owed}
-use Rattle.cqf_sketch.specs.NetworkFlows.{NetworkFlowText, network_flow_from, network_flows_from, network_flows_in, network_flows_of_array, network_flows_of_text}
-use Rattle.cqf_sketch.specs.SketchDomain.{SketchDomain}
-use Rattle.cqf_sketch.specs.StreamsText.{listeners_read, shortest_read, talker_read}
+use Rattle.cqf_network.specs.NetworkFlows.{NetworkFlowText, network_flow_from, network_flows_from, network_flows_in, network_flows_of_array, network_flows_of_text}
+use Rattle.cqf_network.specs.NetworkDomain.{NetworkDomain}
+use Rattle.cqf_network.specs.StreamsText.{listeners_read, shortest_read, talker_read}
 use Rattle.cqf_edge.specs.declared.uses.Handed.{Handed}
 use Rattle.cqf_edge.specs.EdgeFlows.{EdgeFlowsText, at_edges, edge_flows, edges_with, flow_behind, flows_behind, handed_of, handed_of_all, passage_of}
 use Rattle.cqf_edge.specs.Uses.{bounds_of}
@@ -253,13 +253,13 @@ open_without text edge h =
     }
 
 -- where some has, they are what comes of what is handed over
-pub record AreByAccess (network : SketchDomain) (text : List ℕ) (edge : EdgeFlowsText) : Type 0 where
+pub record AreByAccess (network : NetworkDomain) (text : List ℕ) (edge : EdgeFlowsText) : Type 0 where
   pub found : List NetworkFlowText
   pub are_read : network_flows_of_text text ≡ Ok found
   pub at_edges : edge_flows network found ≡ Ok edge
   pub none_full : edge.full ≡ None
 
-pub open_by_access : (network : SketchDomain) (text : List ℕ) (edge : EdgeFlowsText) → and_then (edges_by_access network text) open_edge ≡ Ok edge →
+pub open_by_access : (network : NetworkDomain) (text : List ℕ) (edge : EdgeFlowsText) → and_then (edges_by_access network text) open_edge ≡ Ok edge →
     AreByAccess network text edge
 open_by_access network text edge h =
     let o = stepped {B = EdgeFlowsText} (edges_by_access network text) open_edge edge h in
@@ -289,7 +289,7 @@ edges_are_planned network text edge h = by (has_access network) h
     by false read = edges_read_without text edge read
 
 -- what is handed over, one for each stream
-pub handed_each : (network : SketchDomain) (all : List NetworkFlowText) (handed : List (Option Handed)) → handed_of_all network all ≡ Ok handed →
+pub handed_each : (network : NetworkDomain) (all : List NetworkFlowText) (handed : List (Option Handed)) → handed_of_all network all ≡ Ok handed →
     length handed ≡ length all
 handed_each network [] handed h =
     let none : [] ≡ handed = same_ok {A = List (Option Handed)} [] handed h in
@@ -310,7 +310,7 @@ pub optional : {A : Type 0} (P : Option A → Type 0) (o : Option A) → P None 
 optional P None without with_one = without
 optional P (Some x) without with_one = with_one x
 
-requests_behind : (network : SketchDomain) (whole handed : List (Option Handed)) (all : List NetworkFlowText) → length handed ≡ length all →
+requests_behind : (network : NetworkDomain) (whole handed : List (Option Handed)) (all : List NetworkFlowText) → length handed ≡ length all →
     asks_of (flows_behind (map (passage_of network (bounds_of network whole)) handed) all) ≡ asks_of (flows_in_file all)
 requests_behind network whole [] [] same = refl
 requests_behind network whole [] (one ∷ all) same = absurd (omega (arith, same))
@@ -320,7 +320,7 @@ requests_behind network whole (h ∷ handed) (one ∷ all) same =
     let first = optional (λ p. (flow_behind p one.flow).0.0 ≡ one.flow.0.0) (passage_of network (bounds_of network whole) h) refl (λ p. refl) in
     λ i. first i ∷ rest i
 
-pub same_requests : (network : SketchDomain) (found : List NetworkFlowText) (edge : EdgeFlowsText) → edge_flows network found ≡ Ok edge →
+pub same_requests : (network : NetworkDomain) (found : List NetworkFlowText) (edge : EdgeFlowsText) → edge_flows network found ≡ Ok edge →
     asks_of edge.flows ≡ asks_of (flows_in_file found)
 same_requests network found edge h =
     let e = stepped {B = EdgeFlowsText} (handed_of_all network found) (λ (handed : List (Option Handed)). Ok (edges_with network found handed)) edge h in
@@ -328,7 +328,7 @@ same_requests network found edge h =
     (requests_behind network e.0 e.0 found (handed_each network found e.0 e.1))
 
 -- by access links
-edges_are_paced : (network : SketchDomain) (text : List ℕ) (streams : List PlannedText) →
+edges_are_paced : (network : NetworkDomain) (text : List ℕ) (streams : List PlannedText) →
     and_then (and_then (edges_by_access network text) open_edge) without_traffic ≡ Ok streams →
     paced_of_text text ≡ Ok (map (λ (planned : PlannedText). planned.0) streams)
 edges_are_paced network text streams h =
@@ -376,9 +376,9 @@ calls_are cycles texts streams h =
 pub readers_agree_on_parts : ReadersAgreeOnParts
 readers_agree_on_parts limits cycles texts streams h = by (network_of_part limits texts.domain) refl
   where
-    by : (found : Result SketchDomain (List ℕ)) → network_of_part limits texts.domain ≡ found →
+    by : (found : Result NetworkDomain (List ℕ)) → network_of_part limits texts.domain ≡ found →
         and_then found (with_network cycles texts)
-        ≡ and_then (and_then (and_then found (λ (network : SketchDomain). Ok (domain_of network)))
+        ≡ and_then (and_then (and_then found (λ (network : NetworkDomain). Ok (domain_of network)))
         (λ (d : Domain). and_then (calls_in cycles texts) (made_by texts d))) (with_scenario streams)
     by (Err line) is = refl
     by (Ok network) is =
@@ -396,7 +396,7 @@ planned_are_scenarios limits cycles input s streams h =
     let texts : RunTexts = t.0 in
     let of = read_of_parts limits cycles texts (s, streams) t.2 in
     let agree = readers_agree_on_parts limits cycles texts streams (λ network is.
-    subst (λ (n : SketchDomain). planned_of_part n texts.streams ≡ Ok streams) (same_ok of.network network (sym of.is_network ∙ is)) of.streams) in
+    subst (λ (n : NetworkDomain). planned_of_part n texts.streams ≡ Ok streams) (same_ok of.network network (sym of.is_network ∙ is)) of.streams) in
     let c = stepped {B = Read} (scenario_of limits cycles texts) (with_scenario streams) (s, streams) (sym agree ∙ t.2) in
     let made : Read = (c.0, streams) in
     let found : Read = (s, streams) in

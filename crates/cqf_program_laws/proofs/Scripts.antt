@@ -20,7 +20,7 @@ use Rattle.cqf_text.specs.Lines.{lines_of}
 use Rattle.cqf_text.specs.Parts.{parts_of}
 use Rattle.cqf_topology.specs.PlannedText.{PlannedText}
 use Rattle.cqf_topology.specs.PacedText.{PacedText, paced_of_text}
-use Rattle.cqf_sketch.specs.SketchDomain.{SketchDomain}
+use Rattle.cqf_network.specs.NetworkDomain.{NetworkDomain}
 use Rattle.cqf_admission.specs.Asking.{asked_by}
 use Rattle.cqf_admission.specs.declared.faults.ScriptFault.{ScriptFault}
 use Rattle.cqf_admission.specs.declared.faults.ScriptFault.TheVariants.{BadLine, UnknownStream, TooMany}
@@ -217,12 +217,12 @@ with_scenario found scenario = Ok (scenario, found)
 abbrev pub with_streams : ℕ → RunTexts → Domain → List PlannedText → Result Read (List ℕ)
 with_streams cycles texts d found = and_then (scenario_behind cycles d (asked_in found) texts) (with_scenario found)
 
-abbrev pub with_network : ℕ → RunTexts → SketchDomain → Result Read (List ℕ)
+abbrev pub with_network : ℕ → RunTexts → NetworkDomain → Result Read (List ℕ)
 with_network cycles texts network = and_then (planned_of_part network texts.streams) (with_streams cycles texts (domain_of network))
 
 -- what is read of its parts
 pub record IsReadOf (limits : Limits) (cycles : ℕ) (texts : RunTexts) (read : Read) : Type 0 where
-  pub network : SketchDomain
+  pub network : NetworkDomain
   pub is_network : network_of_part limits texts.domain ≡ Ok network
   pub streams : planned_of_part network texts.streams ≡ Ok read.1
   pub scenario : scenario_behind cycles (domain_of network) (asked_in read.1) texts ≡ Ok read.0

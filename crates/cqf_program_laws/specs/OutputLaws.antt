@@ -11,8 +11,8 @@ use Rattle.cqf_model.specs.Limits.{most_cycles}
 use Rattle.cqf_model.specs.Run.{Run}
 use Rattle.cqf_text.specs.Parts.{parts_of}
 use Rattle.cqf_topology.specs.PlannedText.{PlannedText}
-use Rattle.cqf_sketch.specs.NetworkFlows.{NetworkFlowText, network_flows_of_text}
-use Rattle.cqf_sketch.specs.SketchDomain.{AreCandidates, SketchDomain}
+use Rattle.cqf_network.specs.NetworkFlows.{NetworkFlowText, network_flows_of_text}
+use Rattle.cqf_network.specs.NetworkDomain.{AreCandidates, NetworkDomain}
 use Rattle.cqf_traffic.specs.FlowsText.{FlowText}
 use Rattle.cqf_edge.specs.declared.edge.AccessTimes.{AccessTimes}
 use Rattle.cqf_edge.specs.EdgeFlows.{EdgeFlowsText, edge_flows}
@@ -24,7 +24,7 @@ use Rattle.cqf_program_plans.specs.Compile.Output.{admitted_from}
 use Rattle.cqf_program_plans.specs.Edges.{open_edges_of_part}
 use Rattle.cqf_program_plans.specs.Latency.Input.{asked_in, latency_of_input}
 use Rattle.cqf_program_plans.specs.Latency.Text.{deadline_of, latencies_from, latencies_of_row, latency_behind, text_of_latency, times_of, verdict_on_deadline}
-use Rattle.cqf_program_sketch.specs.PlanOutput.{IsPlanOf}
+use Rattle.cqf_program_planning.specs.PlanOutput.{IsPlanOf}
 use Rattle.cqf_program_runs.specs.declared.deliveries.delivery.Delivery.{Delivery}
 use Rattle.cqf_program_runs.specs.declared.deliveries.delivery.Fate.TheVariants as fate
 use Rattle.cqf_program_runs.specs.declared.deliveries.delivery.Journey.{Journey}
@@ -57,7 +57,7 @@ pub record BeginsWith (domain streams input : List ℕ) : Type 0 where
 -- the network of a text keeps its word in the book of a run: each of its streams from its edge bridge on, and each that is handed to an access link from
 -- the hand-over on
 pub record TextKeepsItsWord (limits : Limits) (text : List ℕ) (run : Run) (cycles : ℕ) (book : Contents) : Type 0 where
-  pub network : SketchDomain
+  pub network : NetworkDomain
   pub is_network : network_of_part limits text ≡ Ok network
   pub found : List NetworkFlowText
   pub are_streams : network_flows_of_text text ≡ Ok found
@@ -111,7 +111,7 @@ AreAsJudgedFrom d rows edge deliveries = (row : Row) (latency : Latency) (delive
 -- an output of `latency` is the text of the latencies of a network's streams, from where they begin. At their edge bridges they are all admitted
 -- before cycle 0; and deliveries are as these latencies say
 pub record AreAsWritten (limits : Limits) (domain streams written : List ℕ) (deliveries : List Delivery) : Type 0 where
-  pub network : SketchDomain
+  pub network : NetworkDomain
   pub is_network : network_of_part limits domain ≡ Ok network
   pub edge : EdgeFlowsText
   pub at_edges : open_edges_of_part network streams ≡ Ok edge
@@ -135,7 +135,7 @@ DeliveriesAreAsWritten =
 -- and so are those in the book of each output of `run --threads`
 abbrev pub ThreadsAreAsWritten : Type 0
 ThreadsAreAsWritten =
-    (limits : Limits) (strict : Bool) (domain streams plan written : List ℕ) (cycles : ℕ) (input output : List ℕ) (network : SketchDomain)
+    (limits : Limits) (strict : Bool) (domain streams plan written : List ℕ) (cycles : ℕ) (input output : List ℕ) (network : NetworkDomain)
     (planned : List PlannedText) → HasTexts domain streams plan → latency_of_input limits strict plan ≡ Ok written →
     network_of_part limits domain ≡ Ok network → planned_of_part network streams ≡ Ok planned → BeginsWith domain streams input →
     (told : IsThreadsOutput limits cycles input output) →

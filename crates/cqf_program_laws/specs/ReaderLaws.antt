@@ -6,8 +6,8 @@ use Rattle.cqf_topology.specs.DomainText.{IsDomain}
 use Rattle.cqf_topology.specs.PacedText.{paced_of_text}
 use Rattle.cqf_topology.specs.PlannedText.{PlannedText, planned_of_text}
 use Rattle.cqf_traffic.specs.FlowsText.{FlowText, flows_of_text}
-use Rattle.cqf_sketch.specs.NetworkFlows.{NetworkFlowText, network_flows_of_text}
-use Rattle.cqf_sketch.specs.SketchDomain.{SketchDomain}
+use Rattle.cqf_network.specs.NetworkFlows.{NetworkFlowText, network_flows_of_text}
+use Rattle.cqf_network.specs.NetworkDomain.{NetworkDomain}
 use Rattle.cqf_edge.specs.EdgeFlows.{EdgeFlowsText}
 use Rattle.cqf_program_scenario.specs.Closing.{MayBeRun}
 use Rattle.cqf_program_scenario.specs.Networks.{network_of_part}
@@ -34,19 +34,19 @@ PlannedStreamsArePaced = (text : List ℕ) (streams : List PlannedText) → plan
 -- the streams of a part of a network, as they come to their edge bridges, are read without their traffic as the same streams with the same deadlines
 -- from there on
 abbrev pub EdgesArePlanned : Type 0
-EdgesArePlanned = (network : SketchDomain) (text : List ℕ) (edge : EdgeFlowsText) → open_edges_of_part network text ≡ Ok edge →
+EdgesArePlanned = (network : NetworkDomain) (text : List ℕ) (edge : EdgeFlowsText) → open_edges_of_part network text ≡ Ok edge →
     planned_of_part network text ≡ Ok (map (λ (flow : FlowText). flow.0) edge.flows)
 
 -- and streams of a part that are read with these deadlines are read without them as the same requests
 abbrev pub PlannedPartsArePaced : Type 0
-PlannedPartsArePaced = (network : SketchDomain) (text : List ℕ) (streams : List PlannedText) → planned_of_part network text ≡ Ok streams →
+PlannedPartsArePaced = (network : NetworkDomain) (text : List ℕ) (streams : List PlannedText) → planned_of_part network text ≡ Ok streams →
     paced_of_text text ≡ Ok (map (λ (planned : PlannedText). planned.0) streams)
 
 -- so if the streams are read with their deadlines in a network, or the network isn't read, `deliveries`, `check` and `summary` read what `run` and
 -- `report` read, or refuse the parts for the same first fault
 abbrev pub ReadersAgreeOnParts : Type 0
 ReadersAgreeOnParts = (limits : Limits) (cycles : ℕ) (texts : RunTexts) (streams : List PlannedText) →
-    ((network : SketchDomain) → network_of_part limits texts.domain ≡ Ok network → planned_of_part network texts.streams ≡ Ok streams) →
+    ((network : NetworkDomain) → network_of_part limits texts.domain ≡ Ok network → planned_of_part network texts.streams ≡ Ok streams) →
     planned_scenario_of limits cycles texts ≡ and_then (scenario_of limits cycles texts) (λ (s : Scenario). Ok (s, streams))
 
 -- each input that is accepted with its deadlines is accepted as the same scenario without them: with the same domain, calls, offers and

@@ -24,9 +24,9 @@ use Rattle.cqf_laws_timing.specs.Streams.{AdmitsOnly}
 use Rattle.cqf_laws_timing.specs.Traffic.{offers_named}
 use Rattle.cqf_traffic.specs.FlowsText.{FlowText}
 use Rattle.cqf_traffic.specs.TrafficText.{promise_of}
-use Rattle.cqf_sketch.specs.declared.domain.TalkerLink.{TalkerLink}
-use Rattle.cqf_sketch.specs.NetworkFlows.{NetworkFlowText}
-use Rattle.cqf_sketch.specs.SketchDomain.{SketchDomain}
+use Rattle.cqf_network.specs.declared.domain.TalkerLink.{TalkerLink}
+use Rattle.cqf_network.specs.NetworkFlows.{NetworkFlowText}
+use Rattle.cqf_network.specs.NetworkDomain.{NetworkDomain}
 use Rattle.cqf_access.specs.Access.{AccessStream, Crossing, IsSent, Other, promises_of}
 use Rattle.cqf_access.specs.Arriving.{AreArrivals, Arrives}
 use Rattle.cqf_access.specs.Closer.{AreInTurn}
@@ -48,7 +48,7 @@ use Rattle.cqf_program_laws.specs.PlanLaws.{ComesAsPromised, IsHeardLoosely, IsK
 -- ---- what a station does
 
 -- a stream of a network's file that is handed to an access link: in the file, at its edge bridge, what is handed over, and the link
-pub record IsByAccess (network : SketchDomain) (found : List NetworkFlowText) (edge : EdgeFlowsText) (stream : ℕ) (one : NetworkFlowText) (flow : FlowText)
+pub record IsByAccess (network : NetworkDomain) (found : List NetworkFlowText) (edge : EdgeFlowsText) (stream : ℕ) (one : NetworkFlowText) (flow : FlowText)
     (handed : Handed) (link : TalkerLink) : Type 0 where
   pub there : slice_get found stream ≡ Some one
   pub at_edge : slice_get edge.flows stream ≡ Some flow
@@ -88,7 +88,7 @@ pub record IsOfferedThere (run : Run) (edge : EdgeFlowsText) (handed : Handed) (
   pub in_turn : is_turn (pace_of (asked_in flow)) 0 (offer_cycle run.domain o) ≡ true
 
 -- all of these together
-pub record IsHandedInRun (network : SketchDomain) (found : List NetworkFlowText) (run : Run) (edge : EdgeFlowsText) (one : NetworkFlowText) (flow : FlowText)
+pub record IsHandedInRun (network : NetworkDomain) (found : List NetworkFlowText) (run : Run) (edge : EdgeFlowsText) (one : NetworkFlowText) (flow : FlowText)
     (row : Row) (x : Crossing) (o : Offered) (offers : List Offer) : Type 0 where
   pub stream : ℕ
   pub handed : Handed
@@ -107,7 +107,7 @@ pub record IsHandedInRun (network : SketchDomain) (found : List NetworkFlowText)
 
 -- in the book of a run each such frame is covered, which means that it isn't dropped, and at each listener that the plan has for its stream it is
 -- whole within the deadline that the file says after it was handed over, if the run is long enough
-abbrev pub NetworkKeepsItsWord : SketchDomain → List NetworkFlowText → EdgeFlowsText → Run → ℕ → Contents → Type 0
+abbrev pub NetworkKeepsItsWord : NetworkDomain → List NetworkFlowText → EdgeFlowsText → Run → ℕ → Contents → Type 0
 NetworkKeepsItsWord network found edge run cycles book =
     (one : NetworkFlowText) (flow : FlowText) (row : Row) (x : Crossing) (o : Offered) (offers : List Offer) →
     IsHandedInRun network found run edge one flow row x o offers → AreOffersOf run flow row offers →
@@ -116,12 +116,12 @@ NetworkKeepsItsWord network found edge run cycles book =
 -- if no access link is full, this follows from what the plan promises at edge bridges
 abbrev pub WordsHoldFromTalkers : Type 0
 WordsHoldFromTalkers =
-    (network : SketchDomain) (found : List NetworkFlowText) (edge : EdgeFlowsText) (run : Run) (cycles : ℕ) (book : Contents) →
+    (network : NetworkDomain) (found : List NetworkFlowText) (edge : EdgeFlowsText) (run : Run) (cycles : ℕ) (book : Contents) →
     edge_flows network found ≡ Ok edge → edge.full ≡ None → IsAccepted run.domain → PlanKeepsItsWord run edge.flows cycles book →
     NetworkKeepsItsWord network found edge run cycles book
 
 -- the streams of a network's file, if no access link is full and all streams keep the plan's word at their edge bridges
-pub record IsKeptNetwork (network : SketchDomain) (found : List NetworkFlowText) (edge : EdgeFlowsText) : Type 0 where
+pub record IsKeptNetwork (network : NetworkDomain) (found : List NetworkFlowText) (edge : EdgeFlowsText) : Type 0 where
   pub at_edges : edge_flows network found ≡ Ok edge
   pub none_full : edge.full ≡ None
   pub kept : IsKeptPlan (domain_of network) edge.flows
@@ -130,13 +130,13 @@ pub record IsKeptNetwork (network : SketchDomain) (found : List NetworkFlowText)
 -- any background frames
 abbrev pub NetworksKeepTheirWord : Type 0
 NetworksKeepTheirWord =
-    (network : SketchDomain) (found : List NetworkFlowText) (edge : EdgeFlowsText) (entries : List Recorded) (offers : List Offer)
+    (network : NetworkDomain) (found : List NetworkFlowText) (edge : EdgeFlowsText) (entries : List Recorded) (offers : List Offer)
     (background : List Background) (cycles : ℕ) (book : Contents) → IsKeptNetwork network found edge →
     IsBookOverList (domain_of network) (map asked_in edge.flows) entries offers background cycles book →
     NetworkKeepsItsWord network found edge (run_of_history (domain_of network) entries offers background cycles) cycles book
 
 -- a scenario over the network and its streams, within limits, that may be run in its domain
-pub record IsScenarioOver (limits : Limits) (cycles : ℕ) (input : List ℕ) (network : SketchDomain) (edge : EdgeFlowsText) (s : Scenario) : Type 0 where
+pub record IsScenarioOver (limits : Limits) (cycles : ℕ) (input : List ℕ) (network : NetworkDomain) (edge : EdgeFlowsText) (s : Scenario) : Type 0 where
   pub read : planned_scenario limits cycles input ≡ Ok (s, map (λ (flow : FlowText). flow.0) edge.flows)
   pub domain_is : s.domain ≡ domain_of network
   pub accepted : IsAccepted s.domain
@@ -145,14 +145,14 @@ pub record IsScenarioOver (limits : Limits) (cycles : ℕ) (input : List ℕ) (n
 -- in the book of each such scenario
 abbrev pub NetworksKeepTheirWordToScripts : Type 0
 NetworksKeepTheirWordToScripts =
-    (limits : Limits) (cycles : ℕ) (input : List ℕ) (network : SketchDomain) (found : List NetworkFlowText) (edge : EdgeFlowsText) (s : Scenario)
+    (limits : Limits) (cycles : ℕ) (input : List ℕ) (network : NetworkDomain) (found : List NetworkFlowText) (edge : EdgeFlowsText) (s : Scenario)
     (book : Contents) → cycles ≤ most_cycles → IsKeptNetwork network found edge → IsScenarioOver limits cycles input network edge s →
     IsBookOfScenario cycles s book → NetworkKeepsItsWord network found edge (run_of_scenario cycles s) cycles book
 
 -- and in the book of each account of its run on threads
 abbrev pub NetworksKeepTheirWordOnThreads : Type 0
 NetworksKeepTheirWordOnThreads =
-    (limits : Limits) (cycles : ℕ) (input : List ℕ) (network : SketchDomain) (found : List NetworkFlowText) (edge : EdgeFlowsText) (s : Scenario)
+    (limits : Limits) (cycles : ℕ) (input : List ℕ) (network : NetworkDomain) (found : List NetworkFlowText) (edge : EdgeFlowsText) (s : Scenario)
     (entries : List Recorded) (asked : List (List Act)) (book : Contents) → IsKeptNetwork network found edge →
     IsScenarioOver limits cycles input network edge s → AreCommandsBehind s.calls s.sealer asked →
     IsAccountOf s.domain (opening_history s) s.offers s.background cycles asked entries book →
@@ -162,7 +162,7 @@ NetworksKeepTheirWordOnThreads =
 -- the clock there, within the deadline that the file says after it was handed over, by the edge bridge's clock
 abbrev pub NetworksKeepTheirWordLoosely : Type 0
 NetworksKeepTheirWordLoosely =
-    (network : SketchDomain) (found : List NetworkFlowText) (edge : EdgeFlowsText) (entries : List Recorded) (offers : List Offer)
+    (network : NetworkDomain) (found : List NetworkFlowText) (edge : EdgeFlowsText) (entries : List Recorded) (offers : List Offer)
     (background : List Background) (cycles : ℕ) (net : Network) (heard : Carried) → IsKeptNetwork network found edge →
     IsLooseHistory (domain_of network) entries offers background cycles (slack_of (domain_of network)) net heard →
     AdmitsOnly (map asked_in edge.flows) entries → (one : NetworkFlowText) (flow : FlowText) (row : Row) (x : Crossing) (o : Offered) →

@@ -4,21 +4,21 @@ use Rattle.cqf_model.specs.declared.limits.Limits.{Limits}
 use Rattle.cqf_model.specs.Domain.{Domain}
 use Rattle.cqf_text.specs.Parts.{parts_of}
 use Rattle.cqf_topology.specs.DomainText.{IsDomain}
-use Rattle.cqf_sketch.specs.NetworkFlows.{NetworkFlowText, network_flows_of_text}
-use Rattle.cqf_sketch.specs.SketchDomain.{AreCandidates, SketchDomain}
+use Rattle.cqf_network.specs.NetworkFlows.{NetworkFlowText, network_flows_of_text}
+use Rattle.cqf_network.specs.NetworkDomain.{AreCandidates, NetworkDomain}
 use Rattle.cqf_traffic.specs.FlowsText.{FlowText}
 use Rattle.cqf_edge.specs.EdgeFlows.{EdgeFlowsText}
 use Rattle.cqf_program_plans.specs.Edges.{open_edges_of_part}
 use Rattle.cqf_program_scenario.specs.Networks.{domain_of, network_of_part}
 use Rattle.cqf_program_scenario.specs.Parts.{two_parts}
-use Rattle.cqf_program_sketch.specs.Choosing.{IsPlanned}
-use Rattle.cqf_program_sketch.specs.PlanOutput.{IsPlanOf, Sketched, sketch_input}
-use Rattle.cqf_program_sketch.specs.ReadPlans.{ComeAsPlaced, IsShallow}
+use Rattle.cqf_program_planning.specs.Choosing.{IsPlanned}
+use Rattle.cqf_program_planning.specs.PlanOutput.{IsPlanOf, PlanSource, planning_input}
+use Rattle.cqf_program_planning.specs.ReadPlans.{ComeAsPlaced, IsShallow}
 use Rattle.cqf_program_laws.specs.TalkerLaws.{IsKeptNetwork}
 
 -- a text that every command reads as a network with nothing left to choose, and with these streams at their edge bridges. Its domain is well-formed and
 -- has the given limits; no access link is full, and all streams keep the plan's word
-pub record ReadsAsKeptPlan (limits : Limits) (text : List ℕ) (network : SketchDomain) (found : List NetworkFlowText) (edge : EdgeFlowsText) : Type 0 where
+pub record ReadsAsKeptPlan (limits : Limits) (text : List ℕ) (network : NetworkDomain) (found : List NetworkFlowText) (edge : EdgeFlowsText) : Type 0 where
   pub is_network : network_of_part limits text ≡ Ok network
   pub domain : IsDomain (domain_of network)
   pub limits_are : network.limits ≡ limits
@@ -29,17 +29,17 @@ pub record ReadsAsKeptPlan (limits : Limits) (text : List ℕ) (network : Sketch
 -- the plan that `plan` makes of a network file, and its text: its domain, and its streams as they were placed, with what remains of their deadlines
 -- at their edge bridges
 pub record HasKeptPlan (limits : Limits) (given : Option (List ℕ)) (input text : List ℕ) : Type 0 where
-  pub sketched : Sketched
-  pub is_input : sketch_input limits given input ≡ Ok sketched
+  pub source : PlanSource
+  pub is_input : planning_input limits given input ≡ Ok source
   pub domain : Domain
   pub flows : List FlowText
-  pub planned : IsPlanned sketched.domain sketched.streams domain flows
-  pub network : SketchDomain
+  pub planned : IsPlanned source.domain source.streams domain flows
+  pub network : NetworkDomain
   pub found : List NetworkFlowText
   pub edge : EdgeFlowsText
   pub is_read : ReadsAsKeptPlan limits text network found edge
   pub domain_is : domain_of network ≡ domain
-  pub as_placed : ComeAsPlaced domain.cycle_time sketched.streams flows edge.flows
+  pub as_placed : ComeAsPlaced domain.cycle_time source.streams flows edge.flows
 
 -- the tables of the file aren't nested deeper than the reader of a written text allows
 abbrev pub AreShallow : List ℕ → Type 0

@@ -159,7 +159,7 @@ pub fn readers_agree()
 pub fn told_plans_run()
     ensures { ToldPlansRun }
 {
-    cqf_program_sketch::told_plans_read_back();
+    cqf_program_planning::told_plans_read_back();
 }
 
 /// A plan keeps its word in each output of `run` and of `run --threads` whose input begins with a text, for its domain and its streams, that `plan`

@@ -6,7 +6,7 @@ use Rattle.cqf_lists.specs.Results.{and_then}
 use Rattle.cqf_topology.specs.declared.paced.PacedRequest.{PacedRequest}
 use Rattle.cqf_topology.specs.PacedText.{paced_text, paced_of_text}
 use Rattle.cqf_admission.specs.Asking.{asked_by, asked_paced}
-use Rattle.cqf_sketch.specs.SketchDomain.{SketchDomain}
+use Rattle.cqf_network.specs.NetworkDomain.{NetworkDomain}
 use Rattle.cqf_traffic.specs.declared.flows.Flow.{Flow}
 use Rattle.cqf_traffic.specs.FlowsText.{FlowText, flow_text}
 use Rattle.cqf_output.specs.Stops.{or_line}
@@ -25,7 +25,7 @@ more_bridges flows k flow inside is most bridges before here =
     ∙ ap (map flow_text) (sym (take_more flows k flow inside)))
 
 -- a part whose deadlines aren't read
-pub plain_part : (network : SketchDomain) (planned : Bool) (text : List ℕ) (requests : List PacedRequest) → planned ≡ false →
+pub plain_part : (network : NetworkDomain) (planned : Bool) (text : List ℕ) (requests : List PacedRequest) → planned ≡ false →
     paced_of_text text ≡ Ok (map paced_text requests) → asked_of_part network planned text ≡ Ok (map asked_paced requests)
 plain_part network planned text requests not_planned read =
     ap (λ p. asked_of_part network p text) not_planned

@@ -19,7 +19,7 @@ use Rattle.cqf_program_words.specs.declared.words.Job.TheVariants as job
 use Rattle.cqf_program_files.specs.Front.{begins_as_offers, cycles_of}
 use Rattle.cqf_program_scenario.specs.Lines.{script_line, streams_line}
 use Rattle.cqf_program_scenario.specs.Networks.{domain_of, network_of_part}
-use Rattle.cqf_sketch.specs.SketchDomain.{SketchDomain}
+use Rattle.cqf_network.specs.NetworkDomain.{NetworkDomain}
 use Rattle.cqf_program_plans.specs.Edges.{has_access}
 use Rattle.cqf_program_plans.specs.Compile.Output.{admitted_from}
 use Rattle.cqf_program_plans.specs.Latency.Input.{asked_in as asked_by_planned}
@@ -53,13 +53,13 @@ input_of first rest = first_text false first ++ flat_map text_behind rest
 
 -- the requests for the streams of a part of a network. Where their deadlines are read and a station has an access link, they are read as they
 -- come to their edge bridges
-abbrev pub asked_at_edges : SketchDomain → List ℕ → Result (List Asked) (List ℕ)
+abbrev pub asked_at_edges : NetworkDomain → List ℕ → Result (List Asked) (List ℕ)
 asked_at_edges network text = and_then (flows_of_part network text) (λ flows. Ok (map asked_in flows))
 
 abbrev pub asked_by_deadlines : List ℕ → Result (List Asked) (List ℕ)
 asked_by_deadlines text = and_then (or_line streams_line (planned_of_text text)) (λ streams. Ok (asked_by_planned streams))
 
-abbrev pub asked_of_part : SketchDomain → Bool → List ℕ → Result (List Asked) (List ℕ)
+abbrev pub asked_of_part : NetworkDomain → Bool → List ℕ → Result (List Asked) (List ℕ)
 asked_of_part network true text = if has_access network then asked_at_edges network text else asked_by_deadlines text
 asked_of_part network false text = and_then (or_line streams_line (paced_of_text text)) (λ streams. Ok (map asked_by streams))
 
@@ -78,7 +78,7 @@ with_offers limits cycles domain streams script =
     and_then (made_offers found.0 cycles found.1) (λ offers. Ok (input_of domain (streams ∷ script ∷ offers ∷ [])))))
 
 -- the script that is made for a network and the streams of a part for it; and for a plan and offers, with or without a following part
-abbrev pub calls_of_network : SketchDomain → Bool → List ℕ → Result (List ℕ) (List ℕ)
+abbrev pub calls_of_network : NetworkDomain → Bool → List ℕ → Result (List ℕ) (List ℕ)
 calls_of_network network planned streams = and_then (asked_of_part network planned streams) (made_calls (domain_of network))
 
 abbrev pub calls_for : Limits → Bool → List ℕ → List ℕ → Result (List ℕ) (List ℕ)

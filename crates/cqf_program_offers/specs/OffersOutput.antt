@@ -13,7 +13,7 @@ use Rattle.cqf_traffic.specs.FlowsText.{FlowText}
 use Rattle.cqf_traffic.specs.declared.senders.TalkerStream.{TalkerStream}
 use Rattle.cqf_traffic.specs.Offering.{frames_before, offers_before}
 use Rattle.cqf_output.specs.Stops.{fault_line}
-use Rattle.cqf_sketch.specs.SketchDomain.{SketchDomain}
+use Rattle.cqf_network.specs.NetworkDomain.{NetworkDomain}
 use Rattle.cqf_program_scenario.specs.Networks.{domain_of, network_of_part}
 use Rattle.cqf_program_scenario.specs.Parts.{two_parts}
 use Rattle.cqf_program_plans.specs.Edges.{open_edges_of_part}
@@ -26,11 +26,11 @@ too_many_line = fault_line (codes "offers") (codes "TooMany")
 
 -- the streams of a part of a network as they come to their edge bridges, with the rest of their deadlines and the traffic that they have
 -- there; or the line of the part's first fault, or of the first access link that is full
-abbrev pub flows_of_part : SketchDomain → List ℕ → Result (List FlowText) (List ℕ)
+abbrev pub flows_of_part : NetworkDomain → List ℕ → Result (List FlowText) (List ℕ)
 flows_of_part network text = and_then (open_edges_of_part network text) (λ edge. Ok edge.flows)
 
 -- the domain of a network and the streams of a part for it
-abbrev pub flows_of_network : SketchDomain → List ℕ → Result (Domain × List FlowText) (List ℕ)
+abbrev pub flows_of_network : NetworkDomain → List ℕ → Result (Domain × List FlowText) (List ℕ)
 flows_of_network network streams = and_then (flows_of_part network streams) (λ flows. Ok (domain_of network, flows))
 
 -- the domain and the streams of two parts that are read within some limits, or the line of the first fault: of the domain, then of the streams

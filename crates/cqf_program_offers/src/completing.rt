@@ -15,11 +15,11 @@ use crate::parts::{copied_requests, requests_part};
 use crate::reading::flows_of_parts;
 use cqf_admission::{Names, Ordered};
 use cqf_model::Limits;
+use cqf_network::NetworkDomain;
 use cqf_output::Stop;
 use cqf_program_files::{begins_as_offers, cycles_of};
 use cqf_program_scenario::{domain_of, network_part, script_part};
 use cqf_program_words::{Job, joined};
-use cqf_sketch::SketchDomain;
 use cqf_text::parts;
 use cqf_topology::PacedRequest;
 use std::alloc::Global;
@@ -109,7 +109,7 @@ fn with_offers(
 /// Returns the script that is made for a network and the streams of a part for it.
 fn calls_of_network(
     alloc: Global,
-    network: &SketchDomain,
+    network: &NetworkDomain,
     planned: bool,
     streams: &[u8],
 ) -> Result<Vec<u8>, Stop>

@@ -8,10 +8,10 @@ ghost use Rattle.cqf_program_plans.specs.Edges.{has_access};
 ghost use Rattle.cqf_traffic.specs.FlowsText.{flow_text};
 
 use crate::reading::flows_part;
+use cqf_network::NetworkDomain;
 use cqf_output::Stop;
 use cqf_program_plans::parted;
 use cqf_program_scenario::{planned_part, streams_part};
-use cqf_sketch::SketchDomain;
 use cqf_topology::PacedRequest;
 use cqf_traffic::Flow;
 use cqf_units::Memory;
@@ -54,7 +54,7 @@ fn requests_by_deadlines(alloc: Global, text: &[u8]) -> Result<Vec<PacedRequest>
 /// Returns the requests for the streams of a part, which are read as they come to their edge bridges.
 fn requests_at_edges(
     alloc: Global,
-    network: &SketchDomain,
+    network: &NetworkDomain,
     text: &[u8],
 ) -> Result<Vec<PacedRequest>, Stop>
     ensures ok { IfOk result (λ requests. asked_at_edges network.now text.now ≡ Ok (map asked_paced requests.items)) }
@@ -65,7 +65,7 @@ fn requests_at_edges(
 }
 
 /// Returns whether a station of a network has an access link.
-fn has_access(network: &SketchDomain) -> bool
+fn has_access(network: &NetworkDomain) -> bool
     ensures { result ≡ has_access network.now }
 {
     !network.talkers().is_empty()
@@ -74,7 +74,7 @@ fn has_access(network: &SketchDomain) -> bool
 /// Returns the requests for the streams of a part whose deadlines are read.
 fn planned_requests(
     alloc: Global,
-    network: &SketchDomain,
+    network: &NetworkDomain,
     text: &[u8],
 ) -> Result<Vec<PacedRequest>, Stop>
     ensures ok { IfOk result (λ requests. asked_of_part network.now true text.now ≡ Ok (map asked_paced requests.items)) }
@@ -92,7 +92,7 @@ fn planned_requests(
 /// link that is full. Returns `Err` with status 3 if an allocation fails.
 pub(crate) fn requests_part(
     alloc: Global,
-    network: &SketchDomain,
+    network: &NetworkDomain,
     planned: bool,
     text: &[u8],
 ) -> Result<Vec<PacedRequest>, Stop>

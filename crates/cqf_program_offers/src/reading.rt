@@ -5,10 +5,10 @@ ghost use Rattle.cqf_output.specs.Stops.{IsRefused};
 ghost use Rattle.cqf_traffic.specs.FlowsText.{flow_text};
 
 use cqf_model::Limits;
+use cqf_network::NetworkDomain;
 use cqf_output::Stop;
 use cqf_program_plans::open_edges_part;
 use cqf_program_scenario::{domain_of, network_part, two_parts};
-use cqf_sketch::SketchDomain;
 use cqf_topology::Domain;
 use cqf_traffic::Flow;
 use std::alloc::Global;
@@ -18,7 +18,7 @@ use std::alloc::Global;
 /// if an allocation fails.
 pub(crate) fn flows_part(
     alloc: Global,
-    network: &SketchDomain,
+    network: &NetworkDomain,
     text: &[u8],
 ) -> Result<Vec<Flow>, Stop>
     ensures ok { IfOk result (λ flows. flows_of_part network.now text.now ≡ Ok (map flow_text flows.items)) }
@@ -31,7 +31,7 @@ pub(crate) fn flows_part(
 /// Returns the domain of a network and the streams of a part for it. Returns `Err` as [`flows_part`].
 fn flows_of_network(
     alloc: Global,
-    network: &SketchDomain,
+    network: &NetworkDomain,
     streams: &[u8],
 ) -> Result<(Domain, Vec<Flow>), Stop>
     ensures ok { IfOk result (λ found. flows_of_network network.now streams.now ≡ Ok (found.0, map flow_text found.1.items)) }

@@ -27,10 +27,10 @@ use Rattle.cqf_model.specs.Paces.{each_cycle}
 use Rattle.cqf_model.specs.Table.{links_in}
 use Rattle.cqf_model.proofs.Texts.{is_text_itself, is_text_same}
 use Rattle.cqf_topology.specs.DomainText.{IsDomain}
-use Rattle.cqf_sketch.specs.Steps.{led_along}
-use Rattle.cqf_sketch.specs.WayLaws.{FirstWaysHaveNoLoop, FirstWaysPartForGood, PartForGood, ends_along}
-use Rattle.cqf_sketch.specs.Ways.{IsFirstWay, has_room, led_to}
-use Rattle.cqf_sketch.proofs.PartLemmas.{leads_on}
+use Rattle.cqf_network.specs.Steps.{led_along}
+use Rattle.cqf_network.specs.WayLaws.{FirstWaysHaveNoLoop, FirstWaysPartForGood, PartForGood, ends_along}
+use Rattle.cqf_network.specs.Ways.{IsFirstWay, has_room, led_to}
+use Rattle.cqf_network.proofs.PartLemmas.{leads_on}
 use Rattle.cqf_topology.specs.NodeNames.{name_of_node}
 use Rattle.cqf_program_plans.specs.EndNames.{name_of_end}
 use Rattle.cqf_admission.specs.Costs.{left_beside, left_in_turns}

@@ -9,7 +9,7 @@ use Rattle.cqf_model.specs.declared.topology.Node.{Node}
 use Rattle.cqf_model.specs.declared.topology.Node.TheVariants.{Bridge, Station}
 use Rattle.cqf_model.specs.Domain.{Domain, IsAccepted, IsNode}
 use Rattle.cqf_model.proofs.Represented.{few_bridges}
-use Rattle.cqf_sketch.specs.Ways.{most_links}
+use Rattle.cqf_network.specs.Ways.{most_links}
 use Rattle.cqf_program_placing.specs.Hops.{AreHops, AreReachedBy, IsReachedBy, LeadsBehind, hop_of}
 use Rattle.cqf_program_placing.proofs.RouteLemmas.{to_node}
 

@@ -15,10 +15,10 @@ use Rattle.cqf_model.specs.declared.topology.Pace.{Pace}
 use Rattle.cqf_model.specs.declared.topology.Row.{Row}
 use Rattle.cqf_model.specs.Domain.{Domain, bridge_of, same_node}
 use Rattle.cqf_model.proofs.Links.{same_node_itself}
-use Rattle.cqf_sketch.specs.Steps.{led_along}
-use Rattle.cqf_sketch.specs.Ways.{IsFirstWay, IsWay, has_room, led_by, led_to}
-use Rattle.cqf_sketch.proofs.PartLemmas.{first_begins, leads_on}
-use Rattle.cqf_sketch.proofs.StepLemmas.{along-append, along-push}
+use Rattle.cqf_network.specs.Steps.{led_along}
+use Rattle.cqf_network.specs.Ways.{IsFirstWay, IsWay, has_room, led_by, led_to}
+use Rattle.cqf_network.proofs.PartLemmas.{first_begins, leads_on}
+use Rattle.cqf_network.proofs.StepLemmas.{along-append, along-push}
 use Rattle.cqf_program_placing.specs.Hops.{AreHops, LeadsBehind, has_room_behind, hop_of, left_behind, left_where, lefts_where}
 use Rattle.cqf_program_placing.proofs.RouteLemmas.{bridge_of_link}
 use Rattle.cqf_program_placing.proofs.WayNames.{first_step, leads_by}

@@ -15,9 +15,9 @@ use Rattle.cqf_model.specs.declared.topology.Link.{Link}
 use Rattle.cqf_model.specs.declared.topology.Node.{Node}
 use Rattle.cqf_model.specs.Domain.{same_node}
 use Rattle.cqf_model.proofs.Links.{same_node_itself, same_node_true}
-use Rattle.cqf_sketch.specs.Steps.{led_along}
-use Rattle.cqf_sketch.specs.WayLaws.{NothingHasRoomEverywhere}
-use Rattle.cqf_sketch.specs.Ways.{has_room, IsFirstWay, NoWay, led_by, led_to, most_links}
+use Rattle.cqf_network.specs.Steps.{led_along}
+use Rattle.cqf_network.specs.WayLaws.{NothingHasRoomEverywhere}
+use Rattle.cqf_network.specs.Ways.{has_room, IsFirstWay, NoWay, led_by, led_to, most_links}
 use Rattle.cqf_program_placing.specs.Settled.{is_led}
 
 -- a path of at most `most` links

@@ -21,9 +21,9 @@ use Rattle.cqf_model.specs.History.{is_beyond_most, is_broken_at, is_loop_at, is
 use Rattle.cqf_model.specs.Limits.{hops_within, most_reserved}
 use Rattle.cqf_model.proofs.Texts.{named_once}
 use Rattle.cqf_topology.proofs.Refusals.{and_then-Ok, ok_or-Ok, refuse-Ok}
-use Rattle.cqf_sketch.specs.SketchDomain.{HasTalkerLinks, SketchDomain, domain_at}
+use Rattle.cqf_network.specs.NetworkDomain.{HasTalkerLinks, NetworkDomain, domain_at}
 use Rattle.cqf_traffic.specs.TrafficText.{IsTrafficText, TrafficText, promise_of}
-use Rattle.cqf_sketch.specs.StreamsText.{StreamText, WantedText, Along as AlongText, Between as BetweenText}
+use Rattle.cqf_network.specs.StreamsText.{StreamText, WantedText, Along as AlongText, Between as BetweenText}
 use Rattle.cqf_admission.specs.Branches.{tree_refusal}
 use Rattle.cqf_program_placing.specs.declared.faults.PlanFault.TheVariants as fault
 use Rattle.cqf_program_placing.specs.Placing.{if_enough, reserved_by, reserved_on}
@@ -138,9 +138,9 @@ stations_apart d (name ∷ names) stations e apart =
 
 -- ---- its branches
 
-module _ (sketch : SketchDomain) (cycle other : ℕ) where
+module _ (network : NetworkDomain) (cycle other : ℕ) where
   -- a link between two nodes of a network file's domain is the same at any cycle time
-  same_link : (from to : Option Node) → link_from (domain_at sketch cycle) from to ≡ link_from (domain_at sketch other) from to
+  same_link : (from to : Option Node) → link_from (domain_at network cycle) from to ≡ link_from (domain_at network other) from to
   same_link None to = refl
   same_link (Some (Bridge b)) None = refl
   same_link (Some (Station s)) None = refl
@@ -148,36 +148,36 @@ module _ (sketch : SketchDomain) (cycle other : ℕ) where
   same_link (Some (Station s)) (Some to) = refl
 
   -- so a branch is broken at the same positions
-  same_broken : (branch : Branch) (place : ℕ) → is_broken_at (domain_at sketch cycle) branch place ≡ is_broken_at (domain_at sketch other) branch place
+  same_broken : (branch : Branch) (place : ℕ) → is_broken_at (domain_at network cycle) branch place ≡ is_broken_at (domain_at network other) branch place
   same_broken branch place =
-      let d : Domain = domain_at sketch other in
+      let d : Domain = domain_at network other in
       (λ i. begins_elsewhere d branch place
       || (nat_le 1 place && nat_lt place (length branch) && is_none (same_link (node_at d branch (place - 1)) (node_at d branch (place - 1 + 1)) i))
       || ends_at_bridge d branch place || is_beyond_most d branch place)
 
-  same_place : (paths : List Branch) → broken_place (domain_at sketch cycle) paths ≡ broken_place (domain_at sketch other) paths
+  same_place : (paths : List Branch) → broken_place (domain_at network cycle) paths ≡ broken_place (domain_at network other) paths
   same_place [] = refl
   same_place (branch ∷ paths) = (λ i. first_place (λ b place. same_broken b place i) (branch ∷ paths))
 
   -- and has the same hops
-  same_before : (branch : Branch) (place : ℕ) → link_before (domain_at sketch cycle) branch place ≡ link_before (domain_at sketch other) branch place
+  same_before : (branch : Branch) (place : ℕ) → link_before (domain_at network cycle) branch place ≡ link_before (domain_at network other) branch place
   same_before branch zero = refl
-  same_before branch (suc place) = same_link (node_at (domain_at sketch cycle) branch place) (node_at (domain_at sketch cycle) branch (place + 1))
+  same_before branch (suc place) = same_link (node_at (domain_at network cycle) branch place) (node_at (domain_at network cycle) branch (place + 1))
 
-  same_hops : (branch : Branch) → hops_along (domain_at sketch cycle) branch ≡ hops_along (domain_at sketch other) branch
+  same_hops : (branch : Branch) → hops_along (domain_at network cycle) branch ≡ hops_along (domain_at network other) branch
   same_hops branch =
-      let d : Domain = domain_at sketch cycle in
+      let d : Domain = domain_at network cycle in
       (λ i. each_below (λ place. hop_to (place + 1) (same_before branch place i) (same_link (node_at d branch place) (node_at d branch (place + 1)) i))
       (length branch - 1))
 
-  same_tree : (paths : List Branch) → tree_of (domain_at sketch cycle) paths ≡ tree_of (domain_at sketch other) paths
+  same_tree : (paths : List Branch) → tree_of (domain_at network cycle) paths ≡ tree_of (domain_at network other) paths
   same_tree paths = (λ i. each_once (λ (a b : Hop). a.link == b.link) (flat_map (λ branch. same_hops branch i) paths))
 
   -- and branches that are a tree at one cycle time are one at another
-  pub same_branches : (paths : List Branch) → tree_refusal (domain_at sketch cycle) paths ≡ None →
-      AreBranches (domain_at sketch other) paths × AreFew (domain_at sketch other) paths
+  pub same_branches : (paths : List Branch) → tree_refusal (domain_at network cycle) paths ≡ None →
+      AreBranches (domain_at network other) paths × AreFew (domain_at network other) paths
   same_branches paths e =
-      let d : Domain = domain_at sketch cycle in
+      let d : Domain = domain_at network cycle in
       let many : Bool = nat_lt (hops_within d.limits) (length (tree_of d paths)) in
       let unknown = position (λ name. is_none (node_named d name)) (flat_map (λ branch. branch) paths) in
       let hops = refused_if many refused.TooManyHops in
@@ -190,7 +190,7 @@ module _ (sketch : SketchDomain) (cycle other : ℕ) where
       let s = or_else_none (refused_at (λ branch. refused.NotATree branch) (least (is_stray paths) (length paths))) hops c.1 in
       let few : length (tree_of d paths) ≤ hops_within d.limits =
       ltb-false (hops_within d.limits) (length (tree_of d paths)) (refused_if_none many refused.TooManyHops s.1) in
-      let are : AreBranches (domain_at sketch other) paths = record {
+      let are : AreBranches (domain_at network other) paths = record {
         known = refused_at_none (λ place. refused.UnknownNode place) unknown a.0;
         whole = sym (same_place paths) ∙ refused_at_none (λ place. refused.BrokenPath place) (broken_place d paths) b.0;
         simple = refused_at_none (λ place. refused.LoopingPath place) (first_place (is_loop_at d) paths) c.0;
@@ -200,31 +200,31 @@ module _ (sketch : SketchDomain) (cycle other : ℕ) where
 
   -- ---- the stream
 
-  way_ready : (wanted : WantedText) (way : SettledWay) → HasTalkerLinks sketch → AreListeners wanted →
-      settled_way sketch (domain_at sketch cycle) wanted ≡ Ok way → IsGoodWay (domain_at sketch other) way
+  way_ready : (wanted : WantedText) (way : SettledWay) → HasTalkerLinks network → AreListeners wanted →
+      settled_way network (domain_at network cycle) wanted ≡ Ok way → IsGoodWay (domain_at network other) way
   way_ready (AlongText paths) way talkers listeners e =
-      let parts = refuse-Ok (tree_refusal (domain_at sketch cycle) paths) fault.Refused (Ok (Along paths)) way e in
+      let parts = refuse-Ok (tree_refusal (domain_at network cycle) paths) fault.Refused (Ok (Along paths)) way e in
       let is : Along paths ≡ way = let h = parts.1 in cc in
-      subst (IsGoodWay (domain_at sketch other)) is (same_branches paths parts.0)
+      subst (IsGoodWay (domain_at network other)) is (same_branches paths parts.0)
   way_ready (BetweenText from to) way talkers listeners e =
-      let d : Domain = domain_at sketch cycle in
-      let (entrance, entered, rest) = and_then-Ok (ok_or (entrance_at sketch (node_named d from)) fault.NoTalker) _ way e in
+      let d : Domain = domain_at network cycle in
+      let (entrance, entered, rest) = and_then-Ok (ok_or (entrance_at network (node_named d from)) fault.NoTalker) _ way e in
       let (stations, named, more) = and_then-Ok (stations_by_name d to) _ way rest in
       let parts = refuse-Ok (first_apart d entrance.bridge to) fault.NoWay (Ok (Between entrance.bridge stations)) way more in
       let is : Between entrance.bridge stations ≡ way = let h = parts.1 in cc in
       let many : length stations ≡ length to = so_many d to stations named in
-      let good : IsToStations (domain_at sketch other) entrance.bridge stations = record {
-        inside = entrance_there sketch d from entrance talkers refl (ok_or-Ok _ fault.NoTalker entrance entered);
+      let good : IsToStations (domain_at network other) entrance.bridge stations = record {
+        inside = entrance_there network d from entrance talkers refl (ok_or-Ok _ fault.NoTalker entrance entered);
         some = omega (arith, listeners.0, many);
         apart = stations_apart d to stations named listeners.1;
       } in
-      subst (IsGoodWay (domain_at sketch other)) is good
+      subst (IsGoodWay (domain_at network other)) is good
 
   -- a stream that was read, and is settled after others, is ready
-  pub next_ready : (before : List (List ℕ)) (text : StreamText) (one : SettledStream) → HasTalkerLinks sketch → IsReadStream text →
-      settled_next sketch (domain_at sketch cycle) before text ≡ Ok one → IsReady (domain_at sketch other) one
+  pub next_ready : (before : List (List ℕ)) (text : StreamText) (one : SettledStream) → HasTalkerLinks network → IsReadStream text →
+      settled_next network (domain_at network cycle) before text ≡ Ok one → IsReady (domain_at network other) one
   next_ready before text one talkers read e =
-      let so = settled_by sketch (domain_at sketch cycle) before text one e in
+      let so = settled_by network (domain_at network cycle) before text one e in
       record {
         named = subst (λ (n : List ℕ). is_name n ≡ true) so.name_is so.named;
         reservable = so.reservable;

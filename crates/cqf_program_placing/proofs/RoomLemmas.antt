@@ -28,11 +28,11 @@ use Rattle.cqf_topology.specs.DomainText.{IsDomain, is_among}
 use Rattle.cqf_admission.specs.Asking.{asked_with}
 use Rattle.cqf_admission.specs.Costs.{left_in_turns, most_in_turns}
 use Rattle.cqf_admission.specs.Branches.{tree_refusal}
-use Rattle.cqf_sketch.specs.SketchDomain.{IsSketch, SketchDomain, domain_at, open_cycle}
-use Rattle.cqf_sketch.specs.StreamsText.{StreamText}
+use Rattle.cqf_network.specs.NetworkDomain.{IsNetwork, NetworkDomain, domain_at, open_cycle}
+use Rattle.cqf_network.specs.StreamsText.{StreamText}
 use Rattle.cqf_topology.specs.NodeNames.{name_of_bridge}
-use Rattle.cqf_sketch.specs.WayLaws.{FirstWayIsOne, FirstWaysHaveNoLoop, FirstWaysPartForGood}
-use Rattle.cqf_sketch.specs.Ways.{has_room}
+use Rattle.cqf_network.specs.WayLaws.{FirstWayIsOne, FirstWaysHaveNoLoop, FirstWaysPartForGood}
+use Rattle.cqf_network.specs.Ways.{has_room}
 use Rattle.cqf_program_plans.specs.EndNames.{name_of_end}
 use Rattle.cqf_program_placing.specs.declared.faults.PlanFault.{PlanFault}
 use Rattle.cqf_program_placing.specs.declared.faults.PlanFault.TheVariants as fault
@@ -404,20 +404,20 @@ free_name names rows name own same absent named = false_from_ne_true (list_any (
     (member_any (λ other. is_text other name) names row.name (named row there) (sym (ap (is_text row.name) same) ∙ is)))
 
 module _ (goes_on : HistoryGoesOn) (counted : SealsAreCounted) (grants : GrantedIsHeld) (refuses : RefusedChangesNothing) (one_way : FirstWayIsOne)
-    (no_loop : FirstWaysHaveNoLoop) (parts : FirstWaysPartForGood) (sketch : SketchDomain) (is_sketch : IsSketch sketch) (room : MayBeWays sketch.limits) (cycle : ℕ)
-    (good : IsDomain (domain_at sketch cycle)) where
+    (no_loop : FirstWaysHaveNoLoop) (parts : FirstWaysPartForGood) (network : NetworkDomain) (is_network : IsNetwork network) (room : MayBeWays network.limits) (cycle : ℕ)
+    (good : IsDomain (domain_at network cycle)) where
   abbrev d : Domain
-  d = domain_at sketch cycle
+  d = domain_at network cycle
 
   -- a stream, and then the others
   one_stream : (names : List (List ℕ)) (text : StreamText) (one : SettledStream) (streams : List SettledStream) (entries end : List Recorded)
-      (outcomes : List PlacedOr) → IsBehind d names entries → IsReadStream text → settled_next sketch (domain_at sketch (open_cycle sketch)) names text ≡ Ok one →
+      (outcomes : List PlacedOr) → IsBehind d names entries → IsReadStream text → settled_next network (domain_at network (open_cycle network)) names text ≡ Ok one →
       ((after : List Recorded) (more : List PlacedOr) → IsBehind d (names ++ text.name ∷ []) after → ArePlacedFrom d after streams more end →
       ArePlacedByRoomFrom d after streams more end) → ArePlacedFrom d entries (one ∷ streams) outcomes end → ArePlacedByRoomFrom d entries (one ∷ streams) outcomes end
   one_stream names text one streams entries end [] behind read settled rest placed = absurd placed
   one_stream names text one streams entries end (become ∷ more) behind read settled rest placed =
-      let stands = next_stands sketch (domain_at sketch (open_cycle sketch)) names text one settled in
-      let ready = next_ready sketch (open_cycle sketch) cycle names text one is_sketch.has_talkers read settled in
+      let stands = next_stands network (domain_at network (open_cycle network)) names text one settled in
+      let ready = next_ready network (open_cycle network) cycle names text one is_network.has_talkers read settled in
       let rows : List Row = held_in d entries (seals entries) in
       let free = free_name names rows text.name one.name stands.own_name stands.not_held behind.named in
       let few : length rows < streams_within d.limits = omega (arith, behind.few_rows, stands.few_set) in
@@ -428,15 +428,15 @@ module _ (goes_on : HistoryGoesOn) (counted : SealsAreCounted) (grants : Granted
 
   -- all of them
   pub all_streams : (names : List (List ℕ)) (texts : List StreamText) (streams : List SettledStream) (entries end : List Recorded) (outcomes : List PlacedOr) →
-      IsBehind d names entries → All IsReadStream texts → settled_behind sketch (domain_at sketch (open_cycle sketch)) names texts ≡ Ok streams →
+      IsBehind d names entries → All IsReadStream texts → settled_behind network (domain_at network (open_cycle network)) names texts ≡ Ok streams →
       ArePlacedFrom d entries streams outcomes end → ArePlacedByRoomFrom d entries streams outcomes end
   all_streams names [] streams entries end outcomes behind read settled placed =
       let nil : [] ≡ streams = cc in
       subst (λ (ss : List SettledStream). ArePlacedFrom d entries ss outcomes end → ArePlacedByRoomFrom d entries ss outcomes end) nil
       (no_stream d entries end outcomes) placed
   all_streams names (text ∷ texts) streams entries end outcomes behind read settled placed =
-      let plant : Domain = domain_at sketch (open_cycle sketch) in
-      let both = and_first-Ok (settled_next sketch plant names text) (settled_behind sketch plant (names ++ text.name ∷ []) texts) streams settled in
+      let plan : Domain = domain_at network (open_cycle network) in
+      let both = and_first-Ok (settled_next network plan names text) (settled_behind network plan (names ++ text.name ∷ []) texts) streams settled in
       let first : IsReadStream text = All-contains IsReadStream (text ∷ texts) text read (contains_here text texts) in
       let others : All IsReadStream texts = λ k x low. read (suc k) x (omega (arith, low)) in
       subst (λ (ss : List SettledStream). ArePlacedFrom d entries ss outcomes end → ArePlacedByRoomFrom d entries ss outcomes end) (sym both.all)
@@ -446,9 +446,9 @@ module _ (goes_on : HistoryGoesOn) (counted : SealsAreCounted) (grants : Granted
 -- so the streams of a network file are
 pub placed_by_room : HistoryGoesOn → SealsAreCounted → GrantedIsHeld → RefusedChangesNothing → FirstWayIsOne → FirstWaysHaveNoLoop → FirstWaysPartForGood →
     PlacedWhereThereIsRoom
-placed_by_room goes_on counted grants refuses one_way no_loop parts sketch texts streams cycle placed is_sketch room is_open read settled domain are =
-    let good = is_sketch.domains cycle is_open in
+placed_by_room goes_on counted grants refuses one_way no_loop parts network texts streams cycle placed is_network room is_open read settled domain are =
+    let good = is_network.domains cycle is_open in
     subst (λ (d : Domain). ArePlacedByRoomFrom d [] streams placed.outcomes placed.entries) (sym domain)
-    (all_streams goes_on counted grants refuses one_way no_loop parts sketch is_sketch room cycle good [] texts streams [] placed.entries placed.outcomes
-    (none_behind (domain_at sketch cycle)) read settled
+    (all_streams goes_on counted grants refuses one_way no_loop parts network is_network room cycle good [] texts streams [] placed.entries placed.outcomes
+    (none_behind (domain_at network cycle)) read settled
     (subst (λ (d : Domain). ArePlacedFrom d [] streams placed.outcomes placed.entries) domain are))

@@ -16,10 +16,10 @@ use Rattle.cqf_model.specs.Domain.{Domain, IsAccepted, IsNode, bridge_of}
 use Rattle.cqf_model.specs.History.{Branch}
 use Rattle.cqf_model.proofs.Represented.{few_links, few_bridges}
 use Rattle.arrayvec.specs.ArrayVec.{ArrayVec}
-use Rattle.cqf_sketch.specs.Listeners.{AreFirstWays, IsFirstWithout}
-use Rattle.cqf_sketch.specs.WayLaws.{FullWaysHaveAShortLink, NothingHasRoomEverywhere}
-use Rattle.cqf_sketch.specs.Steps.{led_along}
-use Rattle.cqf_sketch.specs.Ways.{AreLinks, IsFirstWay, NoWay, has_room, led_by, led_to, most_links, short_link}
+use Rattle.cqf_network.specs.Listeners.{AreFirstWays, IsFirstWithout}
+use Rattle.cqf_network.specs.WayLaws.{FullWaysHaveAShortLink, NothingHasRoomEverywhere}
+use Rattle.cqf_network.specs.Steps.{led_along}
+use Rattle.cqf_network.specs.Ways.{AreLinks, IsFirstWay, NoWay, has_room, led_by, led_to, most_links, short_link}
 use Rattle.cqf_topology.specs.NodeNames.{name_of_bridge, name_of_node}
 use Rattle.cqf_program_plans.specs.EndNames.{name_of_end}
 use Rattle.cqf_program_placing.specs.declared.faults.PlanFault.{PlanFault}

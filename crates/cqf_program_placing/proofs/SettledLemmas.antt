@@ -16,15 +16,15 @@ use Rattle.cqf_model.specs.declared.topology.Node.TheVariants.{Bridge, Station}
 use Rattle.cqf_model.specs.Domain.{Domain, node_named, node_or}
 use Rattle.cqf_model.specs.Limits.{most_streams, streams_within}
 use Rattle.std.proofs.Math.Nat.{min-le_right}
-use Rattle.cqf_sketch.specs.Ways.{most_links}
+use Rattle.cqf_network.specs.Ways.{most_links}
 use Rattle.cqf_topology.specs.Fields.{Gives, and_first}
 use Rattle.cqf_topology.specs.DomainText.{if_so, is_among, place_of, with_front}
 use Rattle.cqf_topology.proofs.Accepted.{place-within}
 use Rattle.cqf_topology.proofs.Passed.{not_so}
 use Rattle.cqf_topology.proofs.Refusals.{and_then-Ok, ok_or-Ok, refuse-Ok}
-use Rattle.cqf_sketch.specs.declared.domain.TalkerLink.{TalkerLink}
-use Rattle.cqf_sketch.specs.SketchDomain.{HasTalkerLinks, IsTalkerLink, SketchDomain}
-use Rattle.cqf_sketch.specs.StreamsText.{StreamText, WantedText, Along as AlongText, Between as BetweenText}
+use Rattle.cqf_network.specs.declared.domain.TalkerLink.{TalkerLink}
+use Rattle.cqf_network.specs.NetworkDomain.{HasTalkerLinks, IsTalkerLink, NetworkDomain}
+use Rattle.cqf_network.specs.StreamsText.{StreamText, WantedText, Along as AlongText, Between as BetweenText}
 use Rattle.cqf_admission.specs.Branches.{tree_refusal}
 use Rattle.cqf_program_placing.specs.declared.entrances.Entrance.{Entrance}
 use Rattle.cqf_program_placing.specs.declared.faults.PlanFault.{PlanFault}
@@ -86,23 +86,23 @@ station_there d name s e = by (place_of name d.bridges) (place_of name d.station
     by None None at h = absurd cc
 
 -- so is an edge bridge
-pub entrance_there : (sketch : SketchDomain) (d : Domain) (from : List ℕ) (entrance : Entrance) → HasTalkerLinks sketch → d.bridges ≡ sketch.bridges →
-    entrance_at sketch (node_named d from) ≡ Some entrance → entrance.bridge < length d.bridges
-entrance_there sketch d from entrance talkers same e = by_node (node_named d from) refl e
+pub entrance_there : (network : NetworkDomain) (d : Domain) (from : List ℕ) (entrance : Entrance) → HasTalkerLinks network → d.bridges ≡ network.bridges →
+    entrance_at network (node_named d from) ≡ Some entrance → entrance.bridge < length d.bridges
+entrance_there network d from entrance talkers same e = by_node (node_named d from) refl e
   where
-    by_talker : (found : Option TalkerLink) (s : ℕ) → find (λ (talker : TalkerLink). talker.station == s) sketch.talkers ≡ found →
+    by_talker : (found : Option TalkerLink) (s : ℕ) → find (λ (talker : TalkerLink). talker.station == s) network.talkers ≡ found →
         option_map entrance_behind found ≡ Some entrance → entrance.bridge < length d.bridges
     by_talker None s is h = absurd cc
     by_talker (Some talker) s is h =
-        let member = (find_member (λ (t : TalkerLink). t.station == s) sketch.talkers talker is).0 in
-        let there = All-contains (IsTalkerLink sketch) sketch.talkers talker talkers.each_there member in
+        let member = (find_member (λ (t : TalkerLink). t.station == s) network.talkers talker is).0 in
+        let there = All-contains (IsTalkerLink network) network.talkers talker talkers.each_there member in
         let ends : talker.bridge ≡ entrance.bridge = cc in
         subst (λ (b : ℕ). b < length d.bridges) ends (subst (λ (bs : List (List ℕ)). talker.bridge < length bs) (sym same) there.bridge_there)
 
-    by_node : (node : Option Node) → node_named d from ≡ node → entrance_at sketch node ≡ Some entrance → entrance.bridge < length d.bridges
+    by_node : (node : Option Node) → node_named d from ≡ node → entrance_at network node ≡ Some entrance → entrance.bridge < length d.bridges
     by_node None is h = absurd cc
     by_node (Some (Bridge b)) is h = let ends : b ≡ entrance.bridge = cc in subst (λ (n : ℕ). n < length d.bridges) ends (bridge_there d from b is)
-    by_node (Some (Station s)) is h = by_talker (find (λ (talker : TalkerLink). talker.station == s) sketch.talkers) s refl h
+    by_node (Some (Station s)) is h = by_talker (find (λ (talker : TalkerLink). talker.station == s) network.talkers) s refl h
 
 -- an accepted listener is a station
 pub station_named_by : (d : Domain) (name : List ℕ) (s : ℕ) → station_by_name d name ≡ Ok s → node_named d name ≡ Some (Station s)
@@ -133,19 +133,19 @@ stations_reached d bridge (name ∷ names) stations e none =
     (stations_reached d bridge names both.more both.others_are parts.1))
 
 -- a settled path leads through the domain
-on_way : (sketch : SketchDomain) (d : Domain) (wanted : WantedText) (way : SettledWay) → HasTalkerLinks sketch → d.bridges ≡ sketch.bridges →
-    settled_way sketch d wanted ≡ Ok way → IsOnWay d way
-on_way sketch d (AlongText paths) way talkers same e =
+on_way : (network : NetworkDomain) (d : Domain) (wanted : WantedText) (way : SettledWay) → HasTalkerLinks network → d.bridges ≡ network.bridges →
+    settled_way network d wanted ≡ Ok way → IsOnWay d way
+on_way network d (AlongText paths) way talkers same e =
     let parts = refuse-Ok (tree_refusal d paths) fault.Refused (Ok (Along paths)) way e in
     let is : Along paths ≡ way = let h = parts.1 in cc in
     subst (IsOnWay d) is tt
-on_way sketch d (BetweenText from to) way talkers same e =
-    let (entrance, entered, rest) = and_then-Ok (ok_or (entrance_at sketch (node_named d from)) fault.NoTalker) _ way e in
+on_way network d (BetweenText from to) way talkers same e =
+    let (entrance, entered, rest) = and_then-Ok (ok_or (entrance_at network (node_named d from)) fault.NoTalker) _ way e in
     let (stations, named, more) = and_then-Ok (stations_by_name d to) _ way rest in
     let parts = refuse-Ok (first_apart d entrance.bridge to) fault.NoWay (Ok (Between entrance.bridge stations)) way more in
     let is : Between entrance.bridge stations ≡ way = let h = parts.1 in cc in
     subst (IsOnWay d) is (
-      entrance_there sketch d from entrance talkers same (ok_or-Ok _ fault.NoTalker entrance entered),
+      entrance_there network d from entrance talkers same (ok_or-Ok _ fault.NoTalker entrance entered),
       stations_reached d entrance.bridge to stations named parts.0,
     )
 
@@ -162,29 +162,29 @@ some_left taken (Some whole) left e deadline is = by (nat_lt taken whole) refl e
     by false less h = absurd cc
 
 -- what a settled stream has
-pub record IsSettledBy (sketch : SketchDomain) (d : Domain) (before : List (List ℕ)) (stream : StreamText) (one : SettledStream) : Type 0 where
+pub record IsSettledBy (network : NetworkDomain) (d : Domain) (before : List (List ℕ)) (stream : StreamText) (one : SettledStream) : Type 0 where
   pub named : is_name stream.name ≡ true
   pub reservable : are_reservable one.octets ≡ true
   pub paced : is_paced one.pacing ≡ true
-  pub way_is : settled_way sketch d stream.way ≡ Ok one.way
+  pub way_is : settled_way network d stream.way ≡ Ok one.way
   pub stands : refusal_behind d before stream.name ≡ None
-  pub deadline_is : deadline_of_stream sketch d stream ≡ Ok one.deadline
+  pub deadline_is : deadline_of_stream network d stream ≡ Ok one.deadline
   pub name_is : stream.name ≡ one.name
   pub octets_are : stream.octets ≡ one.octets
   pub pacing_is : stream.pacing ≡ one.pacing
   pub traffic_is : stream.traffic ≡ one.traffic
 
-pub settled_by : (sketch : SketchDomain) (d : Domain) (before : List (List ℕ)) (stream : StreamText) (one : SettledStream) →
-    settled_next sketch d before stream ≡ Ok one → IsSettledBy sketch d before stream one
-settled_by sketch d before stream one e =
+pub settled_by : (network : NetworkDomain) (d : Domain) (before : List (List ℕ)) (stream : StreamText) (one : SettledStream) →
+    settled_next network d before stream ≡ Ok one → IsSettledBy network d before stream one
+settled_by network d before stream one e =
     let (unnamed, e1) = refuse-Ok (if_so (not (is_name stream.name))) (λ _. unsettled.BadName (length before + 1))
-    (or_unsettled stream.name (settled_stream sketch d before stream)) one e in
-    let e2 = or_unsettled-Ok stream.name (settled_stream sketch d before stream) one e1 in
+    (or_unsettled stream.name (settled_stream network d before stream)) one e in
+    let e2 = or_unsettled-Ok stream.name (settled_stream network d before stream) one e1 in
     let (reservable, e3) = refuse-Ok (if_so (not (are_reservable stream.octets))) (λ _. fault.Refused refused.BadOctets) _ one e2 in
     let (paced, p3) = refuse-Ok (if_so (not (is_paced stream.pacing))) (λ _. fault.Refused refused.BadPace) _ one e3 in
-    let (way, way_is, e4) = and_then-Ok (settled_way sketch d stream.way) _ one p3 in
+    let (way, way_is, e4) = and_then-Ok (settled_way network d stream.way) _ one p3 in
     let (stands, e5) = refuse-Ok (refusal_behind d before stream.name) fault.Refused _ one e4 in
-    let (deadline, deadline_is, e6) = and_then-Ok (deadline_of_stream sketch d stream) _ one e5 in
+    let (deadline, deadline_is, e6) = and_then-Ok (deadline_of_stream network d stream) _ one e5 in
     let made : SettledStream =
     record { name = stream.name; octets = stream.octets; pacing = stream.pacing; way = way; deadline = deadline; traffic = stream.traffic } in
     let same : made ≡ one = cc in
@@ -211,10 +211,10 @@ pub record StandsNext (d : Domain) (before : List (List ℕ)) (name own : List �
   pub few_set : length before < streams_within d.limits
 
 -- so it may follow them
-pub next_stands : (sketch : SketchDomain) (d : Domain) (before : List (List ℕ)) (stream : StreamText) (one : SettledStream) →
-    settled_next sketch d before stream ≡ Ok one → StandsNext d before stream.name one.name
-next_stands sketch d before stream one e =
-    let by_name = settled_by sketch d before stream one e in
+pub next_stands : (network : NetworkDomain) (d : Domain) (before : List (List ℕ)) (stream : StreamText) (one : SettledStream) →
+    settled_next network d before stream ≡ Ok one → StandsNext d before stream.name one.name
+next_stands network d before stream one e =
+    let by_name = settled_by network d before stream one e in
     let tests = by (is_among stream.name before) (nat_le (streams_within d.limits) (length before)) refl refl by_name.stands in
     let below = leb-false (streams_within d.limits) (length before) tests.1 in
     record {
@@ -232,44 +232,44 @@ next_stands sketch d before stream one e =
     by false false is more h = (is, more)
 
 -- and it can be placed
-next_is_placeable : (sketch : SketchDomain) (d : Domain) (before : List (List ℕ)) (stream : StreamText) (one : SettledStream) →
-    HasTalkerLinks sketch → d.bridges ≡ sketch.bridges → settled_next sketch d before stream ≡ Ok one → IsPlaceable d one
-next_is_placeable sketch d before stream one talkers same e =
-    let by_name = settled_by sketch d before stream one e in
+next_is_placeable : (network : NetworkDomain) (d : Domain) (before : List (List ℕ)) (stream : StreamText) (one : SettledStream) →
+    HasTalkerLinks network → d.bridges ≡ network.bridges → settled_next network d before stream ≡ Ok one → IsPlaceable d one
+next_is_placeable network d before stream one talkers same e =
+    let by_name = settled_by network d before stream one e in
     record {
       named = subst (λ (n : List ℕ). IsTrue (is_name n)) by_name.name_is by_name.named;
-      on_way = on_way sketch d stream.way one.way talkers same by_name.way_is;
+      on_way = on_way network d stream.way one.way talkers same by_name.way_is;
       reservable = by_name.reservable;
       paced = by_name.paced;
       some_deadline = some_left _ stream.deadline one.deadline by_name.deadline_is;
     }
 
-behind_are_placeable : (sketch : SketchDomain) (d : Domain) (before : List (List ℕ)) (streams : List StreamText) (settled : List SettledStream) →
-    HasTalkerLinks sketch → d.bridges ≡ sketch.bridges → settled_behind sketch d before streams ≡ Ok settled → All (IsPlaceable d) settled
-behind_are_placeable sketch d before [] settled talkers same e =
+behind_are_placeable : (network : NetworkDomain) (d : Domain) (before : List (List ℕ)) (streams : List StreamText) (settled : List SettledStream) →
+    HasTalkerLinks network → d.bridges ≡ network.bridges → settled_behind network d before streams ≡ Ok settled → All (IsPlaceable d) settled
+behind_are_placeable network d before [] settled talkers same e =
     let nil : [] ≡ settled = cc in subst (All (IsPlaceable d)) nil (All-nil (IsPlaceable d))
-behind_are_placeable sketch d before (stream ∷ streams) settled talkers same e =
-    let both = and_first-Ok (settled_next sketch d before stream) (settled_behind sketch d (before ++ stream.name ∷ []) streams) settled e in
+behind_are_placeable network d before (stream ∷ streams) settled talkers same e =
+    let both = and_first-Ok (settled_next network d before stream) (settled_behind network d (before ++ stream.name ∷ []) streams) settled e in
     subst (All (IsPlaceable d)) (sym both.all)
-    (All-cons (IsPlaceable d) both.one both.more (next_is_placeable sketch d before stream both.one talkers same both.first_is)
-    (behind_are_placeable sketch d (before ++ stream.name ∷ []) streams both.more talkers same both.others_are))
+    (All-cons (IsPlaceable d) both.one both.more (next_is_placeable network d before stream both.one talkers same both.first_is)
+    (behind_are_placeable network d (before ++ stream.name ∷ []) streams both.more talkers same both.others_are))
 
 -- so can all
-settled_are_placeable : (sketch : SketchDomain) (streams : List StreamText) (settled : List SettledStream) → HasTalkerLinks sketch →
-    settled_of sketch streams ≡ Ok settled → All (IsPlaceable (open_domain sketch)) settled
-settled_are_placeable sketch streams settled talkers e = behind_are_placeable sketch (open_domain sketch) [] streams settled talkers refl e
+settled_are_placeable : (network : NetworkDomain) (streams : List StreamText) (settled : List SettledStream) → HasTalkerLinks network →
+    settled_of network streams ≡ Ok settled → All (IsPlaceable (open_domain network)) settled
+settled_are_placeable network streams settled talkers e = behind_are_placeable network (open_domain network) [] streams settled talkers refl e
 
 -- and they are few
-behind_are_few : (sketch : SketchDomain) (d : Domain) (before : List (List ℕ)) (streams : List StreamText) (settled : List SettledStream) →
-    length before ≤ most_streams → settled_behind sketch d before streams ≡ Ok settled → length before + length settled ≤ most_streams
-behind_are_few sketch d before [] settled few e =
+behind_are_few : (network : NetworkDomain) (d : Domain) (before : List (List ℕ)) (streams : List StreamText) (settled : List SettledStream) →
+    length before ≤ most_streams → settled_behind network d before streams ≡ Ok settled → length before + length settled ≤ most_streams
+behind_are_few network d before [] settled few e =
     let nil : [] ≡ settled = cc in subst (λ (ss : List SettledStream). length before + length ss ≤ most_streams) nil (omega (arith, few))
-behind_are_few sketch d before (stream ∷ streams) settled few e =
-    let both = and_first-Ok (settled_next sketch d before stream) (settled_behind sketch d (before ++ stream.name ∷ []) streams) settled e in
-    let next = next_stands sketch d before stream both.one both.first_is in
+behind_are_few network d before (stream ∷ streams) settled few e =
+    let both = and_first-Ok (settled_next network d before stream) (settled_behind network d (before ++ stream.name ∷ []) streams) settled e in
+    let next = next_stands network d before stream both.one both.first_is in
     let longer : length (before ++ stream.name ∷ []) ≡ length before + 1 = length-append before (stream.name ∷ []) in
     let room : length (before ++ stream.name ∷ []) ≤ most_streams = omega (arith, longer, next.few) in
-    let rest = behind_are_few sketch d (before ++ stream.name ∷ []) streams both.more room both.others_are in
+    let rest = behind_are_few network d (before ++ stream.name ∷ []) streams both.more room both.others_are in
     subst (λ (ss : List SettledStream). length before + length ss ≤ most_streams) (sym both.all) (omega (arith, rest, longer))
 
 -- one more stream after those that are settled
@@ -277,40 +277,40 @@ with_more : {A E : Type 0} (done : List A) (x : A) (rest : Result (List A) E) �
 with_more done x (Ok rest) = ap Ok (append_assoc done (x ∷ []) rest)
 with_more done x (Err e) = refl
 
-pub settled_more : (sketch : SketchDomain) (d : Domain) (held held' : List (List ℕ)) (stream : StreamText) (rest : List StreamText)
-    (done done' : List SettledStream) (one : SettledStream) → settled_next sketch d held stream ≡ Ok one → one.name ≡ stream.name →
+pub settled_more : (network : NetworkDomain) (d : Domain) (held held' : List (List ℕ)) (stream : StreamText) (rest : List StreamText)
+    (done done' : List SettledStream) (one : SettledStream) → settled_next network d held stream ≡ Ok one → one.name ≡ stream.name →
     held' ≡ held ++ one.name ∷ [] → done' ≡ done ++ one ∷ [] →
-    with_front done' (settled_behind sketch d held' rest) ≡ with_front done (settled_behind sketch d held (stream ∷ rest))
-settled_more sketch d held held' stream rest done done' one is name holds more =
+    with_front done' (settled_behind network d held' rest) ≡ with_front done (settled_behind network d held (stream ∷ rest))
+settled_more network d held held' stream rest done done' one is name holds more =
     let held_is : held' ≡ held ++ stream.name ∷ [] = holds ∙ ap (λ (n : List ℕ). held ++ n ∷ []) name in
-    (λ i. with_front (more i) (settled_behind sketch d (held_is i) rest))
-    ∙ with_more done one (settled_behind sketch d (held ++ stream.name ∷ []) rest)
-    ∙ ap (λ r. with_front done (and_first r (settled_behind sketch d (held ++ stream.name ∷ []) rest))) (sym is)
+    (λ i. with_front (more i) (settled_behind network d (held_is i) rest))
+    ∙ with_more done one (settled_behind network d (held ++ stream.name ∷ []) rest)
+    ∙ ap (λ r. with_front done (and_first r (settled_behind network d (held ++ stream.name ∷ []) rest))) (sym is)
 
 -- a stream whose name has the form of one is settled by what is settled of it
-pub named_settled : (sketch : SketchDomain) (d : Domain) (before : List (List ℕ)) (stream : StreamText) (name : List ℕ) → stream.name ≡ name →
-    is_name name ≡ true → settled_next sketch d before stream ≡
-    or_unsettled name (settled_stream sketch d before (wanted_stream name stream.octets stream.pacing stream.way stream.deadline stream.traffic))
-named_settled sketch d before stream name same form =
-    ap (λ (b : Bool). refuse (if_so (not b)) (λ _. unsettled.BadName (length before + 1)) (or_unsettled stream.name (settled_stream sketch d before stream)))
+pub named_settled : (network : NetworkDomain) (d : Domain) (before : List (List ℕ)) (stream : StreamText) (name : List ℕ) → stream.name ≡ name →
+    is_name name ≡ true → settled_next network d before stream ≡
+    or_unsettled name (settled_stream network d before (wanted_stream name stream.octets stream.pacing stream.way stream.deadline stream.traffic))
+named_settled network d before stream name same form =
+    ap (λ (b : Bool). refuse (if_so (not b)) (λ _. unsettled.BadName (length before + 1)) (or_unsettled stream.name (settled_stream network d before stream)))
     (ap is_name same ∙ form)
     ∙ ap (λ (n : List ℕ).
-    or_unsettled n (settled_stream sketch d before (wanted_stream n stream.octets stream.pacing stream.way stream.deadline stream.traffic))) same
+    or_unsettled n (settled_stream network d before (wanted_stream n stream.octets stream.pacing stream.way stream.deadline stream.traffic))) same
 
 -- what is given is settled so
-pub given_are_placeable : (sketch : SketchDomain) (plant : Domain) (streams : List StreamText) (given : Result (Vec Settled Global) Unsettled) →
-    HasTalkerLinks sketch → plant ≡ open_domain sketch →
-    Gives unsettled.Memory (λ settled. map settled_value settled.items) given (settled_behind sketch plant [] streams) →
-    IfOk given (λ settled. All (IsPlaceable (open_domain sketch)) (map settled_value settled.items))
-given_are_placeable sketch plant streams (Ok settled) talkers is gives =
-    settled_are_placeable sketch streams (map settled_value settled.items) talkers
-    (subst (λ (d : Domain). settled_behind sketch d [] streams ≡ Ok (map settled_value settled.items)) is gives)
-given_are_placeable sketch plant streams (Err e) talkers is gives = tt
+pub given_are_placeable : (network : NetworkDomain) (plan : Domain) (streams : List StreamText) (given : Result (Vec Settled Global) Unsettled) →
+    HasTalkerLinks network → plan ≡ open_domain network →
+    Gives unsettled.Memory (λ settled. map settled_value settled.items) given (settled_behind network plan [] streams) →
+    IfOk given (λ settled. All (IsPlaceable (open_domain network)) (map settled_value settled.items))
+given_are_placeable network plan streams (Ok settled) talkers is gives =
+    settled_are_placeable network streams (map settled_value settled.items) talkers
+    (subst (λ (d : Domain). settled_behind network d [] streams ≡ Ok (map settled_value settled.items)) is gives)
+given_are_placeable network plan streams (Err e) talkers is gives = tt
 
-pub given_are_few : (sketch : SketchDomain) (plant : Domain) (streams : List StreamText) (given : Result (Vec Settled Global) Unsettled) →
-    Gives unsettled.Memory (λ settled. map settled_value settled.items) given (settled_behind sketch plant [] streams) →
+pub given_are_few : (network : NetworkDomain) (plan : Domain) (streams : List StreamText) (given : Result (Vec Settled Global) Unsettled) →
+    Gives unsettled.Memory (λ settled. map settled_value settled.items) given (settled_behind network plan [] streams) →
     IfOk given (λ settled. length settled.items ≤ most_streams)
-given_are_few sketch plant streams (Ok settled) gives =
-    let all = behind_are_few sketch plant [] streams (map settled_value settled.items) (omega arith) gives in
+given_are_few network plan streams (Ok settled) gives =
+    let all = behind_are_few network plan [] streams (map settled_value settled.items) (omega arith) gives in
     omega (arith, all, length-map settled.items settled_value)
-given_are_few sketch plant streams (Err e) gives = tt
+given_are_few network plan streams (Err e) gives = tt

@@ -14,8 +14,8 @@ use Rattle.cqf_model.specs.Limits.{most_every}
 use Rattle.cqf_admission.specs.Branches.{tree_refusal}
 use Rattle.cqf_admission.specs.Turns.{IsGoodPace}
 use Rattle.cqf_traffic.specs.TrafficText.{TrafficText}
-use Rattle.cqf_sketch.specs.declared.pacing.Pacing.{Pacing}
-use Rattle.cqf_sketch.specs.declared.pacing.Pacing.TheVariants as pacing
+use Rattle.cqf_network.specs.declared.pacing.Pacing.{Pacing}
+use Rattle.cqf_network.specs.declared.pacing.Pacing.TheVariants as pacing
 use Rattle.cqf_program_placing.specs.declared.turns.Turns.{Turns}
 use Rattle.cqf_program_placing.specs.declared.turns.Turns.TheVariants.{Given, Chosen}
 use Rattle.cqf_program_placing.specs.Settled.{is_paced}

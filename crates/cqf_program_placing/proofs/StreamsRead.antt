@@ -24,11 +24,11 @@ use Rattle.cqf_traffic.specs.declared.faults.FlowsFault.TheVariants as flows_fau
 use Rattle.cqf_traffic.specs.declared.keys.TrafficKey.{TrafficKey}
 use Rattle.cqf_traffic.specs.FlowsText.{or_streams, traffic_or}
 use Rattle.cqf_traffic.specs.TrafficText.{TrafficText, first_owed, has_traffic, numbers_from, traffic_from}
-use Rattle.cqf_plants.proofs.Ranges.{traffic_in_range}
-use Rattle.cqf_sketch.specs.declared.talkers.Talker.{Talker}
-use Rattle.cqf_sketch.specs.StreamsText.{Along, Between, StreamText, WantedText, branches_if, first_lack, first_lack_of, first_lack_within, has_path, if_listeners}
-use Rattle.cqf_sketch.specs.StreamsText.{listeners_by, listeners_if, listeners_read, octets_by, octets_from, owed_keys, pacing_from, shortest_read, sketch_streams_of_text}
-use Rattle.cqf_sketch.specs.StreamsText.{stream_from, streams_from, streams_in, streams_of_array, talker_read, way_by}
+use Rattle.cqf_network_text.proofs.Ranges.{traffic_in_range}
+use Rattle.cqf_network.specs.declared.talkers.Talker.{Talker}
+use Rattle.cqf_network.specs.StreamsText.{Along, Between, StreamText, WantedText, branches_if, first_lack, first_lack_of, first_lack_within, has_path, if_listeners}
+use Rattle.cqf_network.specs.StreamsText.{listeners_by, listeners_if, listeners_read, octets_by, octets_from, owed_keys, pacing_from, shortest_read, network_streams_of_text}
+use Rattle.cqf_network.specs.StreamsText.{stream_from, streams_from, streams_in, streams_of_array, talker_read, way_by}
 use Rattle.cqf_program_placing.specs.Room.{AreListeners, IsReadStream}
 use Rattle.cqf_program_placing.proofs.SettledLemmas.{and_first-Ok, found_none}
 
@@ -199,7 +199,7 @@ elements_read (item d ds) texts lack e =
     (All-cons IsReadStream both.one both.more (stream_read table both.one whole read) (elements_read ds both.more none.1 both.others_are))
 
 -- the streams of a text
-pub streams_read : (text : List ℕ) (texts : List StreamText) → sketch_streams_of_text text ≡ Ok texts → All IsReadStream texts
+pub streams_read : (text : List ℕ) (texts : List StreamText) → network_streams_of_text text ≡ Ok texts → All IsReadStream texts
 streams_read text texts e =
     let (table, whole, read) = and_then-Ok (or_streams (whole_document streams_keys Streams [] text)) _ texts e in
     let (lack, all) = refuse-Ok (first_lack_of table) (λ (fault : FlowsFault). fault) (streams_in table) texts read in

@@ -20,11 +20,11 @@ use Rattle.cqf_model.proofs.Links.{same_node_true}
 use Rattle.cqf_topology.specs.DomainText.{IsDomain, place_of}
 use Rattle.cqf_topology.proofs.Refusals.{and_then-Some}
 use Rattle.cqf_topology.proofs.Told.{only-link}
-use Rattle.cqf_plants.proofs.NamesApart.{apart_across, behind_apart, front_apart, no_place, place_is}
+use Rattle.cqf_network_text.proofs.NamesApart.{apart_across, behind_apart, front_apart, no_place, place_is}
 use Rattle.cqf_topology.specs.NodeNames.{name_of_bridge, name_of_node}
-use Rattle.cqf_sketch.specs.Steps.{led_along}
-use Rattle.cqf_sketch.specs.WayLaws.{EndsOnce, ends_along}
-use Rattle.cqf_sketch.specs.Ways.{led_by, led_to, most_links}
+use Rattle.cqf_network.specs.Steps.{led_along}
+use Rattle.cqf_network.specs.WayLaws.{EndsOnce, ends_along}
+use Rattle.cqf_network.specs.Ways.{led_by, led_to, most_links}
 use Rattle.cqf_program_placing.specs.Room.{MayBeWays}
 use Rattle.cqf_program_plans.specs.EndNames.{name_of_end}
 use Rattle.cqf_program_placing.proofs.RouteLemmas.{name_at_end, to_node}

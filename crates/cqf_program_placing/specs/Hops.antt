@@ -8,7 +8,7 @@ use Rattle.cqf_model.specs.declared.topology.Node.TheVariants.{Bridge}
 use Rattle.cqf_model.specs.declared.topology.Pace.{Pace}
 use Rattle.cqf_model.specs.declared.topology.Row.{Row}
 use Rattle.cqf_model.specs.Domain.{Domain, bridge_of}
-use Rattle.cqf_sketch.specs.Ways.{most_links}
+use Rattle.cqf_network.specs.Ways.{most_links}
 use Rattle.cqf_admission.specs.Costs.{left_in_turns}
 use Rattle.cqf_program_placing.specs.declared.turns.Turns.{Turns}
 use Rattle.cqf_program_placing.specs.declared.turns.Turns.TheVariants.{Given, Chosen}

@@ -10,8 +10,8 @@ use Rattle.cqf_model.specs.Domain.{Domain, bridge_of}
 use Rattle.cqf_model.specs.History.{Asked, Branch, Recorded, held_in, refusal_of, seals}
 use Rattle.cqf_model.specs.Limits.{most_every, most_reserved}
 use Rattle.cqf_laws_timing.specs.Traffic.{needed}
-use Rattle.cqf_sketch.specs.Listeners.{AreFirstWays, IsFirstWithout}
-use Rattle.cqf_sketch.specs.Ways.{IsFirstWay, has_room, short_link}
+use Rattle.cqf_network.specs.Listeners.{AreFirstWays, IsFirstWithout}
+use Rattle.cqf_network.specs.Ways.{IsFirstWay, has_room, short_link}
 use Rattle.cqf_admission.specs.Asking.{asked_paced, asked_with}
 use Rattle.cqf_topology.specs.NodeNames.{name_of_bridge, name_of_node}
 use Rattle.cqf_traffic.specs.TrafficText.{TrafficText, promise_of}

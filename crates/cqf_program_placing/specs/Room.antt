@@ -13,11 +13,11 @@ use Rattle.cqf_model.specs.Limits.{hops_within, nodes_within}
 use Rattle.cqf_model.specs.Table.{links_in}
 use Rattle.cqf_admission.specs.Asking.{asked_with}
 use Rattle.cqf_topology.specs.NodeNames.{name_of_bridge}
-use Rattle.cqf_sketch.specs.SketchDomain.{IsOpenCycle, IsSketch, SketchDomain, domain_at}
-use Rattle.cqf_sketch.specs.StreamsText.{StreamText, WantedText, Along as AlongText, Between as BetweenText}
+use Rattle.cqf_network.specs.NetworkDomain.{IsOpenCycle, IsNetwork, NetworkDomain, domain_at}
+use Rattle.cqf_network.specs.StreamsText.{StreamText, WantedText, Along as AlongText, Between as BetweenText}
 use Rattle.cqf_traffic.specs.TrafficText.{IsTrafficText}
-use Rattle.cqf_sketch.specs.Listeners.{AreFirstWays, IsFirstWithout}
-use Rattle.cqf_sketch.specs.Ways.{has_room, most_links}
+use Rattle.cqf_network.specs.Listeners.{AreFirstWays, IsFirstWithout}
+use Rattle.cqf_network.specs.Ways.{has_room, most_links}
 use Rattle.cqf_program_plans.specs.EndNames.{name_of_end}
 use Rattle.cqf_program_placing.specs.declared.faults.PlanFault.{PlanFault}
 use Rattle.cqf_program_placing.specs.declared.faults.PlanFault.TheVariants as fault
@@ -125,6 +125,6 @@ pub record IsReadStream (stream : StreamText) : Type 0 where
 -- nodes as the longest path
 abbrev pub PlacedWhereThereIsRoom : Type 0
 PlacedWhereThereIsRoom =
-    (sketch : SketchDomain) (texts : List StreamText) (streams : List SettledStream) (cycle_time : ℕ) (placed : PlacedStreams) →
-    IsSketch sketch → MayBeWays sketch.limits → IsOpenCycle sketch cycle_time → All IsReadStream texts → settled_of sketch texts ≡ Ok streams →
-    placed.domain ≡ domain_at sketch cycle_time → ArePlaced streams placed → ArePlacedByRoom streams placed
+    (network : NetworkDomain) (texts : List StreamText) (streams : List SettledStream) (cycle_time : ℕ) (placed : PlacedStreams) →
+    IsNetwork network → MayBeWays network.limits → IsOpenCycle network cycle_time → All IsReadStream texts → settled_of network texts ≡ Ok streams →
+    placed.domain ≡ domain_at network cycle_time → ArePlaced streams placed → ArePlacedByRoom streams placed

@@ -3,7 +3,7 @@ use Rattle.std.specs.Prelude.{ℕ, ◌≡◌, ◌<◌, List, Err, Some, length, 
 use Rattle.cqf_model.specs.declared.topology.Row.{Row}
 use Rattle.cqf_model.specs.declared.topology.Node.TheVariants.{Bridge, Station}
 use Rattle.cqf_model.specs.Domain.{Domain}
-use Rattle.cqf_sketch.specs.Ways.{IsWay}
+use Rattle.cqf_network.specs.Ways.{IsWay}
 use Rattle.cqf_program_placing.specs.declared.routes.Unrouted.{Unrouted}
 use Rattle.cqf_program_placing.specs.declared.routes.Unrouted.TheVariants as unrouted
 use Rattle.cqf_program_placing.specs.declared.turns.Turns.{Turns}

@@ -18,13 +18,13 @@ use Rattle.cqf_model.specs.History.{Branch, is_pace}
 use Rattle.cqf_model.specs.Limits.{least_reserved, most_reserved, streams_within}
 use Rattle.cqf_topology.specs.Fields.{and_first}
 use Rattle.cqf_topology.specs.DomainText.{if_so, is_among}
-use Rattle.cqf_sketch.specs.Ways.{led_to, most_links}
-use Rattle.cqf_sketch.specs.declared.domain.TalkerLink.{TalkerLink}
-use Rattle.cqf_sketch.specs.SketchDomain.{SketchDomain, domain_at, open_cycle}
+use Rattle.cqf_network.specs.Ways.{led_to, most_links}
+use Rattle.cqf_network.specs.declared.domain.TalkerLink.{TalkerLink}
+use Rattle.cqf_network.specs.NetworkDomain.{NetworkDomain, domain_at, open_cycle}
 use Rattle.cqf_traffic.specs.TrafficText.{TrafficText}
-use Rattle.cqf_sketch.specs.declared.pacing.Pacing.{Pacing}
-use Rattle.cqf_sketch.specs.declared.pacing.Pacing.TheVariants.{Given, InStep}
-use Rattle.cqf_sketch.specs.StreamsText.{StreamText, WantedText, Along as AlongText, Between as BetweenText}
+use Rattle.cqf_network.specs.declared.pacing.Pacing.{Pacing}
+use Rattle.cqf_network.specs.declared.pacing.Pacing.TheVariants.{Given, InStep}
+use Rattle.cqf_network.specs.StreamsText.{StreamText, WantedText, Along as AlongText, Between as BetweenText}
 use Rattle.cqf_admission.specs.Branches.{branches_of, tree_refusal}
 use Rattle.cqf_program_placing.specs.declared.entrances.Entrance.{Entrance}
 use Rattle.cqf_program_placing.specs.declared.faults.PlanFault.{PlanFault}
@@ -78,10 +78,10 @@ is_paced InStep = true
 abbrev pub entrance_behind : TalkerLink → Entrance
 entrance_behind talker = record { bridge = talker.bridge; talker = Some talker }
 
-abbrev pub entrance_at : SketchDomain → Option Node → Option Entrance
-entrance_at sketch None = None
-entrance_at sketch (Some (Bridge b)) = Some (record { bridge = b; talker = None })
-entrance_at sketch (Some (Station s)) = option_map entrance_behind (find (λ (talker : TalkerLink). talker.station == s) sketch.talkers)
+abbrev pub entrance_at : NetworkDomain → Option Node → Option Entrance
+entrance_at network None = None
+entrance_at network (Some (Bridge b)) = Some (record { bridge = b; talker = None })
+entrance_at network (Some (Station s)) = option_map entrance_behind (find (λ (talker : TalkerLink). talker.station == s) network.talkers)
 
 -- a station's number
 abbrev pub station_at : Option Node → Option ℕ
@@ -123,14 +123,14 @@ way_from d entrance to =
 abbrev pub way_along : Domain → List Branch → Result SettledWay PlanFault
 way_along d paths = refuse (tree_refusal d paths) fault.Refused (Ok (Along paths))
 
-abbrev pub settled_way : SketchDomain → Domain → WantedText → Result SettledWay PlanFault
-settled_way sketch d (AlongText paths) = way_along d paths
-settled_way sketch d (BetweenText from to) = way_from d (entrance_at sketch (node_named d from)) to
+abbrev pub settled_way : NetworkDomain → Domain → WantedText → Result SettledWay PlanFault
+settled_way network d (AlongText paths) = way_along d paths
+settled_way network d (BetweenText from to) = way_from d (entrance_at network (node_named d from)) to
 
 -- the talker's link on which a stream reaches its edge bridge
-abbrev pub talker_of_stream : SketchDomain → Domain → WantedText → Option TalkerLink
-talker_of_stream sketch d (AlongText paths) = None
-talker_of_stream sketch d (BetweenText from to) = option_and_then (λ (entrance : Entrance). entrance.talker) (entrance_at sketch (node_named d from))
+abbrev pub talker_of_stream : NetworkDomain → Domain → WantedText → Option TalkerLink
+talker_of_stream network d (AlongText paths) = None
+talker_of_stream network d (BetweenText from to) = option_and_then (λ (entrance : Entrance). entrance.talker) (entrance_at network (node_named d from))
 
 -- how many octets a frame of a stream may have: the size in its traffic; without traffic its reservation, and at most 1,522
 abbrev pub longest_of : Option ℕ → Option TrafficText → ℕ
@@ -147,9 +147,9 @@ abbrev pub deadline_behind : ℕ → Option ℕ → Result (Option ℕ) PlanFaul
 deadline_behind taken None = Ok None
 deadline_behind taken (Some deadline) = if nat_lt taken deadline then Ok (Some (deadline - taken)) else Err fault.TooSoon
 
-abbrev pub deadline_of_stream : SketchDomain → Domain → StreamText → Result (Option ℕ) PlanFault
-deadline_of_stream sketch d stream =
-    deadline_behind (taken_on (talker_of_stream sketch d stream.way) (longest_of stream.octets stream.traffic)) stream.deadline
+abbrev pub deadline_of_stream : NetworkDomain → Domain → StreamText → Result (Option ℕ) PlanFault
+deadline_of_stream network d stream =
+    deadline_behind (taken_on (talker_of_stream network d stream.way) (longest_of stream.octets stream.traffic)) stream.deadline
 
 -- why a stream of this name can't follow streams of other names
 abbrev pub refusal_behind : Domain → List (List ℕ) → List ℕ → Option Refused
@@ -163,13 +163,13 @@ with_deadline name octets pacing way traffic deadline =
     and_then deadline (λ left. Ok (record { name = name; octets = octets; pacing = pacing; way = way; deadline = left; traffic = traffic }))
 
 -- a stream that follows others of these names, or its first fault
-abbrev pub settled_stream : SketchDomain → Domain → List (List ℕ) → StreamText → Result SettledStream PlanFault
-settled_stream sketch d before stream =
+abbrev pub settled_stream : NetworkDomain → Domain → List (List ℕ) → StreamText → Result SettledStream PlanFault
+settled_stream network d before stream =
     refuse (if_so (not (are_reservable stream.octets))) (λ _. fault.Refused refused.BadOctets) (
     refuse (if_so (not (is_paced stream.pacing))) (λ _. fault.Refused refused.BadPace) (
-    and_then (settled_way sketch d stream.way) (λ way.
+    and_then (settled_way network d stream.way) (λ way.
     refuse (refusal_behind d before stream.name) fault.Refused (
-    with_deadline stream.name stream.octets stream.pacing way stream.traffic (deadline_of_stream sketch d stream)))))
+    with_deadline stream.name stream.octets stream.pacing way stream.traffic (deadline_of_stream network d stream)))))
 
 -- a stream's fault, with its name
 abbrev pub or_unsettled : {A : Type 0} → List ℕ → Result A PlanFault → Result A Unsettled
@@ -177,25 +177,25 @@ or_unsettled name (Ok x) = Ok x
 or_unsettled name (Err e) = Err (unsettled.Stream name e)
 
 -- a stream that follows others of these names; its own name has to have the form of a name
-abbrev pub settled_next : SketchDomain → Domain → List (List ℕ) → StreamText → Result SettledStream Unsettled
-settled_next sketch d before stream =
+abbrev pub settled_next : NetworkDomain → Domain → List (List ℕ) → StreamText → Result SettledStream Unsettled
+settled_next network d before stream =
     refuse (if_so (not (is_name stream.name))) (λ _. unsettled.BadName (length before + 1))
-    (or_unsettled stream.name (settled_stream sketch d before stream))
+    (or_unsettled stream.name (settled_stream network d before stream))
 
 -- streams that follow others of these names, in their order, or the first fault
-abbrev pub settled_behind : SketchDomain → Domain → List (List ℕ) → List StreamText → Result (List SettledStream) Unsettled
-settled_behind sketch d before [] = Ok []
-settled_behind sketch d before (stream ∷ streams) =
-    and_first (settled_next sketch d before stream) (settled_behind sketch d (before ++ stream.name ∷ []) streams)
+abbrev pub settled_behind : NetworkDomain → Domain → List (List ℕ) → List StreamText → Result (List SettledStream) Unsettled
+settled_behind network d before [] = Ok []
+settled_behind network d before (stream ∷ streams) =
+    and_first (settled_next network d before stream) (settled_behind network d (before ++ stream.name ∷ []) streams)
 
 -- the names and links of a network file's domain, which no cycle time changes: those of its domain at the first candidate that is longer
 -- than every guard band
-abbrev pub open_domain : SketchDomain → Domain
-open_domain sketch = domain_at sketch (open_cycle sketch)
+abbrev pub open_domain : NetworkDomain → Domain
+open_domain network = domain_at network (open_cycle network)
 
 -- the settled streams of a network file, or the first fault
-abbrev pub settled_of : SketchDomain → List StreamText → Result (List SettledStream) Unsettled
-settled_of sketch streams = settled_behind sketch (open_domain sketch) [] streams
+abbrev pub settled_of : NetworkDomain → List StreamText → Result (List SettledStream) Unsettled
+settled_of network streams = settled_behind network (open_domain network) [] streams
 
 -- the path of a settled stream from a bridge to stations is between nodes of the domain, and links lead from the bridge to each station.
 -- For given branches nothing is required

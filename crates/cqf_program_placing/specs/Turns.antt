@@ -11,8 +11,8 @@ use Rattle.cqf_model.specs.Domain.{Domain, budget}
 use Rattle.cqf_model.specs.History.{Branch, is_pace, tree_of}
 use Rattle.cqf_model.specs.Limits.{most_every}
 use Rattle.cqf_traffic.specs.TrafficText.{TrafficText}
-use Rattle.cqf_sketch.specs.declared.pacing.Pacing.{Pacing}
-use Rattle.cqf_sketch.specs.declared.pacing.Pacing.TheVariants as pacing
+use Rattle.cqf_network.specs.declared.pacing.Pacing.{Pacing}
+use Rattle.cqf_network.specs.declared.pacing.Pacing.TheVariants as pacing
 use Rattle.cqf_admission.specs.Costs.{left_in_turns}
 use Rattle.cqf_admission.specs.Branches.{tree_refusal}
 use Rattle.cqf_program_placing.specs.declared.phases.BudgetShare.{BudgetShare}

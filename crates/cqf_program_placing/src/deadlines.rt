@@ -3,7 +3,7 @@ ghost use Rattle.std.specs.Prelude.{◌≡◌};
 ghost use Rattle.cqf_program_placing.specs.Settled.{deadline_behind, longest_of, taken_on};
 
 use crate::PlanFault;
-use cqf_sketch::TalkerLink;
+use cqf_network::TalkerLink;
 use cqf_traffic::Traffic;
 use cqf_units::time_of;
 

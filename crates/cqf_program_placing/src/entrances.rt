@@ -1,19 +1,19 @@
 //! Where streams enter the domain of a network file.
 ghost use Rattle.std.specs.Prelude.{◌≡◌, ◌==◌, find};
 ghost use Rattle.cqf_model.specs.Domain.{node_named};
-ghost use Rattle.cqf_sketch.specs.StreamsText.{wanted_text};
+ghost use Rattle.cqf_network.specs.StreamsText.{wanted_text};
 ghost use Rattle.cqf_program_placing.specs.Settled.{entrance_at, talker_of_stream};
 
 use cqf_model::Node;
-use cqf_sketch::{SketchDomain, TalkerLink, WantedWay};
+use cqf_network::{NetworkDomain, TalkerLink, WantedWay};
 use cqf_topology::Domain;
 use cqf_units::Name;
 
 /// A network file's domain, and the domain that it is at an open cycle time.
 #[derive(Clone, Copy)]
-pub(crate) struct OpenSketch<'a> {
-    pub sketch: &'a SketchDomain,
-    pub plant: &'a Domain,
+pub(crate) struct OpenNetwork<'a> {
+    pub network: &'a NetworkDomain,
+    pub plan: &'a Domain,
 }
 
 /// Where a stream enters the domain: its edge bridge, and the talker's link on which it reaches that bridge if its talker is a station.
@@ -25,10 +25,10 @@ pub(crate) struct Entrance {
 }
 
 /// Returns the talker's link of a station.
-fn talker_of(sketch: &SketchDomain, station: u16) -> Option<TalkerLink>
-    ensures { result ≡ find (λ talker. talker.station == station) sketch.now.talkers }
+fn talker_of(network: &NetworkDomain, station: u16) -> Option<TalkerLink>
+    ensures { result ≡ find (λ talker. talker.station == station) network.now.talkers }
 {
-    for talker in sketch.talkers() {
+    for talker in network.talkers() {
         if talker.station == station {
             return Some(*talker);
         }
@@ -37,15 +37,15 @@ fn talker_of(sketch: &SketchDomain, station: u16) -> Option<TalkerLink>
 }
 
 /// Returns where streams from a node enter.
-fn entrance_at(sketch: &SketchDomain, node: Option<Node>) -> Option<Entrance>
-    ensures { result ≡ entrance_at sketch.now node }
+fn entrance_at(network: &NetworkDomain, node: Option<Node>) -> Option<Entrance>
+    ensures { result ≡ entrance_at network.now node }
 {
     match node {
         Some(Node::Bridge(bridge)) => Some(Entrance {
             bridge,
             talker: None,
         }),
-        Some(Node::Station(station)) => match talker_of(sketch, station) {
+        Some(Node::Station(station)) => match talker_of(network, station) {
             Some(talker) => Some(Entrance {
                 bridge: talker.bridge,
                 talker: Some(talker),
@@ -57,15 +57,15 @@ fn entrance_at(sketch: &SketchDomain, node: Option<Node>) -> Option<Entrance>
 }
 
 /// Returns where streams from the node of a name enter.
-pub(crate) fn find_entrance(at: OpenSketch, name: &Name) -> Option<Entrance>
-    ensures { result ≡ entrance_at at.entry.sketch.now (node_named at.entry.plant.now name.now) }
+pub(crate) fn find_entrance(at: OpenNetwork, name: &Name) -> Option<Entrance>
+    ensures { result ≡ entrance_at at.entry.network.now (node_named at.entry.plan.now name.now) }
 {
-    entrance_at(at.sketch, at.plant.find(name.as_str()))
+    entrance_at(at.network, at.plan.find(name.as_str()))
 }
 
 /// Returns the talker's link on which a stream reaches its edge bridge; none for a stream with given branches, or from a bridge.
-pub(crate) fn find_talker(at: OpenSketch, way: &WantedWay) -> Option<TalkerLink>
-    ensures { result ≡ talker_of_stream at.entry.sketch.now at.entry.plant.now (wanted_text way.now) }
+pub(crate) fn find_talker(at: OpenNetwork, way: &WantedWay) -> Option<TalkerLink>
+    ensures { result ≡ talker_of_stream at.entry.network.now at.entry.plan.now (wanted_text way.now) }
 {
     match way {
         WantedWay::Along(_) => None,

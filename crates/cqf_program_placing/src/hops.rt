@@ -2,7 +2,7 @@
 ghost use Rattle.std.specs.Prelude.{◌≡◌, ◌<◌, ◌+◌, ℕ, IfOk, MatchOption, None, Some, false, length, slice_index_or, true};
 ghost use Rattle.cqf_admission.specs.Turns.{IsGoodPace};
 ghost use Rattle.cqf_model.specs.History.{held_in, seals};
-ghost use Rattle.cqf_sketch.specs.Ways.{most_links};
+ghost use Rattle.cqf_network.specs.Ways.{most_links};
 ghost use Rattle.cqf_program_placing.specs.Hops.{AreHops, AreLeftBehind, AreReachedBy, AreShallow, IsReachedBy, LeadsBehind, has_room_behind, hop_of, left_behind, left_where, lefts_where};
 
 use cqf_admission::Admission;

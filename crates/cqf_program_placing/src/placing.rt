@@ -7,7 +7,7 @@ ghost use Rattle.cqf_admission.specs.Branches.{branches_of};
 ghost use Rattle.cqf_laws_history.specs.StateLaws.{AreHeld};
 ghost use Rattle.cqf_model.specs.History.{held_in, seals};
 ghost use Rattle.cqf_model.specs.Limits.{most_calls, most_reserved, most_streams};
-ghost use Rattle.cqf_sketch.specs.SketchDomain.{IsOpenCycle, domain_at};
+ghost use Rattle.cqf_network.specs.NetworkDomain.{IsOpenCycle, domain_at};
 ghost use Rattle.cqf_program_placing.specs.Known.{AreKnown};
 ghost use Rattle.cqf_program_placing.specs.Placing.{AreFound, ArePlaced, IsAskedFor, IsPlacing, IsRouted, IsRoutedAndAnswered, outcome_value};
 ghost use Rattle.cqf_program_placing.specs.Routes.{AreReached, IsFullFor, IsUnrouted};
@@ -27,7 +27,7 @@ use crate::{PlacingOutcome, Settled, StreamWay};
 use cqf_admission::{Admission, SealFault, Table};
 use cqf_laws_history::state_follows_history;
 use cqf_model::{Link, Row};
-use cqf_sketch::{Room, SketchDomain};
+use cqf_network::{NetworkDomain, Room};
 use cqf_topology::{Domain, PacedRequest};
 use cqf_units::{Memory, Name, Octets, cost};
 use std::alloc::{AllocError, Global};
@@ -375,18 +375,18 @@ fn place_all(
 /// `Memory` if an allocation fails.
 pub fn place(
     alloc: Global,
-    sketch: &SketchDomain,
+    network: &NetworkDomain,
     cycle_time: u32,
     streams: &[Settled],
 ) -> Result<Placing, Memory>
-    requires open { IsOpenCycle sketch.now cycle_time }
+    requires open { IsOpenCycle network.now cycle_time }
     requires few { length streams.now ≤ most_streams }
-    requires on_way { All (IsPlaceable (open_domain sketch.now)) (map settled_value streams.now) }
-    ensures domain { IfOk result (λ placing. placing.domain ≡ domain_at sketch.now cycle_time) }
+    requires on_way { All (IsPlaceable (open_domain network.now)) (map settled_value streams.now) }
+    ensures domain { IfOk result (λ placing. placing.domain ≡ domain_at network.now cycle_time) }
     ensures placed { IfOk result (λ placing. ArePlaced (map settled_value streams.now) placing) }
 {
-    let domain = sketch.at(alloc, cycle_time)?;
-    place_all(alloc, &domain, sketch.links(), streams)
+    let domain = network.at(alloc, cycle_time)?;
+    place_all(alloc, &domain, network.links(), streams)
 }
 
 /// Returns the rows of a table, by number.

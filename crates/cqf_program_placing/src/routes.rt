@@ -6,12 +6,12 @@ ghost use Rattle.cqf_program_placing.specs.Placing.{AreFound, IsFullTo};
 ghost use Rattle.cqf_program_placing.specs.Routes.{AreReached, IsFullFor, IsReached};
 ghost use Rattle.cqf_program_plans.specs.EndNames.{name_of_end};
 ghost use Rattle.cqf_topology.specs.NodeNames.{name_of_bridge, name_of_node};
-ghost use Rattle.cqf_sketch.specs.Ways.{NoWay, has_room};
+ghost use Rattle.cqf_network.specs.Ways.{NoWay, has_room};
 
 use crate::PlanFault;
 use crate::branches::{branches_along, end_of_link, start_of_link};
 use cqf_model::Node;
-use cqf_sketch::{
+use cqf_network::{
     Room, WaysFault, first_short, first_way, first_ways, full_ways_have_a_short_link,
 };
 use cqf_topology::Domain;

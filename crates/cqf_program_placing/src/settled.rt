@@ -1,7 +1,7 @@
 //! Streams of a network file whose nodes are found.
 
 use crate::PlanFault;
-use cqf_sketch::Pacing;
+use cqf_network::Pacing;
 use cqf_traffic::Traffic;
 use cqf_units::{Memory, Name};
 use std::alloc::AllocFailed;

@@ -2,17 +2,17 @@
 ghost use Rattle.std.specs.Prelude.{◌≡◌, ◌<◌, ◌≤◌, [], All, IfOk, length, map};
 ghost use Rattle.cqf_model.specs.History.{is_pace};
 ghost use Rattle.cqf_model.specs.Limits.{most_streams};
-ghost use Rattle.cqf_sketch.specs.StreamsText.{stream_text, wanted_text};
+ghost use Rattle.cqf_network.specs.StreamsText.{stream_text, wanted_text};
 ghost use Rattle.cqf_topology.specs.Fields.{Gives};
 ghost use Rattle.cqf_program_placing.specs.Settled.{are_reservable, is_paced, or_unsettled, refusal_behind, settled_next, settled_stream, settled_value};
 ghost use Rattle.cqf_program_placing.specs.Settled.{IsPlaceable, deadline_behind, open_domain, settled_behind, settled_of, wanted_stream, way_value, with_deadline};
 
 use crate::deadlines::{deadline_behind, longest_of, taken_on};
-use crate::entrances::{OpenSketch, find_talker};
+use crate::entrances::{OpenNetwork, find_talker};
 use crate::way_settling::settle_way;
 use crate::{PlanFault, Settled, StreamWay, Unsettled};
 use cqf_model::{LEAST_OCTETS, MOST_EVERY, MOST_OCTETS, Refused};
-use cqf_sketch::{Pacing, SketchDomain, Stream, WantedWay};
+use cqf_network::{NetworkDomain, Pacing, Stream, WantedWay};
 use cqf_topology::{Domain, NameList};
 use cqf_traffic::Traffic;
 use cqf_units::{Memory, Name};
@@ -49,13 +49,13 @@ fn is_paced(pacing: Pacing) -> bool
 }
 
 /// Returns why a stream of this name can't follow those of other names.
-fn refusal_behind(plant: &Domain, held: &NameList, name: &Name) -> Option<Refused>
-    ensures { result ≡ refusal_behind plant.now held.now.keys name.now }
+fn refusal_behind(plan: &Domain, held: &NameList, name: &Name) -> Option<Refused>
+    ensures { result ≡ refusal_behind plan.now held.now.keys name.now }
 {
     if held.contains(name) {
         return Some(Refused::NameHeld);
     }
-    if held.len() >= plant.limits().streams_within() {
+    if held.len() >= plan.limits().streams_within() {
         return Some(Refused::TooManyStreams);
     }
     None
@@ -103,14 +103,14 @@ fn settle_deadline(
 /// Returns the stream of a name, which follows those of other names, or its first fault.
 fn settle_named(
     alloc: Global,
-    at: OpenSketch,
+    at: OpenNetwork,
     held: &NameList,
     name: &Name,
     terms: Terms,
     way: WantedWay,
 ) -> Result<Settled, Unsettled>
-    requires { at.sketch.now.links ≡ at.plant.now.links }
-    ensures { Gives Unsettled.Memory settled_value result (or_unsettled name.now (settled_stream at.entry.sketch.now at.entry.plant.now held.now.keys
+    requires { at.network.now.links ≡ at.plan.now.links }
+    ensures { Gives Unsettled.Memory settled_value result (or_unsettled name.now (settled_stream at.entry.network.now at.entry.plan.now held.now.keys
         (wanted_stream name.now terms.octets terms.pacing (wanted_text way) terms.deadline terms.traffic))) }
 {
     if !are_reservable(terms.octets) {
@@ -124,7 +124,7 @@ fn settle_named(
         longest_of(terms.octets, terms.traffic),
     );
     let settled = settle_way(alloc, at, name, way)?;
-    if let Some(refused) = refusal_behind(at.plant, held, name) {
+    if let Some(refused) = refusal_behind(at.plan, held, name) {
         return Err(unsettled(name, refused));
     }
     settle_deadline(name, terms, settled, taken)
@@ -133,14 +133,14 @@ fn settle_named(
 /// Returns the stream, which follows those of other names, or its first fault.
 fn settle_next(
     alloc: Global,
-    at: OpenSketch,
+    at: OpenNetwork,
     held: &NameList,
     stream: Stream,
 ) -> Result<Settled, Unsettled>
-    requires links { at.sketch.now.links ≡ at.plant.now.links }
+    requires links { at.network.now.links ≡ at.plan.now.links }
     requires few { length held.now.keys ≤ most_streams }
     ensures { Gives Unsettled.Memory settled_value result
-        (settled_next at.entry.sketch.now at.entry.plant.now held.now.keys (stream_text stream)) }
+        (settled_next at.entry.network.now at.entry.plan.now held.now.keys (stream_text stream)) }
 {
     match Name::new(stream.name.as_bytes()) {
         Some(name) => {
@@ -159,12 +159,12 @@ fn settle_next(
 /// Returns the streams, each following those before it, or the first fault.
 fn settle_all(
     alloc: Global,
-    at: OpenSketch,
+    at: OpenNetwork,
     streams: Vec<Stream>,
 ) -> Result<Vec<Settled>, Unsettled>
-    requires { at.sketch.now.links ≡ at.plant.now.links }
+    requires { at.network.now.links ≡ at.plan.now.links }
     ensures { Gives Unsettled.Memory (λ settled. map settled_value settled.items) result
-        (settled_behind at.entry.sketch.now at.entry.plant.now [] (map stream_text streams.items)) }
+        (settled_behind at.entry.network.now at.entry.plan.now [] (map stream_text streams.items)) }
 {
     let mut held = NameList::new(alloc);
     let mut settled = Vec::new(alloc);
@@ -199,19 +199,19 @@ fn settle_all(
 /// `Memory` if an allocation fails.
 pub fn settle(
     alloc: Global,
-    sketch: &SketchDomain,
+    network: &NetworkDomain,
     streams: Vec<Stream>,
 ) -> Result<Vec<Settled>, Unsettled>
     ensures given { Gives Unsettled.Memory (λ settled. map settled_value settled.items) result
-        (settled_of sketch.now (map stream_text streams.items)) }
-    ensures on_way { IfOk result (λ settled. All (IsPlaceable (open_domain sketch.now)) (map settled_value settled.items)) }
+        (settled_of network.now (map stream_text streams.items)) }
+    ensures on_way { IfOk result (λ settled. All (IsPlaceable (open_domain network.now)) (map settled_value settled.items)) }
     ensures few { IfOk result (λ settled. length settled.items ≤ most_streams) }
 {
-    sketch.know();
-    let plant = sketch.at(alloc, sketch.open_cycle())?;
-    let at = OpenSketch {
-        sketch,
-        plant: &plant,
+    network.know();
+    let plan = network.at(alloc, network.open_cycle())?;
+    let at = OpenNetwork {
+        network,
+        plan: &plan,
     };
     settle_all(alloc, at, streams)
 }

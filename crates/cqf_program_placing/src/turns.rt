@@ -6,7 +6,7 @@ ghost use Rattle.cqf_program_placing.specs.Turns.{AreGoodTurns, IsGoodEvery, can
 
 use crate::Settled;
 use cqf_model::MOST_EVERY;
-use cqf_sketch::Pacing;
+use cqf_network::Pacing;
 use cqf_traffic::Traffic;
 use cqf_units::Nanos;
 

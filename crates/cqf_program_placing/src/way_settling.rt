@@ -2,25 +2,25 @@
 ghost use Rattle.std.specs.Prelude.{◌≡◌};
 ghost use Rattle.cqf_admission.specs.Branches.{branches_of};
 ghost use Rattle.cqf_model.specs.Domain.{node_named};
-ghost use Rattle.cqf_sketch.specs.StreamsText.{wanted_text};
+ghost use Rattle.cqf_network.specs.StreamsText.{wanted_text};
 ghost use Rattle.cqf_topology.specs.Fields.{Gives};
 ghost use Rattle.cqf_program_placing.specs.Settled.{entrance_at, or_unsettled, settled_way, station_by_name, stations_by_name, way_along, way_from, way_value};
 
-use crate::entrances::{OpenSketch, find_entrance};
+use crate::entrances::{OpenNetwork, find_entrance};
 use crate::ways_there::first_apart;
 use crate::{PlanFault, StreamWay, Unsettled};
 use cqf_admission::{count_places, find_tree};
 use cqf_model::Node;
-use cqf_sketch::WantedWay;
+use cqf_network::WantedWay;
 use cqf_topology::Domain;
 use cqf_units::Name;
 use std::alloc::Global;
 
 /// Returns the station of a name; `NoListener` if it isn't a station's.
-fn station_by_name(plant: &Domain, name: &Name) -> Result<u16, PlanFault>
-    ensures { result ≡ station_by_name plant.now name.now }
+fn station_by_name(plan: &Domain, name: &Name) -> Result<u16, PlanFault>
+    ensures { result ≡ station_by_name plan.now name.now }
 {
-    match plant.find(name.as_str()) {
+    match plan.find(name.as_str()) {
         Some(Node::Station(station)) => Ok(station),
         _ => Err(PlanFault::NoListener(name.copied())),
     }
@@ -29,15 +29,15 @@ fn station_by_name(plant: &Domain, name: &Name) -> Result<u16, PlanFault>
 /// Returns the stations of a stream's listeners.
 fn stations_by_name(
     alloc: Global,
-    plant: &Domain,
+    plan: &Domain,
     stream: &Name,
     names: &[Name],
 ) -> Result<Vec<u16>, Unsettled>
-    ensures { Gives Unsettled.Memory (λ stations. stations.items) result (or_unsettled stream.now (stations_by_name plant.now names.now)) }
+    ensures { Gives Unsettled.Memory (λ stations. stations.items) result (or_unsettled stream.now (stations_by_name plan.now names.now)) }
 {
     let mut stations = Vec::new(alloc);
     for name in names {
-        match station_by_name(plant, name) {
+        match station_by_name(plan, name) {
             Ok(station) => stations.push(station)?,
             Err(fault) => return Err(Unsettled::Stream(stream.copied(), fault)),
         }
@@ -47,16 +47,16 @@ fn stations_by_name(
 
 /// Returns the path of a stream along given branches.
 fn settle_along(
-    plant: &Domain,
+    plan: &Domain,
     stream: &Name,
     paths: Vec<Vec<String>>,
 ) -> Result<StreamWay, Unsettled>
-    ensures { Gives Unsettled.Memory way_value result (or_unsettled stream.now (way_along plant.now (branches_of paths.items))) }
+    ensures { Gives Unsettled.Memory way_value result (or_unsettled stream.now (way_along plan.now (branches_of paths.items))) }
 {
     if count_places(paths.as_slice()).is_none() {
         return Err(Unsettled::Memory);
     }
-    match find_tree(plant, paths.as_slice()) {
+    match find_tree(plan, paths.as_slice()) {
         Ok(_) => Ok(StreamWay::Along(paths)),
         Err(refused) => Err(Unsettled::Stream(stream.copied(), PlanFault::Refused(refused))),
     }
@@ -65,19 +65,19 @@ fn settle_along(
 /// Returns the path of a stream from a node to its listeners.
 fn settle_between(
     alloc: Global,
-    at: OpenSketch,
+    at: OpenNetwork,
     stream: &Name,
     from: &Name,
     to: &[Name],
 ) -> Result<StreamWay, Unsettled>
-    requires { at.sketch.now.links ≡ at.plant.now.links }
+    requires { at.network.now.links ≡ at.plan.now.links }
     ensures { Gives Unsettled.Memory way_value result (or_unsettled stream.now
-        (way_from at.entry.plant.now (entrance_at at.entry.sketch.now (node_named at.entry.plant.now from.now)) to.now)) }
+        (way_from at.entry.plan.now (entrance_at at.entry.network.now (node_named at.entry.plan.now from.now)) to.now)) }
 {
     let Some(entrance) = find_entrance(at, from) else {
         return Err(Unsettled::Stream(stream.copied(), PlanFault::NoTalker));
     };
-    let stations = stations_by_name(alloc, at.plant, stream, to)?;
+    let stations = stations_by_name(alloc, at.plan, stream, to)?;
     match first_apart(at, entrance.bridge, to) {
         Some(name) => Err(Unsettled::Stream(stream.copied(), PlanFault::NoWay(name))),
         None => Ok(StreamWay::Between(entrance.bridge, stations)),
@@ -88,16 +88,16 @@ fn settle_between(
 /// that are its listeners; links lead to each.
 pub(crate) fn settle_way(
     alloc: Global,
-    at: OpenSketch,
+    at: OpenNetwork,
     stream: &Name,
     way: WantedWay,
 ) -> Result<StreamWay, Unsettled>
-    requires { at.sketch.now.links ≡ at.plant.now.links }
+    requires { at.network.now.links ≡ at.plan.now.links }
     ensures { Gives Unsettled.Memory way_value result
-        (or_unsettled stream.now (settled_way at.entry.sketch.now at.entry.plant.now (wanted_text way))) }
+        (or_unsettled stream.now (settled_way at.entry.network.now at.entry.plan.now (wanted_text way))) }
 {
     match way {
-        WantedWay::Along(paths) => settle_along(at.plant, stream, paths),
+        WantedWay::Along(paths) => settle_along(at.plan, stream, paths),
         WantedWay::Between(from, to) => settle_between(alloc, at, stream, &from, to.as_slice()),
     }
 }

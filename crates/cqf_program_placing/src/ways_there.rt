@@ -1,12 +1,12 @@
 //! Whether paths lead from a bridge to nodes.
 ghost use Rattle.std.specs.Prelude.{◌≡◌};
 ghost use Rattle.cqf_model.specs.Domain.{node_named};
-ghost use Rattle.cqf_sketch.specs.Ways.{AreLinks, most_links};
+ghost use Rattle.cqf_network.specs.Ways.{AreLinks, most_links};
 ghost use Rattle.cqf_program_placing.specs.Settled.{first_apart, has_way, is_led};
 
-use crate::entrances::OpenSketch;
+use crate::entrances::OpenNetwork;
 use cqf_model::{Link, MOST_LINKS, Node};
-use cqf_sketch::{Room, first_way, full_ways_have_a_short_link};
+use cqf_network::{Room, first_way, full_ways_have_a_short_link};
 use cqf_units::Name;
 
 /// Returns whether links lead from a bridge to a node, at most 16 of them. There are no more links than are represented.
@@ -26,22 +26,22 @@ fn is_led(links: &[Link], bridge: u16, to: Node) -> bool
 }
 
 /// Returns whether a path leads from a bridge to the node of a name.
-fn has_way(at: OpenSketch, bridge: u16, name: &Name) -> bool
-    requires { at.sketch.now.links ≡ at.plant.now.links }
-    ensures { result ≡ has_way at.entry.plant.now bridge (node_named at.entry.plant.now name.now) }
+fn has_way(at: OpenNetwork, bridge: u16, name: &Name) -> bool
+    requires { at.network.now.links ≡ at.plan.now.links }
+    ensures { result ≡ has_way at.entry.plan.now bridge (node_named at.entry.plan.now name.now) }
 {
     // the domain is accepted, so it has no more links than are represented
-    at.plant.know();
-    match at.plant.find(name.as_str()) {
-        Some(node) => is_led(at.sketch.links(), bridge, node),
+    at.plan.know();
+    match at.plan.find(name.as_str()) {
+        Some(node) => is_led(at.network.links(), bridge, node),
         None => false,
     }
 }
 
 /// Returns the first of some names to whose node no path leads from a bridge.
-pub(crate) fn first_apart(at: OpenSketch, bridge: u16, names: &[Name]) -> Option<Name>
-    requires { at.sketch.now.links ≡ at.plant.now.links }
-    ensures { result ≡ first_apart at.entry.plant.now bridge names.now }
+pub(crate) fn first_apart(at: OpenNetwork, bridge: u16, names: &[Name]) -> Option<Name>
+    requires { at.network.now.links ≡ at.plan.now.links }
+    ensures { result ≡ first_apart at.entry.plan.now bridge names.now }
 {
     for name in names {
         if !has_way(at, bridge, name) {

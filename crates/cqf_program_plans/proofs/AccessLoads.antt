@@ -9,8 +9,8 @@ use Rattle.std.proofs.lemmas.List.Elements.{All-map, All-weaker}
 use Rattle.cqf_admission.specs.Asking.{asked_paced}
 use Rattle.cqf_edge.specs.declared.uses.Handed.{Handed}
 use Rattle.cqf_model.specs.Limits.{longest_cycle}
-use Rattle.cqf_sketch.specs.declared.domain.TalkerLink.{TalkerLink}
-use Rattle.cqf_sketch.specs.SketchDomain.{HasTalkerLinks, IsTalkerLink, SketchDomain}
+use Rattle.cqf_network.specs.declared.domain.TalkerLink.{TalkerLink}
+use Rattle.cqf_network.specs.NetworkDomain.{HasTalkerLinks, IsTalkerLink, NetworkDomain}
 use Rattle.cqf_traffic.specs.declared.flows.Flow.{Flow}
 use Rattle.cqf_traffic.specs.FlowsText.{flow_text}
 use Rattle.cqf_traffic.specs.TrafficText.{IsTrafficText, TrafficText}
@@ -50,7 +50,7 @@ reserved_little octets every small =
     omega (arith, up, frames, small)
 
 -- an access link of a network has its ends there
-pub link_there : (network : SketchDomain) (links : List TalkerLink) (k : ℕ) (d : TalkerLink) → HasTalkerLinks network → links ≡ network.talkers →
+pub link_there : (network : NetworkDomain) (links : List TalkerLink) (k : ℕ) (d : TalkerLink) → HasTalkerLinks network → links ≡ network.talkers →
     k < length links → IsTalkerLink network (get_or links k d)
 link_there network links k d has same below =
     let each : All (IsTalkerLink network) links = subst (All (IsTalkerLink network)) (sym same) has.each_there in
@@ -84,7 +84,7 @@ all_same count loads after same all =
     subst (All (IsLoadedBy (count + 1))) (sym same) (All-weaker (IsLoadedBy count) (IsLoadedBy (count + 1)) (more_streams count) loads all)
 
 -- a link before any stream takes a part of it
-pub unloaded_little : (network : SketchDomain) (cycle_time : ℕ) (links : List TalkerLink) → All (IsLoadedBy 0) (map (unloaded network cycle_time) links)
+pub unloaded_little : (network : NetworkDomain) (cycle_time : ℕ) (links : List TalkerLink) → All (IsLoadedBy 0) (map (unloaded network cycle_time) links)
 unloaded_little network cycle_time links =
     All-map (IsLoadedBy 0) (unloaded network cycle_time) links (λ k d below. record { little = omega arith; few = omega arith })
 

@@ -21,7 +21,7 @@ use Rattle.cqf_program_plans.specs.NetworkRequests.{requests_of_network}
 use Rattle.cqf_program_scenario.proofs.AskedTexts.{asked_texts}
 use Rattle.cqf_program_scenario.specs.Networks.{domain_of}
 use Rattle.cqf_output.specs.Stops.{IsRefused}
-use Rattle.cqf_sketch.specs.SketchDomain.{SketchDomain}
+use Rattle.cqf_network.specs.NetworkDomain.{NetworkDomain}
 use Rattle.cqf_output.specs.declared.stops.Stop.{Stop}
 
 -- what the answer to a request says of it
@@ -178,7 +178,7 @@ refused-ends old new asked refused place stop more all answers line memory =
     line memory
 
 -- the domain and the streams that are read are a network's
-pub plan_of_network-is : (network : SketchDomain) (text : List ℕ) (domain : Domain) (requests : List PacedRequest) → domain ≡ domain_of network →
+pub plan_of_network-is : (network : NetworkDomain) (text : List ℕ) (domain : Domain) (requests : List PacedRequest) → domain ≡ domain_of network →
     requests_of_network network text ≡ Ok (map paced_text requests) → plan_of_network network text ≡ Ok (domain, map asked_paced requests)
 plan_of_network-is network text domain requests domain_is requests_are =
     ap (λ found. and_then found (λ read. Ok (domain_of network, map asked_by read))) requests_are

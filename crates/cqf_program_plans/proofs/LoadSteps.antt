@@ -6,7 +6,7 @@ use Rattle.cqf_model.specs.Domain.{Domain}
 use Rattle.cqf_model.specs.History.{Asked}
 use Rattle.cqf_program_scenario.proofs.AskedTexts.{asked_texts}
 use Rattle.cqf_program_scenario.specs.Networks.{domain_of}
-use Rattle.cqf_sketch.specs.SketchDomain.{SketchDomain}
+use Rattle.cqf_network.specs.NetworkDomain.{NetworkDomain}
 use Rattle.cqf_topology.specs.declared.paced.PacedRequest.{PacedRequest}
 use Rattle.cqf_topology.specs.PacedText.{PacedText, paced_text}
 use Rattle.cqf_program_plans.proofs.Steps.{both_give}
@@ -23,7 +23,7 @@ abbrev loaded : Domain → List AccessLoad → List Asked → LoadedInput
 loaded d access streams = record { domain = d; access = access; streams = streams }
 
 -- of a network in which a station has an access link
-pub loaded_is : (network : SketchDomain) (text : List ℕ) (d : Domain) (edge : EdgeFlowsText) (access : List AccessLoad) (requests : List PacedRequest) →
+pub loaded_is : (network : NetworkDomain) (text : List ℕ) (d : Domain) (edge : EdgeFlowsText) (access : List AccessLoad) (requests : List PacedRequest) →
     d ≡ domain_of network → edges_of_part network text ≡ Ok edge → access ≡ access_loads network d.cycle_time edge.handed edge.flows →
     requests_at d edge.flows ≡ Ok (map paced_text requests) →
     loaded_by_access network text ≡ Ok (record { domain = d; access = access; streams = map asked_paced requests })
@@ -46,7 +46,7 @@ without_is d text access requests none requests_are =
     (λ i. Ok (loaded d (sym none i) (asked_texts requests i)))
 
 -- what latency reads of a network
-pub plan_is : (network : SketchDomain) (text : List ℕ) (d : Domain) (edge : EdgeFlowsText) (requests : List PacedRequest) → d ≡ domain_of network →
+pub plan_is : (network : NetworkDomain) (text : List ℕ) (d : Domain) (edge : EdgeFlowsText) (requests : List PacedRequest) → d ≡ domain_of network →
     open_edges_of_part network text ≡ Ok edge → requests_at d edge.flows ≡ Ok (map paced_text requests) →
     streams_for network text ≡ Ok (record { domain = d; streams = map asked_paced requests; deadlines = edge.deadlines; times = edge.times })
 plan_is network text d edge requests same edges_are requests_are =

@@ -2,8 +2,8 @@
 use Rattle.std.specs.Prelude.{ℕ, List, Bool, Option, Some, None, Result, Ok, codes, if◌then◌else◌, length, nat_lt}
 use Rattle.cqf_lists.specs.Results.{and_then, refuse}
 use Rattle.cqf_traffic.specs.FlowsText.{flows_of_text}
-use Rattle.cqf_sketch.specs.NetworkFlows.{network_flows_of_text}
-use Rattle.cqf_sketch.specs.SketchDomain.{SketchDomain}
+use Rattle.cqf_network.specs.NetworkFlows.{network_flows_of_text}
+use Rattle.cqf_network.specs.NetworkDomain.{NetworkDomain}
 use Rattle.cqf_edge.specs.declared.faults.EdgeFault.{EdgeFault}
 use Rattle.cqf_edge.specs.declared.faults.EdgeFault.TheVariants as fault
 use Rattle.cqf_edge.specs.EdgeFlows.{EdgeFlowsText, at_edges, edge_flows}
@@ -20,12 +20,12 @@ abbrev pub full_line : List ℕ → List ℕ
 full_line station = edge_line (fault.AccessFull station)
 
 -- whether a station of a network has an access link
-abbrev pub has_access : SketchDomain → Bool
+abbrev pub has_access : NetworkDomain → Bool
 has_access network = nat_lt 0 (length network.talkers)
 
 -- the streams of a part of a network in which a station has one, as they come to their edge bridges; or the line of the first fault: of the
 -- part, or of the first stream that doesn't enter as its text says
-abbrev pub edges_by_access : SketchDomain → List ℕ → Result EdgeFlowsText (List ℕ)
+abbrev pub edges_by_access : NetworkDomain → List ℕ → Result EdgeFlowsText (List ℕ)
 edges_by_access network text = and_then (or_line flows_line (network_flows_of_text text)) (λ flows. or_line edge_line (edge_flows network flows))
 
 -- where none has, each begins at its edge bridge
@@ -33,11 +33,11 @@ abbrev pub edges_without : List ℕ → Result EdgeFlowsText (List ℕ)
 edges_without text = and_then (or_line flows_line (flows_of_text text)) (λ flows. Ok (at_edges flows))
 
 -- the streams of a part of a network, as they come to their edge bridges
-abbrev pub edges_of_part : SketchDomain → List ℕ → Result EdgeFlowsText (List ℕ)
+abbrev pub edges_of_part : NetworkDomain → List ℕ → Result EdgeFlowsText (List ℕ)
 edges_of_part network text = if has_access network then edges_by_access network text else edges_without text
 
 -- where no access link is full
-abbrev pub open_edges_of_part : SketchDomain → List ℕ → Result EdgeFlowsText (List ℕ)
+abbrev pub open_edges_of_part : NetworkDomain → List ℕ → Result EdgeFlowsText (List ℕ)
 open_edges_of_part network text = and_then (edges_of_part network text) (λ edge. refuse edge.full full_line (Ok edge))
 
 -- an end with the line of the station whose access link is the first that is full

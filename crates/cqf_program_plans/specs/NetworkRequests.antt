@@ -2,14 +2,14 @@
 use Rattle.std.specs.Prelude.{ℕ, List, Result, if◌then◌else◌}
 use Rattle.cqf_lists.specs.Results.{and_then}
 use Rattle.cqf_topology.specs.PacedText.{PacedText}
-use Rattle.cqf_sketch.specs.SketchDomain.{SketchDomain}
+use Rattle.cqf_network.specs.NetworkDomain.{NetworkDomain}
 use Rattle.cqf_program_scenario.specs.Networks.{domain_of}
 use Rattle.cqf_program_plans.specs.Edges.{has_access, open_edges_of_part}
 use Rattle.cqf_program_plans.specs.Reserving.{requests_at, requests_in}
 
 -- the requests, or the line of the first fault: of the part, of the first stream that doesn't enter as its text says, of the first access link
 -- that is full, and of the first stream that reserves less than its traffic needs. Where no station has an access link, deadlines aren't read
-abbrev pub requests_of_network : SketchDomain → List ℕ → Result (List PacedText) (List ℕ)
+abbrev pub requests_of_network : NetworkDomain → List ℕ → Result (List PacedText) (List ℕ)
 requests_of_network network text =
     if has_access network
     then and_then (open_edges_of_part network text) (λ edge. requests_at (domain_of network) edge.flows)

@@ -6,8 +6,8 @@ ghost use Rattle.cqf_program_plans.specs.Edges.{EndsAsFull, edge_line, edges_by_
 
 use crate::reserving::flows_stop;
 use cqf_edge::{EdgeFault, EdgeFlows, edge_flows, flows_at_edges, read_streams_are_written};
+use cqf_network::{NetworkDomain, read_network_flows};
 use cqf_output::Stop;
-use cqf_sketch::{SketchDomain, read_network_flows};
 use cqf_traffic::read_flows;
 use std::alloc::Global;
 
@@ -24,14 +24,14 @@ pub fn edge_stop(alloc: Global, fault: EdgeFault) -> Stop
 }
 
 /// Returns whether a station of a network has an access link.
-pub(crate) fn has_access(network: &SketchDomain) -> bool
+pub(crate) fn has_access(network: &NetworkDomain) -> bool
     ensures { result ≡ has_access network.now }
 {
     !network.talkers().is_empty()
 }
 
 /// Reads the streams of a part of a network in which a station has an access link.
-fn edges_by_access(alloc: Global, network: &SketchDomain, text: &[u8]) -> Result<EdgeFlows, Stop>
+fn edges_by_access(alloc: Global, network: &NetworkDomain, text: &[u8]) -> Result<EdgeFlows, Stop>
     ensures ok { IfOk result (λ edge. edges_by_access network.now text.now ≡ Ok (edges_text edge)) }
     ensures err { IfErr result (IsRefused (edges_by_access network.now text.now)) }
 {
@@ -67,7 +67,7 @@ fn edges_without(alloc: Global, text: &[u8]) -> Result<EdgeFlows, Stop>
 /// # Errors
 /// With status 1 and the line of the first fault of the part, or of the first stream that doesn't enter the network as its text says. With
 /// status 3 if an allocation fails.
-pub fn edges_part(alloc: Global, network: &SketchDomain, text: &[u8]) -> Result<EdgeFlows, Stop>
+pub fn edges_part(alloc: Global, network: &NetworkDomain, text: &[u8]) -> Result<EdgeFlows, Stop>
     ensures ok { IfOk result (λ edge. edges_of_part network.now text.now ≡ Ok (edges_text edge)) }
     ensures err { IfErr result (IsRefused (edges_of_part network.now text.now)) }
 {
@@ -98,7 +98,7 @@ pub fn refuse_full(alloc: Global, edge: &EdgeFlows) -> Result<(), Stop>
 /// As of [`edges_part`], and then as of [`refuse_full`].
 pub fn open_edges_part(
     alloc: Global,
-    network: &SketchDomain,
+    network: &NetworkDomain,
     text: &[u8],
 ) -> Result<EdgeFlows, Stop>
     ensures ok { IfOk result (λ edge. open_edges_of_part network.now text.now ≡ Ok (edges_text edge)) }

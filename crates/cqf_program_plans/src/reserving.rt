@@ -9,8 +9,8 @@ ghost use Rattle.cqf_traffic.specs.FlowsText.{flow_text};
 ghost use Rattle.cqf_traffic.specs.PacedFlows.{paced_flow_text};
 
 use crate::edges::{has_access, open_edges_part};
+use cqf_network::NetworkDomain;
 use cqf_output::{REFUSED, Stop};
-use cqf_sketch::SketchDomain;
 use cqf_topology::{Domain, PacedRequest, StreamsFault};
 use cqf_traffic::{Flow, FlowsFault, PacedFlow, Traffic, read_paced_flows};
 use cqf_units::{Memory, Nanos};
@@ -155,7 +155,7 @@ pub(crate) fn requests_at(
 /// status 3 if an allocation fails.
 pub(crate) fn requests_of_network(
     alloc: Global,
-    network: &SketchDomain,
+    network: &NetworkDomain,
     domain: &Domain,
     text: &[u8],
 ) -> Result<Vec<PacedRequest>, Stop>

@@ -8,7 +8,7 @@ use Rattle.cqf_topology.specs.declared.paced.PacedRequest.{PacedRequest}
 use Rattle.cqf_topology.specs.PlannedText.{PlannedText, planned_of_text}
 use Rattle.cqf_traffic.specs.FlowsText.{FlowText}
 use Rattle.cqf_edge.specs.EdgeFlows.{EdgeFlowsText}
-use Rattle.cqf_sketch.specs.SketchDomain.{SketchDomain}
+use Rattle.cqf_network.specs.NetworkDomain.{NetworkDomain}
 use Rattle.cqf_admission.specs.Asking.{asked_paced}
 use Rattle.cqf_program_scenario.specs.Networks.{domain_of, network_of_part}
 use Rattle.cqf_program_scenario.specs.Lines.{streams_line}
@@ -21,7 +21,7 @@ use Rattle.cqf_output.specs.Stops.{IsRefused, or_line}
 use Rattle.cqf_program_runs.specs.Deliveries.PlannedScenario.{planned_of_part, planned_scenario_of}
 
 -- the streams of a part of a network in which a station has an access link
-module _ (network : SketchDomain) (text : List ℕ) where
+module _ (network : NetworkDomain) (text : List ℕ) where
   -- without traffic
   abbrev pub planned_at : EdgeFlowsText → Result (List PlannedText) (List ℕ)
   planned_at edge = Ok (map (λ (flow : FlowText). flow.0) edge.flows)
@@ -47,18 +47,18 @@ module _ (limits : Limits) (cycles : ℕ) (texts : RunTexts) where
   abbrev with_scenario : List PlannedText → Scenario → Result (Scenario × List PlannedText) (List ℕ)
   with_scenario found scenario = Ok (scenario, found)
 
-  abbrev with_streams : SketchDomain → List PlannedText → Result (Scenario × List PlannedText) (List ℕ)
+  abbrev with_streams : NetworkDomain → List PlannedText → Result (Scenario × List PlannedText) (List ℕ)
   with_streams network found = and_then (scenario_behind cycles (domain_of network) (asked_in found) texts) (with_scenario found)
 
-  abbrev with_network : SketchDomain → Result (Scenario × List PlannedText) (List ℕ)
+  abbrev with_network : NetworkDomain → Result (Scenario × List PlannedText) (List ℕ)
   with_network network = and_then (planned_of_part network texts.streams) (with_streams network)
 
   -- a network that was read
-  network_is : (network : SketchDomain) → network_of_part limits texts.domain ≡ Ok network → planned_scenario_of limits cycles texts ≡ with_network network
+  network_is : (network : NetworkDomain) → network_of_part limits texts.domain ≡ Ok network → planned_scenario_of limits cycles texts ≡ with_network network
   network_is network part = ap (λ found. and_then found with_network) part
 
   -- if its streams are refused, all is
-  pub streams-refused : (network : SketchDomain) (stop : Stop) → network_of_part limits texts.domain ≡ Ok network →
+  pub streams-refused : (network : NetworkDomain) (stop : Stop) → network_of_part limits texts.domain ≡ Ok network →
       IsRefused (planned_of_part network texts.streams) stop → IsRefused (planned_scenario_of limits cycles texts) stop
   streams-refused network stop part refused = record {
     statuses = refused.statuses;
@@ -66,7 +66,7 @@ module _ (limits : Limits) (cycles : ℕ) (texts : RunTexts) where
     memory = refused.memory;
   }
 
-module _ (limits : Limits) (cycles : ℕ) (texts : RunTexts) (network : SketchDomain) (d : Domain) (streams : List PlannedText)
+module _ (limits : Limits) (cycles : ℕ) (texts : RunTexts) (network : NetworkDomain) (d : Domain) (streams : List PlannedText)
     (part : network_of_part limits texts.domain ≡ Ok network) (domain : d ≡ domain_of network)
     (read : planned_of_part network texts.streams ≡ Ok streams) where
   -- what follows the domain and the streams decides

@@ -6,13 +6,13 @@ use Rattle.cqf_admission.specs.Faults.{script_fault_text}
 use Rattle.cqf_admission.specs.declared.faults.ScriptFault.{ScriptFault}
 use Rattle.cqf_output.specs.Stops.{fault_line}
 use Rattle.cqf_topology.specs.TomlFaults.{toml_fault_text}
-use Rattle.cqf_sketch.specs.Faults.{sketch_fault_text}
-use Rattle.cqf_sketch.specs.declared.faults.SketchFault.{SketchFault}
+use Rattle.cqf_network.specs.Faults.{network_fault_text}
+use Rattle.cqf_network.specs.declared.faults.NetworkFault.{NetworkFault}
 use Rattle.cqf_topology.specs.declared.toml_faults.TomlFault.{TomlFault}
 
 -- why the domain of a network is refused
-abbrev pub domain_line : SketchFault → List ℕ
-domain_line fault = fault_line (codes "domain") (sketch_fault_text fault)
+abbrev pub domain_line : NetworkFault → List ℕ
+domain_line fault = fault_line (codes "domain") (network_fault_text fault)
 
 -- why streams are refused
 abbrev pub streams_line : TomlFault → List ℕ

@@ -3,16 +3,16 @@ use Rattle.std.specs.Prelude.{ℕ, List, Result, Ok}
 use Rattle.cqf_lists.specs.Results.{and_then}
 use Rattle.cqf_model.specs.Domain.{Domain}
 use Rattle.cqf_model.specs.declared.limits.Limits.{Limits}
-use Rattle.cqf_sketch.specs.SketchDomain.{SketchDomain, domain_at, network_of_text, open_cycle}
+use Rattle.cqf_network.specs.NetworkDomain.{NetworkDomain, domain_at, network_of_text, open_cycle}
 use Rattle.cqf_program_scenario.specs.Lines.{domain_line}
 use Rattle.cqf_output.specs.Stops.{or_line}
 
 -- the network of a part that is read within some limits, or the line of its first fault
-abbrev pub network_of_part : Limits → List ℕ → Result SketchDomain (List ℕ)
+abbrev pub network_of_part : Limits → List ℕ → Result NetworkDomain (List ℕ)
 network_of_part limits text = or_line domain_line (network_of_text limits text)
 
 -- the domain of a network whose cycle time isn't open: it has one, which is
-abbrev pub domain_of : SketchDomain → Domain
+abbrev pub domain_of : NetworkDomain → Domain
 domain_of network = domain_at network (open_cycle network)
 
 -- that of a part

@@ -17,9 +17,9 @@ ghost use Rattle.cqf_model.specs.Limits.{most_offers};
 
 use cqf_admission::{Names, Ordered, ScriptFault, read_orders};
 use cqf_model::{Background, Limits, Offer};
+use cqf_network::{NetworkDomain, NetworkFault};
 use cqf_output::Stop;
 use cqf_report::{TableFault, read_background, read_offers};
-use cqf_sketch::{SketchDomain, SketchFault};
 use cqf_topology::{
     Domain, DomainFault, PacedRequest, Planned, StreamsFault, read_paced_streams,
     read_planned_streams,
@@ -27,12 +27,12 @@ use cqf_topology::{
 use std::alloc::Global;
 
 /// The end where the domain of a network is refused.
-fn domain_stop(alloc: Global, fault: &SketchFault) -> Stop
-    ensures refused { fault.now ≢ SketchFault.Domain DomainFault.Memory → EndsWith 1 (domain_line fault.now) result }
-    ensures memory { fault.now ≡ SketchFault.Domain DomainFault.Memory → EndsWith 3 [] result }
+fn domain_stop(alloc: Global, fault: &NetworkFault) -> Stop
+    ensures refused { fault.now ≢ NetworkFault.Domain DomainFault.Memory → EndsWith 1 (domain_line fault.now) result }
+    ensures memory { fault.now ≡ NetworkFault.Domain DomainFault.Memory → EndsWith 3 [] result }
 {
     match fault {
-        SketchFault::Domain(DomainFault::Memory) => Stop::memory(alloc),
+        NetworkFault::Domain(DomainFault::Memory) => Stop::memory(alloc),
         _ => Stop::refused(alloc, "domain", fault),
     }
 }
@@ -72,18 +72,18 @@ fn table_stop(alloc: Global, part: &str, fault: TableFault) -> Stop
 
 /// The network of a part that is read within some limits, whose cycle time isn't open. `Err` with status 1 and the line of its first fault,
 /// and with status 3 for want of memory.
-pub fn network_part(alloc: Global, limits: Limits, text: &[u8]) -> Result<SketchDomain, Stop>
+pub fn network_part(alloc: Global, limits: Limits, text: &[u8]) -> Result<NetworkDomain, Stop>
     ensures ok { IfOk result (λ network. network_of_part limits text.now ≡ Ok network) }
     ensures err { IfErr result (IsRefused (network_of_part limits text.now)) }
 {
-    match SketchDomain::read_one(alloc, text, limits) {
+    match NetworkDomain::read_one(alloc, text, limits) {
         Ok(network) => Ok(network),
         Err(fault) => Err(domain_stop(alloc, &fault)),
     }
 }
 
 /// The domain of a network whose cycle time isn't open: its bridges, and the links that begin at them. `Err` with status 3 for want of memory.
-pub fn domain_of(alloc: Global, network: &SketchDomain) -> Result<Domain, Stop>
+pub fn domain_of(alloc: Global, network: &NetworkDomain) -> Result<Domain, Stop>
     ensures ok { IfOk result (λ domain. domain ≡ domain_of network.now) }
     ensures err { IfErr result (EndsWith 3 []) }
 {

@@ -31,14 +31,14 @@ abbrev pub is_undivided : List ℕ → Bool
 is_undivided text = length (parts_of text) == 1
 
 -- the first file has both the domain and its streams
-abbrev pub is_plant : Job → List (List ℕ) → List ℕ → Bool
-is_plant job names first = takes_domain job && (not (second_is_toml names) && is_undivided first)
+abbrev pub is_network : Job → List (List ℕ) → List ℕ → Bool
+is_network job names first = takes_domain job && (not (second_is_toml names) && is_undivided first)
 
 -- the first text; a plan is there twice
 abbrev pub first_text : Bool → List ℕ → List ℕ
-first_text plant first = closed first ++ (if plant then text_behind first else [])
+first_text network first = closed first ++ (if network then text_behind first else [])
 
 -- the input that is made from files with these names and texts
 abbrev pub composed_of : Job → List (List ℕ) → List (List ℕ) → List ℕ
 composed_of job names [] = []
-composed_of job names (first ∷ more) = first_text (is_plant job names first) first ++ flat_map text_behind more
+composed_of job names (first ∷ more) = first_text (is_network job names first) first ++ flat_map text_behind more

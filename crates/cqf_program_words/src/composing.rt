@@ -1,7 +1,7 @@
 //! Texts of files, one after the other.
 ghost use Rattle.std.specs.Prelude.{◌≡◌, ◌∷◌, ◌++◌, IfOk, OnOk, map};
 ghost use Rattle.std.specs.List.{flat_map};
-ghost use Rattle.cqf_program_words.specs.Composing.{text_behind, closed, composed_of, first_text, is_closed, is_plant, is_toml, is_undivided, second_is_toml};
+ghost use Rattle.cqf_program_words.specs.Composing.{text_behind, closed, composed_of, first_text, is_closed, is_network, is_toml, is_undivided, second_is_toml};
 
 use crate::Job;
 use cqf_text::parts;
@@ -60,8 +60,8 @@ pub fn is_undivided(alloc: Global, text: &[u8]) -> Result<bool, Memory>
 }
 
 /// Returns whether the first file is a plan, which has both the domain and its streams. Returns `Memory` if an allocation fails.
-pub fn is_plant(alloc: Global, job: &Job, names: &[&str], first: &[u8]) -> Result<bool, Memory>
-    ensures { IfOk result (λ plant. plant ≡ is_plant job.now (map (λ name. name.now) names.now) first.now) }
+pub fn is_network(alloc: Global, job: &Job, names: &[&str], first: &[u8]) -> Result<bool, Memory>
+    ensures { IfOk result (λ network. network ≡ is_network job.now (map (λ name. name.now) names.now) first.now) }
 {
     if !job.takes_domain() {
         return Ok(false);
@@ -73,11 +73,11 @@ pub fn is_plant(alloc: Global, job: &Job, names: &[&str], first: &[u8]) -> Resul
 }
 
 /// Puts the first text, twice if it is a plan.
-fn put_first(input: &mut Vec<u8>, plant: bool, first: &[u8]) -> Result<(), AllocError>
-    ensures { OnOk result (input.new.items ≡ input.old.items ++ first_text plant first.now) }
+fn put_first(input: &mut Vec<u8>, network: bool, first: &[u8]) -> Result<(), AllocError>
+    ensures { OnOk result (input.new.items ≡ input.old.items ++ first_text network first.now) }
 {
     put_closed(input, first)?;
-    if plant {
+    if network {
         put_behind(input, first)?;
     }
     Ok(())
@@ -97,14 +97,14 @@ fn put_rest(input: &mut Vec<u8>, texts: &[&[u8]]) -> Result<(), AllocError>
 /// isn't empty and doesn't end with one. Returns an error if an allocation fails.
 pub fn joined(
     alloc: Global,
-    plant: bool,
+    network: bool,
     first: &[u8],
     rest: &[&[u8]],
 ) -> Result<Vec<u8>, AllocError>
-    ensures { IfOk result (λ input. input.items ≡ first_text plant first.now ++ flat_map text_behind (map (λ text. text.now) rest.now)) }
+    ensures { IfOk result (λ input. input.items ≡ first_text network first.now ++ flat_map text_behind (map (λ text. text.now) rest.now)) }
 {
     let mut input = Vec::new(alloc);
-    put_first(&mut input, plant, first)?;
+    put_first(&mut input, network, first)?;
     put_rest(&mut input, rest)?;
     Ok(input)
 }
@@ -119,8 +119,8 @@ pub fn composed_behind(
 ) -> Result<Vec<u8>, Memory>
     ensures { IfOk result (λ input. input.items ≡ composed_of job.now (map (λ name. name.now) names.now) (first.now ∷ map (λ text. text.now) rest.now)) }
 {
-    let plant = is_plant(alloc, job, names, first)?;
-    joined(alloc, plant, first, rest)
+    let network = is_network(alloc, job, names, first)?;
+    joined(alloc, network, first, rest)
 }
 
 /// Returns the input that is made from two texts and others after them, as [`composed`] does. Returns `Memory` if an allocation fails.
@@ -135,9 +135,9 @@ pub fn composed_between(
     ensures { IfOk result (λ input. input.items
         ≡ composed_of job.now (map (λ name. name.now) names.now) (first.now ∷ second.now ∷ map (λ text. text.now) rest.now)) }
 {
-    let plant = is_plant(alloc, job, names, first)?;
+    let network = is_network(alloc, job, names, first)?;
     let mut input = Vec::new(alloc);
-    put_first(&mut input, plant, first)?;
+    put_first(&mut input, network, first)?;
     put_behind(&mut input, second)?;
     put_rest(&mut input, rest)?;
     Ok(input)

@@ -15,7 +15,7 @@ pub(crate) const LINE_INPUT: &str = r"Standard input, or a file, has one part:
   cqf line --cycles 2 offers.csv";
 
 /// The help of a command that reads only a domain and its streams about standard input, followed by more help.
-macro_rules! plant_input {
+macro_rules! network_input {
     ($command:literal, $more:literal) => {
         concat!(
             r#"Standard input is a plan in two parts with a line of %% between them:
@@ -33,7 +33,7 @@ One file with both can be given instead, or 2 to 16 files named *.toml:
 }
 
 /// The help of `compile` about standard input and its output.
-pub(crate) const COMPILE_INPUT: &str = plant_input!(
+pub(crate) const COMPILE_INPUT: &str = network_input!(
     "compile",
     r"
   cqf compile --format tc plan.toml
@@ -51,7 +51,7 @@ programs."
 );
 
 /// The help of `load` about standard input and its output.
-pub(crate) const LOAD_INPUT: &str = plant_input!(
+pub(crate) const LOAD_INPUT: &str = network_input!(
     "load",
     r"
 
@@ -65,7 +65,7 @@ links come last, with what their streams send in a mean cycle."
 );
 
 /// The help of `latency` about standard input and its output.
-pub(crate) const LATENCY_INPUT: &str = plant_input!(
+pub(crate) const LATENCY_INPUT: &str = network_input!(
     "latency",
     r#"
   cqf latency --strict plan.toml

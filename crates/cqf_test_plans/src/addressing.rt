@@ -106,7 +106,7 @@ fn changed_streams_are_refused_by_their_first_fault(rt: HostRuntime) {
 }
 
 #[test]
-fn large_plants_have_more_indexes(rt: HostRuntime) {
+fn large_plans_have_more_indexes(rt: HostRuntime) {
     assert!(rt; answers(rt.alloc(), true, "x-gate = 1024", "x-gate = 16384", "read"));
     assert!(rt;
         answers(

@@ -1,6 +1,6 @@
 //! Domains of network files, read or refused.
 use cqf_model::PROFILE;
-use cqf_sketch::{SketchDomain, SketchFault};
+use cqf_network::{NetworkDomain, NetworkFault};
 use std::alloc::Global;
 
 /// Two bridges, a station that listens and talks, and one that only talks.
@@ -16,7 +16,7 @@ links = [
 ";
 
 /// Returns whether a fault prints as this text.
-fn prints(alloc: Global, fault: SketchFault, wanted: &str) -> bool {
+fn prints(alloc: Global, fault: NetworkFault, wanted: &str) -> bool {
     match format!(in alloc; "{fault}") {
         Ok(text) => text.as_str() == wanted,
         Err(_) => false,
@@ -28,7 +28,7 @@ fn answers(alloc: Global, old: &str, new: &str, wanted: &str) -> bool {
     let Ok(changed) = SKETCH.replacen(alloc, old, new, 1) else {
         return false;
     };
-    match SketchDomain::read(alloc, changed.as_bytes(), PROFILE, None) {
+    match NetworkDomain::read(alloc, changed.as_bytes(), PROFILE, None) {
         Ok(_domain) => wanted == "read",
         Err(fault) => prints(alloc, fault, wanted),
     }
@@ -88,7 +88,7 @@ const CHANGES: &[(&str, &str, &str)] = &[
 ];
 
 #[test]
-fn a_changed_sketch_is_refused_by_its_first_fault(rt: HostRuntime) {
+fn a_changed_network_is_refused_by_its_first_fault(rt: HostRuntime) {
     for (old, new, wanted) in CHANGES {
         assert!(rt; answers(rt.alloc(), old, new, wanted), "{old} to {new}");
     }
@@ -97,7 +97,7 @@ fn a_changed_sketch_is_refused_by_its_first_fault(rt: HostRuntime) {
 /// Of a link in both directions, the domain has each that leaves a bridge; the others are talkers' links.
 #[test]
 fn links_are_numbered_there_before_back(rt: HostRuntime) {
-    match SketchDomain::read(rt.alloc(), SKETCH.as_bytes(), PROFILE, None) {
+    match NetworkDomain::read(rt.alloc(), SKETCH.as_bytes(), PROFILE, None) {
         Ok(domain) => {
             assert!(rt; domain.candidates() == [250_000, 125_000].as_slice());
             assert!(rt; domain.links().len() == 3);
@@ -112,11 +112,11 @@ fn links_are_numbered_there_before_back(rt: HostRuntime) {
 
 /// Returns whether the domain of a network file at its first open cycle time has this cycle time and three links.
 fn opens_at(alloc: Global, text: &str, cycle: u64) -> bool {
-    let Ok(sketch) = SketchDomain::read(alloc, text.as_bytes(), PROFILE, None) else {
+    let Ok(network) = NetworkDomain::read(alloc, text.as_bytes(), PROFILE, None) else {
         return false;
     };
-    match sketch.at(alloc, sketch.open_cycle()) {
-        Ok(plant) => plant.cycle_time().0 == cycle && plant.links() == 3,
+    match network.at(alloc, network.open_cycle()) {
+        Ok(plan) => plan.cycle_time().0 == cycle && plan.links() == 3,
         Err(_) => false,
     }
 }
@@ -135,7 +135,7 @@ fn turned_opens_at(alloc: Global, old: &str, new: &str, cycle: u64) -> bool {
 
 /// A candidate that isn't longer than a guard band isn't open.
 #[test]
-fn the_plant_has_the_first_open_cycle(rt: HostRuntime) {
+fn the_plan_has_the_first_open_cycle(rt: HostRuntime) {
     assert!(rt; opens_at(rt.alloc(), SKETCH, 250_000));
     assert!(rt; turned_opens_at(rt.alloc(), "", "", 125_000));
     assert!(rt; turned_opens_at(rt.alloc(), "guard = 4000", "guard = 125000", 250_000));

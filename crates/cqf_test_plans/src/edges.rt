@@ -3,7 +3,7 @@ use cqf_edge::{
     EdgeFault, EdgeFlows, EdgeStreams, edge_flows, edge_streams, read_streams_are_written,
 };
 use cqf_model::Limits;
-use cqf_sketch::{SketchDomain, read_network_flows, read_sketch_streams};
+use cqf_network::{NetworkDomain, read_network_flows, read_network_streams};
 use cqf_units::Name;
 use std::alloc::Global;
 
@@ -33,7 +33,7 @@ deadline = 500000
 /// Returns the streams of the changed network at their edge bridges, with `new` in place of `old` in its text.
 fn edges(alloc: Global, old: &str, new: &str) -> Option<Result<EdgeFlows, EdgeFault>> {
     let text = NETWORK.replacen(alloc, old, new, 1).ok()?;
-    let network = SketchDomain::read_one(alloc, text.as_bytes(), Limits::of_profile()).ok()?;
+    let network = NetworkDomain::read_one(alloc, text.as_bytes(), Limits::of_profile()).ok()?;
     read_streams_are_written();
     match read_network_flows(alloc, text.as_bytes()) {
         Ok(flows) => Some(edge_flows(alloc, &network, flows)),
@@ -149,9 +149,9 @@ fn three_frames_in_an_interval_are_too_many_for_an_access_link(rt: HostRuntime) 
 /// Returns the streams of the changed network at their edge bridges, if it is to be planned.
 fn planned_edges(alloc: Global, old: &str, new: &str) -> Option<Result<EdgeStreams, EdgeFault>> {
     let text = NETWORK.replacen(alloc, old, new, 1).ok()?;
-    let network = SketchDomain::read_one(alloc, text.as_bytes(), Limits::of_profile()).ok()?;
+    let network = NetworkDomain::read_one(alloc, text.as_bytes(), Limits::of_profile()).ok()?;
     read_streams_are_written();
-    match read_sketch_streams(alloc, text.as_bytes()) {
+    match read_network_streams(alloc, text.as_bytes()) {
         Ok(streams) => Some(edge_streams(alloc, &network, streams)),
         Err(_) => None,
     }

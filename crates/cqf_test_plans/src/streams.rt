@@ -1,5 +1,5 @@
 //! Streams of network files, read or refused.
-use cqf_sketch::{FlowsFault, read_sketch_streams};
+use cqf_network::{FlowsFault, read_network_streams};
 use std::alloc::Global;
 
 /// A stream with traffic to two listeners, and one along a path.
@@ -30,7 +30,7 @@ fn answers(alloc: Global, old: &str, new: &str, wanted: &str) -> bool {
     let Ok(changed) = STREAMS.replacen(alloc, old, new, 1) else {
         return false;
     };
-    match read_sketch_streams(alloc, changed.as_bytes()) {
+    match read_network_streams(alloc, changed.as_bytes()) {
         Ok(streams) => wanted == "read" && streams.len() == 2,
         Err(fault) => prints(alloc, fault, wanted),
     }

@@ -1,5 +1,5 @@
 //! Plans that are written.
-use cqf_plants::write_plant;
+use cqf_network_text::write_plan;
 use cqf_topology::Domain;
 use cqf_traffic::read_flows;
 use std::alloc::Global;
@@ -238,14 +238,14 @@ fn is_told_as(alloc: Global, text: &str, wanted: &str) -> bool {
     let Ok(flows) = read_flows(alloc, text.as_bytes()) else {
         return false;
     };
-    match write_plant(alloc, &domain, flows.as_slice()) {
+    match write_plan(alloc, &domain, flows.as_slice()) {
         Ok(told) => told.as_str() == wanted,
         Err(_) => false,
     }
 }
 
 #[test]
-fn told_plants_are_told_again(rt: HostRuntime) {
+fn told_plans_are_told_again(rt: HostRuntime) {
     for text in [PLAN, ALONE, PACED, LOOSE] {
         assert!(rt; is_told_as(rt.alloc(), text, text), "{text}");
     }
@@ -257,6 +257,6 @@ fn streams_of_each_cycle_are_told_without_their_cycles(rt: HostRuntime) {
 }
 
 #[test]
-fn exact_plants_are_told_without_what_is_as_if_unsaid(rt: HostRuntime) {
+fn exact_plans_are_told_without_what_is_as_if_unsaid(rt: HostRuntime) {
     assert!(rt; is_told_as(rt.alloc(), EXACT, EXACT_TOLD));
 }

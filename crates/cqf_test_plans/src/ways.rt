@@ -3,7 +3,7 @@ ghost use Rattle.std.specs.Prelude.{◌≡◌, ◌<◌, All, true};
 ghost use Rattle.cqf_model.specs.Limits.{most_bridges};
 
 use cqf_model::{Link, MOST_BRIDGES, Node};
-use cqf_sketch::{Room, WaysFault, first_short, first_way, first_ways};
+use cqf_network::{Room, WaysFault, first_short, first_way, first_ways};
 use cqf_units::Rate;
 use std::alloc::Global;
 

@@ -22,7 +22,7 @@ mod making;
 #[cfg(test)]
 mod orders;
 #[cfg(test)]
-mod plants;
+mod plans;
 #[cfg(test)]
 mod quiet;
 #[cfg(test)]

@@ -1,7 +1,7 @@
 -- The result of the command `compile` for its input: the configuration of a domain and its streams, or the line of the input's first fault.
 use Rattle.cqf_program_scenario.specs.Networks.{domain_of, network_of_part}
 use Rattle.cqf_program_plans.specs.NetworkRequests.{requests_of_network}
-use Rattle.cqf_sketch.specs.SketchDomain.{SketchDomain}
+use Rattle.cqf_network.specs.NetworkDomain.{NetworkDomain}
 use Rattle.cqf_model.specs.declared.limits.Limits.{Limits}
 use Rattle.std.specs.Prelude.{ℕ, ◌≡◌, ◌≤◌, ◌+◌, ◌++◌, codes, decimal, length, List, [], ◌∷◌, map, Result, Ok}
 use Rattle.cqf_model.specs.declared.topology.Row.{Row}
@@ -35,7 +35,7 @@ admitted_from d entries place (asked ∷ more) =
 
 -- the domain of a network and the streams of a part for it, or the line of the part's first fault: of the streams, of the first that doesn't
 -- enter as its text says, of the first access link that is full, and of the first stream that reserves less than its traffic needs
-abbrev pub plan_of_network : SketchDomain → List ℕ → Result (Domain × List Asked) (List ℕ)
+abbrev pub plan_of_network : NetworkDomain → List ℕ → Result (Domain × List Asked) (List ℕ)
 plan_of_network network text = and_then (requests_of_network network text) (λ requests. Ok (domain_of network, map asked_by requests))
 
 -- the domain and the streams of an input, or the line of the first fault: of the parts, then of the domain, then of the

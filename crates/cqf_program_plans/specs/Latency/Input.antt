@@ -13,7 +13,7 @@ use Rattle.cqf_program_plans.specs.Edges.{open_edges_of_part}
 use Rattle.cqf_program_plans.specs.Reserving.{requests_at}
 use Rattle.cqf_program_scenario.specs.Networks.{domain_of, network_of_part}
 use Rattle.cqf_edge.specs.EdgeFlows.{EdgeFlowsText}
-use Rattle.cqf_sketch.specs.SketchDomain.{SketchDomain}
+use Rattle.cqf_network.specs.NetworkDomain.{NetworkDomain}
 use Rattle.cqf_topology.specs.PacedText.{PacedText}
 
 -- the streams as they are requested, and their deadlines, by number
@@ -26,14 +26,14 @@ deadlines_in streams = map (λ (planned : PlannedText). planned.1) streams
 -- the plan of an input from where its streams begin, or the line of the first fault: of the parts, then of the domain, then of the streams,
 -- of the first that doesn't enter as its text says, of the first access link that is full, and of the first stream that reserves less than
 -- its traffic needs
-abbrev pub plan_with : SketchDomain → EdgeFlowsText → List PacedText → PlanFromTalkers
+abbrev pub plan_with : NetworkDomain → EdgeFlowsText → List PacedText → PlanFromTalkers
 plan_with network edge requests =
     record { domain = domain_of network; streams = map asked_by requests; deadlines = edge.deadlines; times = edge.times }
 
-abbrev pub plan_from : SketchDomain → EdgeFlowsText → Result PlanFromTalkers (List ℕ)
+abbrev pub plan_from : NetworkDomain → EdgeFlowsText → Result PlanFromTalkers (List ℕ)
 plan_from network edge = and_then (requests_at (domain_of network) edge.flows) (λ requests. Ok (plan_with network edge requests))
 
-abbrev pub streams_for : SketchDomain → List ℕ → Result PlanFromTalkers (List ℕ)
+abbrev pub streams_for : NetworkDomain → List ℕ → Result PlanFromTalkers (List ℕ)
 streams_for network text = and_then (open_edges_of_part network text) (plan_from network)
 
 abbrev pub latency_input : Limits → List ℕ → Result PlanFromTalkers (List ℕ)

@@ -8,8 +8,8 @@ use Rattle.cqf_model.specs.History.{Asked}
 use Rattle.cqf_admission.specs.Asking.{asked_by}
 use Rattle.cqf_traffic.specs.FlowsText.{FlowText}
 use Rattle.cqf_traffic.specs.TrafficText.{TrafficText}
-use Rattle.cqf_sketch.specs.declared.domain.TalkerLink.{TalkerLink}
-use Rattle.cqf_sketch.specs.SketchDomain.{SketchDomain}
+use Rattle.cqf_network.specs.declared.domain.TalkerLink.{TalkerLink}
+use Rattle.cqf_network.specs.NetworkDomain.{NetworkDomain}
 use Rattle.cqf_edge.specs.declared.uses.Handed.{Handed}
 use Rattle.cqf_report.specs.Records.{Fields}
 use Rattle.cqf_report.specs.Written.{line_of_fields}
@@ -37,7 +37,7 @@ abbrev pub most_taken : ℕ
 most_taken = 2 ^ 44
 
 -- an access link before any stream takes a part of it
-abbrev pub unloaded : SketchDomain → ℕ → TalkerLink → AccessLoad
+abbrev pub unloaded : NetworkDomain → ℕ → TalkerLink → AccessLoad
 unloaded network cycle_time link = record {
   from = slice_index_or network.stations link.station [];
   to = slice_index_or network.bridges link.bridge [];
@@ -65,7 +65,7 @@ loads_with cycle_time loads (None ∷ more) (flow ∷ flows) = loads_with cycle_
 loads_with cycle_time loads (Some handed ∷ more) (flow ∷ flows) =
     loads_with cycle_time (added_load loads handed.place (taken_by cycle_time handed (asked_by flow.0.0))) more flows
 
-abbrev pub access_loads : SketchDomain → ℕ → List (Option Handed) → List FlowText → List AccessLoad
+abbrev pub access_loads : NetworkDomain → ℕ → List (Option Handed) → List FlowText → List AccessLoad
 access_loads network cycle_time handed flows = loads_with cycle_time (map (unloaded network cycle_time) network.talkers) handed flows
 
 -- what is held is what as many streams can take

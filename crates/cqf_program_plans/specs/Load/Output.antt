@@ -7,7 +7,7 @@ use Rattle.cqf_model.specs.Domain.{Domain}
 use Rattle.cqf_model.specs.History.{Asked}
 use Rattle.cqf_text.specs.Parts.{parts_of}
 use Rattle.cqf_admission.specs.Asking.{asked_by}
-use Rattle.cqf_sketch.specs.SketchDomain.{SketchDomain}
+use Rattle.cqf_network.specs.NetworkDomain.{NetworkDomain}
 use Rattle.cqf_edge.specs.EdgeFlows.{EdgeFlowsText}
 use Rattle.cqf_program_scenario.specs.Networks.{domain_of, network_of_part}
 use Rattle.cqf_program_scenario.specs.Parts.{two_parts}
@@ -33,14 +33,14 @@ pub record LoadedInput : Type 0 where
   pub streams : List Asked
 
 -- of a network in which a station has an access link: also where one is full, since it is here that one sees how full
-abbrev pub loaded_from : SketchDomain → EdgeFlowsText → Result LoadedInput (List ℕ)
+abbrev pub loaded_from : NetworkDomain → EdgeFlowsText → Result LoadedInput (List ℕ)
 loaded_from network edge = and_then (requests_at (domain_of network) edge.flows) (λ requests. Ok (record {
   domain = domain_of network;
   access = access_loads network (domain_of network).cycle_time edge.handed edge.flows;
   streams = map asked_by requests;
 }))
 
-abbrev pub loaded_by_access : SketchDomain → List ℕ → Result LoadedInput (List ℕ)
+abbrev pub loaded_by_access : NetworkDomain → List ℕ → Result LoadedInput (List ℕ)
 loaded_by_access network text = and_then (edges_of_part network text) (loaded_from network)
 
 -- of one in which none has
@@ -48,7 +48,7 @@ abbrev pub loaded_without : Domain → List ℕ → Result LoadedInput (List ℕ
 loaded_without d text = and_then (requests_in d text) (λ requests. Ok (record { domain = d; access = []; streams = map asked_by requests }))
 
 -- of a network, and a part for it
-abbrev pub loaded_network : SketchDomain → List ℕ → Result LoadedInput (List ℕ)
+abbrev pub loaded_network : NetworkDomain → List ℕ → Result LoadedInput (List ℕ)
 loaded_network network text = if has_access network then loaded_by_access network text else loaded_without (domain_of network) text
 
 -- that of an input, or the line of its first fault: of the parts, of the domain, of the streams, or of the first that doesn't enter as its

@@ -19,9 +19,9 @@ use cqf_admission::{Ledger, Receipt, Refused, count_places, judge_paced};
 use cqf_compile::compile;
 use cqf_laws_history::state_follows_history;
 use cqf_model::{Limits, Row};
+use cqf_network::NetworkDomain;
 use cqf_output::{Buffer, REFUSED, Stop};
 use cqf_program_scenario::{domain_of, network_part, two_parts};
-use cqf_sketch::SketchDomain;
 use cqf_topology::{Domain, PacedRequest};
 use cqf_units::{Cycle, Memory};
 use std::alloc::Global;
@@ -32,7 +32,7 @@ const SEAT: u16 = 0;
 /// The domain of a network, and the streams of a part for it.
 fn plan_of_network(
     alloc: Global,
-    network: &SketchDomain,
+    network: &NetworkDomain,
     text: &[u8],
 ) -> Result<(Domain, Vec<PacedRequest>), Stop>
     ensures ok { IfOk result (λ found. plan_of_network network.now text.now ≡ Ok (found.0, map asked_paced found.1.items)) }

@@ -11,9 +11,9 @@ use crate::edges::open_edges_part;
 use crate::reserving::requests_at;
 use cqf_edge::AccessTimes;
 use cqf_model::Limits;
+use cqf_network::NetworkDomain;
 use cqf_output::Stop;
 use cqf_program_scenario::{domain_of, network_part, two_parts};
-use cqf_sketch::SketchDomain;
 use cqf_topology::{Domain, PacedRequest, Planned};
 use cqf_traffic::Flow;
 use cqf_units::Memory;
@@ -33,7 +33,7 @@ pub(crate) struct LatencyInput {
 /// a cycle at its edge bridge.
 fn read_streams(
     alloc: Global,
-    network: &SketchDomain,
+    network: &NetworkDomain,
     domain: Domain,
     text: &[u8],
 ) -> Result<LatencyInput, Stop>

@@ -7,7 +7,7 @@ ghost use Rattle.cqf_program_plans.specs.Load.Access.{IsLoadedBy, TakesLittle, a
 ghost use Rattle.cqf_program_plans.specs.Load.Access.{reserved_in, taken_by, unloaded};
 
 use cqf_edge::{EdgeFlows, Handed};
-use cqf_sketch::{SketchDomain, TalkerLink};
+use cqf_network::{NetworkDomain, TalkerLink};
 use cqf_topology::PacedRequest;
 use cqf_traffic::Traffic;
 use cqf_units::{Memory, Name, Nanos, Rate, octet_ticks};
@@ -85,7 +85,7 @@ fn taken_by(cycle_time: Nanos, handed: &Handed, request: &PacedRequest) -> u128
 }
 
 /// Returns an access link, before any stream takes a part of it.
-fn unloaded(network: &SketchDomain, cycle_time: Nanos, link: &TalkerLink) -> AccessLoad
+fn unloaded(network: &NetworkDomain, cycle_time: Nanos, link: &TalkerLink) -> AccessLoad
     requires station { link.now.station < length network.now.stations }
     requires bridge { link.now.bridge < length network.now.bridges }
     requires short { cycle_time.0 ≤ longest_cycle }
@@ -104,7 +104,7 @@ fn unloaded(network: &SketchDomain, cycle_time: Nanos, link: &TalkerLink) -> Acc
 /// Returns the access links of a network, before any stream takes a part of them.
 fn all_unloaded(
     alloc: Global,
-    network: &SketchDomain,
+    network: &NetworkDomain,
     cycle_time: Nanos,
 ) -> Result<Vec<AccessLoad>, Memory>
     requires { cycle_time.0 ≤ longest_cycle }
@@ -147,7 +147,7 @@ fn handed_at(all: &[Option<Handed>], place: usize) -> Option<&Handed>
 /// `Memory` if an allocation fails.
 pub(crate) fn access_loads(
     alloc: Global,
-    network: &SketchDomain,
+    network: &NetworkDomain,
     cycle_time: Nanos,
     edge: &EdgeFlows,
 ) -> Result<Vec<AccessLoad>, Memory>

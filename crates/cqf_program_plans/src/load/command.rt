@@ -17,9 +17,9 @@ use crate::reserving::{requests_at, requests_in};
 use crate::stream_stop;
 use cqf_admission::count_places;
 use cqf_model::Limits;
+use cqf_network::NetworkDomain;
 use cqf_output::{Buffer, Stop};
 use cqf_program_scenario::{domain_of, network_part, two_parts};
-use cqf_sketch::SketchDomain;
 use cqf_topology::{Domain, PacedRequest};
 use std::alloc::Global;
 
@@ -75,7 +75,7 @@ struct LoadInput {
 /// how full it is.
 fn read_with_access(
     alloc: Global,
-    network: &SketchDomain,
+    network: &NetworkDomain,
     domain: Domain,
     text: &[u8],
 ) -> Result<LoadInput, Stop>
@@ -114,7 +114,7 @@ fn read_without_access(alloc: Global, domain: Domain, text: &[u8]) -> Result<Loa
 /// Reads the streams of a network, whose domain this is.
 fn read_network(
     alloc: Global,
-    network: &SketchDomain,
+    network: &NetworkDomain,
     domain: Domain,
     text: &[u8],
 ) -> Result<LoadInput, Stop>

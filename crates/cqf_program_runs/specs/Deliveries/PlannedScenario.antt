@@ -7,7 +7,7 @@ use Rattle.cqf_model.specs.Run.{Run}
 use Rattle.cqf_text.specs.Parts.{parts_of}
 use Rattle.cqf_topology.specs.PlannedText.{PlannedText, planned_of_text}
 use Rattle.cqf_program_scenario.specs.Lines.{streams_line}
-use Rattle.cqf_sketch.specs.SketchDomain.{SketchDomain}
+use Rattle.cqf_network.specs.NetworkDomain.{NetworkDomain}
 use Rattle.cqf_traffic.specs.FlowsText.{FlowText}
 use Rattle.cqf_program_plans.specs.Edges.{has_access, open_edges_of_part}
 use Rattle.cqf_program_scenario.specs.Networks.{domain_of, network_of_part}
@@ -19,7 +19,7 @@ use Rattle.cqf_output.specs.Stops.{or_line}
 
 -- the streams of a part of a network, with their deadlines from their edge bridges on; or the line of the first fault. Where no station has
 -- an access link, traffic isn't read
-abbrev pub planned_of_part : SketchDomain → List ℕ → Result (List PlannedText) (List ℕ)
+abbrev pub planned_of_part : NetworkDomain → List ℕ → Result (List PlannedText) (List ℕ)
 planned_of_part network text =
     if has_access network
     then and_then (open_edges_of_part network text) (λ edge. Ok (map (λ (flow : FlowText). flow.0) edge.flows))

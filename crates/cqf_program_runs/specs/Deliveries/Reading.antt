@@ -15,7 +15,7 @@ use Rattle.cqf_program_runs.specs.declared.deliveries.delivery.Delivery.{Deliver
 use Rattle.cqf_program_runs.specs.Deliveries.{deliveries_of}
 use Rattle.cqf_program_runs.specs.declared.deliveries.reading.PlannedGiven.{PlannedGiven}
 use Rattle.cqf_program_runs.specs.Deliveries.PlannedScenario.{planned_of_part, planned_scenario, planned_scenario_of, run_of_scenario}
-use Rattle.cqf_sketch.specs.SketchDomain.{SketchDomain}
+use Rattle.cqf_network.specs.NetworkDomain.{NetworkDomain}
 
 -- requests and deadlines, by the same indexes, are those of the streams
 pub record ArePlannedBeside (streams : List PlannedText) (requests : List PacedRequest) (deadlines : List (Option ℕ)) : Type 0 where
@@ -29,7 +29,7 @@ pub record ArePlannedIn (text : List ℕ) (requests : List PacedRequest) (deadli
   pub planned : ArePlannedBeside streams requests deadlines
 
 -- they are those of a part of a network, from their edge bridges on
-pub record ArePlannedOf (network : SketchDomain) (text : List ℕ) (requests : List PacedRequest) (deadlines : List (Option ℕ)) : Type 0 where
+pub record ArePlannedOf (network : NetworkDomain) (text : List ℕ) (requests : List PacedRequest) (deadlines : List (Option ℕ)) : Type 0 where
   pub streams : List PlannedText
   pub holds : planned_of_part network text ≡ Ok streams
   pub planned : ArePlannedBeside streams requests deadlines

@@ -9,12 +9,12 @@ ghost use Rattle.cqf_program_plans.specs.Edges.{has_access};
 ghost use Rattle.cqf_program_runs.specs.Deliveries.Reading.{ArePlannedIn, ArePlannedOf, IsPlannedGiven, IsPlannedIn};
 
 use cqf_model::Limits;
+use cqf_network::NetworkDomain;
 use cqf_output::Stop;
 use cqf_program_plans::{open_edges_part, parted, parted_flows};
 use cqf_program_scenario::{
     RunInput, RunParts, domain_of, network_part, planned_part, read_behind, run_parts,
 };
-use cqf_sketch::SketchDomain;
 use cqf_topology::PacedRequest;
 use std::alloc::Global;
 
@@ -45,7 +45,7 @@ fn read_paced_streams(
 /// Reads the same of a network in which a station has an access link. The deadlines are those from the streams' edge bridges on.
 fn read_edge_streams(
     alloc: Global,
-    network: &SketchDomain,
+    network: &NetworkDomain,
     text: &[u8],
 ) -> Result<(Vec<PacedRequest>, Vec<Option<u32>>), Stop>
     requires { has_access network.now ≡ true }
@@ -62,7 +62,7 @@ fn read_edge_streams(
 /// Reads the requests for the streams of a part, and their deadlines from their edge bridges on. Ends as [`open_edges_part`] does.
 fn read_planned_streams(
     alloc: Global,
-    network: &SketchDomain,
+    network: &NetworkDomain,
     text: &[u8],
 ) -> Result<(Vec<PacedRequest>, Vec<Option<u32>>), Stop>
     ensures ok { IfOk result (λ found. ArePlannedOf network.now text.now found.0.items found.1.items) }

@@ -1,5 +1,5 @@
 use Rattle.std.proofs.Common.{◌≡◌, map, take}
-use Rattle.cqf_sketch.specs.NetworkFlows.{NetworkFlowText, network_flow_text}
+use Rattle.cqf_network.specs.NetworkFlows.{NetworkFlowText, network_flow_text}
 use Rattle.cqf_edge.proofs.flows.deadlines_of.Given as goal
 
 abbrev pub invariant-loop-found : goal.invariant-loop-found

@@ -3,8 +3,8 @@ use Rattle.std.proofs.lemmas.List.{nil_from_length}
 use Rattle.std.specs.Vec.Iter.{into_iter_items}
 use Rattle.cqf_traffic.specs.declared.flows.Flow.{Flow}
 use Rattle.cqf_traffic.specs.FlowsText.{FlowText, flow_text}
-use Rattle.cqf_sketch.specs.declared.network_flows.NetworkFlow.{NetworkFlow}
-use Rattle.cqf_sketch.specs.NetworkFlows.{network_flow_text}
+use Rattle.cqf_network.specs.declared.network_flows.NetworkFlow.{NetworkFlow}
+use Rattle.cqf_network.specs.NetworkFlows.{network_flow_text}
 use Rattle.cqf_edge.specs.EdgeFlows.{IsPassageOne, flow_behind, flows_behind}
 use Rattle.cqf_edge.proofs.FlowLemmas.{none_behind}
 use Rattle.cqf_edge.proofs.Mapped.{at_item, come_next, one_longer}

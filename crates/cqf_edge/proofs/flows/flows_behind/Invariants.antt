@@ -1,7 +1,7 @@
 use Rattle.std.proofs.Common.{◌≡◌, ◌++◌, ◌+◌, drop, length, map}
 use Rattle.std.specs.Vec.Iter.{into_iter_items}
 use Rattle.cqf_traffic.specs.FlowsText.{flow_text}
-use Rattle.cqf_sketch.specs.NetworkFlows.{network_flow_text}
+use Rattle.cqf_network.specs.NetworkFlows.{network_flow_text}
 use Rattle.cqf_edge.specs.EdgeFlows.{flows_behind}
 use Rattle.cqf_edge.proofs.flows.flows_behind.Given as goal
 

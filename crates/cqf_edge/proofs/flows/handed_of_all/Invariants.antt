@@ -1,7 +1,7 @@
 use Rattle.std.proofs.Common.{◌≡◌, drop, length, map}
 use Rattle.std.specs.Prelude.{All}
 use Rattle.cqf_topology.specs.DomainText.{with_front}
-use Rattle.cqf_sketch.specs.NetworkFlows.{network_flow_text}
+use Rattle.cqf_network.specs.NetworkFlows.{network_flow_text}
 use Rattle.cqf_edge.specs.EdgeFlows.{IsHandedOne, handed_of_all}
 use Rattle.cqf_edge.proofs.flows.handed_of_all.Given as goal
 

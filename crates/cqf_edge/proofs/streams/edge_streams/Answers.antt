@@ -1,6 +1,6 @@
 use Rattle.std.proofs.Common.{◌∙◌, ap, length, map}
 use Rattle.std.proofs.lemmas.List.Elements.{All-same}
-use Rattle.cqf_sketch.specs.StreamsText.{stream_text}
+use Rattle.cqf_network.specs.StreamsText.{stream_text}
 use Rattle.cqf_edge.specs.EdgeFlows.{IsHandedOne}
 use Rattle.cqf_edge.specs.EdgeStreams.{IsEntranceOne, IsWrittenStream}
 use Rattle.cqf_edge.proofs.streams.edge_streams.Goals as goal

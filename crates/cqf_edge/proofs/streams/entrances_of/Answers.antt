@@ -2,7 +2,7 @@ use Rattle.std.proofs.Common.{◌∙◌, map, refl, sym}
 use Rattle.std.proofs.lemmas.List.Elements.{All-push, All-same}
 use Rattle.cqf_topology.proofs.Fronts.{read-more, read-fault, read-all}
 use Rattle.cqf_topology.proofs.Refusals.{Gives-residual}
-use Rattle.cqf_sketch.specs.StreamsText.{stream_text}
+use Rattle.cqf_network.specs.StreamsText.{stream_text}
 use Rattle.cqf_edge.specs.declared.faults.EdgeFault.TheVariants.{Memory}
 use Rattle.cqf_edge.specs.EdgeStreams.{IsEntranceOne, entrances_of}
 use Rattle.cqf_edge.proofs.Mapped.{one_longer}

@@ -1,7 +1,7 @@
 use Rattle.std.proofs.Common.{◌≡◌, drop, length, map}
 use Rattle.std.specs.Prelude.{All}
 use Rattle.cqf_topology.specs.DomainText.{with_front}
-use Rattle.cqf_sketch.specs.StreamsText.{stream_text}
+use Rattle.cqf_network.specs.StreamsText.{stream_text}
 use Rattle.cqf_edge.specs.EdgeStreams.{IsEntranceOne, entrances_of}
 use Rattle.cqf_edge.proofs.streams.entrances_of.Given as goal
 

@@ -1,5 +1,5 @@
 use Rattle.std.proofs.Common.{◌≡◌, ◌∙◌, Some, ap}
-use Rattle.cqf_sketch.specs.StreamsText.{stream_text}
+use Rattle.cqf_network.specs.StreamsText.{stream_text}
 use Rattle.cqf_edge.specs.declared.entrances.Entrance.{Entrance}
 use Rattle.cqf_edge.specs.declared.entrances.Entrance.TheVariants.{ByAccess}
 use Rattle.cqf_edge.proofs.Handing.{is_handed}

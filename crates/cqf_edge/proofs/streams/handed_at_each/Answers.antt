@@ -1,6 +1,6 @@
 use Rattle.std.proofs.Common.{◌∙◌, ◌<◌, arith, length, map, refl}
 use Rattle.std.proofs.lemmas.List.Elements.{All-push, All-same}
-use Rattle.cqf_sketch.specs.StreamsText.{stream_text}
+use Rattle.cqf_network.specs.StreamsText.{stream_text}
 use Rattle.cqf_edge.specs.EdgeFlows.{IsHandedOne}
 use Rattle.cqf_edge.specs.EdgeStreams.{IsWrittenStream, handed_at, handed_at_each}
 use Rattle.cqf_edge.proofs.Mapped.{at_mapped, both_next, one_longer}

@@ -1,6 +1,6 @@
 use Rattle.std.proofs.Common.{◌≡◌, ◌++◌, drop, length, map}
 use Rattle.std.specs.Prelude.{All}
-use Rattle.cqf_sketch.specs.StreamsText.{stream_text}
+use Rattle.cqf_network.specs.StreamsText.{stream_text}
 use Rattle.cqf_edge.specs.EdgeFlows.{IsHandedOne}
 use Rattle.cqf_edge.specs.EdgeStreams.{handed_at_each}
 use Rattle.cqf_edge.proofs.streams.handed_at_each.Given as goal

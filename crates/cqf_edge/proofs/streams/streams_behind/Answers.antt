@@ -1,8 +1,8 @@
 use Rattle.std.proofs.Common.{◌≡◌, ◌∙◌, ◌+◌, ◌++◌, ◌<◌, [], List, ap, append-nil, arith, drop, length, map, refl, suc, sym}
 use Rattle.std.proofs.lemmas.List.{nil_from_length}
 use Rattle.std.specs.Vec.Iter.{into_iter_items}
-use Rattle.cqf_sketch.specs.declared.streams.Stream.{Stream}
-use Rattle.cqf_sketch.specs.StreamsText.{stream_text}
+use Rattle.cqf_network.specs.declared.streams.Stream.{Stream}
+use Rattle.cqf_network.specs.StreamsText.{stream_text}
 use Rattle.cqf_edge.specs.EdgeFlows.{IsPassageOne}
 use Rattle.cqf_edge.specs.EdgeStreams.{stream_behind, streams_behind}
 use Rattle.cqf_edge.proofs.Mapped.{at_item, one_longer, three_next}

@@ -1,6 +1,6 @@
 use Rattle.std.proofs.Common.{◌≡◌, ◌++◌, ◌+◌, drop, length, map}
 use Rattle.std.specs.Vec.Iter.{into_iter_items}
-use Rattle.cqf_sketch.specs.StreamsText.{stream_text}
+use Rattle.cqf_network.specs.StreamsText.{stream_text}
 use Rattle.cqf_edge.specs.EdgeStreams.{streams_behind}
 use Rattle.cqf_edge.proofs.streams.streams_behind.Given as goal
 

@@ -1,5 +1,5 @@
 use Rattle.std.proofs.Common.{◌≡◌, drop, map}
-use Rattle.cqf_program_files.specs.Plants.{first_long_among}
+use Rattle.cqf_program_files.specs.Files.{first_long_among}
 use Rattle.cqf_program_files.proofs.checking.first_long_among.Given as goal
 
 abbrev pub invariant-loop-text : goal.invariant-loop-text

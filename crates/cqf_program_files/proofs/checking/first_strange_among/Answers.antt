@@ -1,5 +1,5 @@
 use Rattle.std.proofs.Common.{ap, ◌∙◌, sym, option_map, string_bytes}
-use Rattle.cqf_program_files.specs.Plants.{shown_key}
+use Rattle.cqf_program_files.specs.Files.{shown_key}
 use Rattle.cqf_program_files.proofs.Firsts.{found_behind, found_here, strange_at}
 use Rattle.cqf_program_files.proofs.checking.first_strange_among.Goals as goal
 

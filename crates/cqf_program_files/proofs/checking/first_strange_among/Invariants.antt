@@ -1,5 +1,5 @@
 use Rattle.std.proofs.Common.{◌≡◌, drop, map, option_map}
-use Rattle.cqf_program_files.specs.Plants.{first_strange_among, shown_key}
+use Rattle.cqf_program_files.specs.Files.{first_strange_among, shown_key}
 use Rattle.cqf_program_files.proofs.checking.first_strange_among.Given as goal
 
 abbrev pub invariant-loop-text : goal.invariant-loop-text

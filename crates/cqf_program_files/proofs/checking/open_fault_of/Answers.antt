@@ -2,7 +2,7 @@ use Rattle.std.proofs.Common.{◌≡◌, ◌∙◌, IfOk, None, Some, ap, map, o
 use Rattle.std.proofs.lemmas.List.{take-map}
 use Rattle.toml.specs.View.{table_view}
 use Rattle.cqf_program_files.specs.Opening.{network_texts, open_refusal}
-use Rattle.cqf_program_files.specs.Plants.{plant_fault_line, tables_of}
+use Rattle.cqf_program_files.specs.Files.{files_fault_line, tables_of}
 use Rattle.cqf_program_files.proofs.Firsts.{open_at, open_nowhere}
 use Rattle.cqf_program_files.proofs.checking.open_fault_of.Goals as goal
 
@@ -17,7 +17,7 @@ returns-in-Some c =
     let at : Some tables ≡ tables_of front = ap (option_map (λ tables. map table_view tables.items)) (sym c.in-Some.is) ∙ c.in_ok-tables.ensures in
     let same : open_refusal (map table_view c.as_slice.result.now) ≡ open_refusal tables =
     ap (λ items. open_refusal (map table_view items)) c.as_slice.ensures.value in
-    subst (λ line. IfOk c.open_fault.result (λ found. option_map plant_fault_line found ≡ line)) (same ∙ open_at names texts front tables first at)
+    subst (λ line. IfOk c.open_fault.result (λ found. option_map files_fault_line found ≡ line)) (same ∙ open_at names texts front tables first at)
     c.open_fault.ensures
 
 pub returns-in-None : goal.returns-in-None

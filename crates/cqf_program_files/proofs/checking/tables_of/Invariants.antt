@@ -1,6 +1,6 @@
 use Rattle.std.proofs.Common.{◌≡◌, ◌++◌, drop, map, option_map}
 use Rattle.toml.specs.View.{table_view}
-use Rattle.cqf_program_files.specs.Plants.{tables_of}
+use Rattle.cqf_program_files.specs.Files.{tables_of}
 use Rattle.cqf_program_files.proofs.checking.tables_of.Given as goal
 
 abbrev pub invariant-loop-text : goal.invariant-loop-text

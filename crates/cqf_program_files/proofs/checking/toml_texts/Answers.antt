@@ -1,5 +1,5 @@
 use Rattle.std.proofs.Common.{arith, ◌<◌, ◌+◌, ◌++◌, ap, ◌∙◌, sym, append_assoc, append-nil, drop, length, map}
-use Rattle.cqf_program_files.specs.Plants.{toml_texts}
+use Rattle.cqf_program_files.specs.Files.{toml_texts}
 use Rattle.cqf_program_files.proofs.Firsts.{toml_at, toml_end}
 use Rattle.cqf_program_files.proofs.checking.toml_texts.Goals as goal
 

@@ -1,5 +1,5 @@
 use Rattle.std.proofs.Common.{◌≡◌, ◌++◌, drop, map}
-use Rattle.cqf_program_files.specs.Plants.{toml_texts}
+use Rattle.cqf_program_files.specs.Files.{toml_texts}
 use Rattle.cqf_program_files.proofs.checking.toml_texts.Given as goal
 
 abbrev pub invariant-loop-place : goal.invariant-loop-place

@@ -8,5 +8,5 @@ returns-in-Some-default c =
     let names = map (λ name. name.now) c.args.names.now in
     let texts = map (λ text. text.now) c.args.texts.now in
     let rest = behind_first (λ text. text.now) c.args.texts.now c.leading.result ∙ ap (λ n. drop n texts) c.leading.ensures.value in
-    subst (λ plant. IfOk c.gathered.result (IsGatheredWith c.args.job.now names texts (option_map (λ it. it.now) plant))) (sym c.in-Some-default.is-0)
+    subst (λ joint. IfOk c.gathered.result (IsGatheredWith c.args.job.now names texts (option_map (λ it. it.now) joint))) (sym c.in-Some-default.is-0)
     (rw (c.joint_names.ensures, c.as_bytes.ensures.value, rest) at c.gathered.ensures)

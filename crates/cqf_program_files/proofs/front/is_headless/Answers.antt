@@ -8,6 +8,6 @@ returns-in-Some-default c =
     let names = map (λ name. name.now) c.args.names.now in
     let texts = map (λ text. text.now) c.args.texts.now in
     let rest = behind_first (λ text. text.now) c.args.texts.now c.leading.result ∙ ap (λ n. drop n texts) c.leading.ensures.value in
-    subst (λ plant. IfOk c.lacks_header.result (λ headless. headless ≡ is_headless c.args.job.now names texts (option_map (λ it. it.now) plant)))
+    subst (λ joint. IfOk c.lacks_header.result (λ headless. headless ≡ is_headless c.args.job.now names texts (option_map (λ it. it.now) joint)))
     (sym c.in-Some-default.is-0)
     (rw (c.joint_names.ensures, c.as_bytes.ensures.value, rest) at c.lacks_header.ensures)

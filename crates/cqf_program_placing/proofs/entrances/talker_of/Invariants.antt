@@ -1,7 +1,7 @@
 -- The first talker's link of the station is among the rest.
 use Rattle.std.proofs.Common.{◌≡◌, drop, find}
 use Rattle.std.specs.Prelude.{◌==◌}
-use Rattle.cqf_sketch.specs.declared.domain.TalkerLink.{TalkerLink}
+use Rattle.cqf_network.specs.declared.domain.TalkerLink.{TalkerLink}
 use Rattle.cqf_program_placing.proofs.entrances.talker_of.Given as goal
 
 abbrev pub invariant-loop-talker : goal.invariant-loop-talker

@@ -2,8 +2,8 @@ use Rattle.std.proofs.Common.{◌∙◌, ℕ, ap, get_or, map, subst}
 use Rattle.arrayvec.specs.ArrayVec.{ArrayVec}
 use Rattle.cqf_admission.specs.Branches.{branches_of}
 use Rattle.cqf_model.specs.declared.topology.Node.TheVariants.{Bridge}
-use Rattle.cqf_sketch.specs.Listeners.{IsWaysFault}
-use Rattle.cqf_sketch.specs.Ways.{has_room}
+use Rattle.cqf_network.specs.Listeners.{IsWaysFault}
+use Rattle.cqf_network.specs.Ways.{has_room}
 use Rattle.cqf_program_placing.specs.Placing.{names_along}
 use Rattle.cqf_program_placing.proofs.RouteLemmas.{are_links, first_full, none_there, stands_there, ways_found}
 use Rattle.cqf_program_placing.proofs.routes.branches_between.Goals as goal

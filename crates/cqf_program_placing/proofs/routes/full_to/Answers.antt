@@ -1,6 +1,6 @@
 use Rattle.std.proofs.Common.{◌≡◌, ◌∙◌, None, Some, ap, sym}
 use Rattle.cqf_model.specs.declared.topology.Node.TheVariants.{Bridge, Station}
-use Rattle.cqf_sketch.specs.Ways.{short_link}
+use Rattle.cqf_network.specs.Ways.{short_link}
 use Rattle.cqf_program_placing.proofs.RouteLemmas.{are_links, first_of_all, full_found, must_lack, must_lead, short_inside}
 use Rattle.cqf_program_placing.proofs.routes.full_to.Goals as goal
 

@@ -5,4 +5,4 @@ use Rattle.cqf_program_placing.specs.Settled.{stations_by_name}
 use Rattle.cqf_program_placing.proofs.way_settling.stations_by_name.Given as goal
 
 abbrev pub invariant-loop-name : goal.invariant-loop-name
-invariant-loop-name l = with_front l.stations.items (stations_by_name l.plant (drop l.name-index l.names)) ≡ stations_by_name l.plant l.names
+invariant-loop-name l = with_front l.stations.items (stations_by_name l.plan (drop l.name-index l.names)) ≡ stations_by_name l.plan l.names

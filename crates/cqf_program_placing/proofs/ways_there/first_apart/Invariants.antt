@@ -4,4 +4,4 @@ use Rattle.cqf_program_placing.specs.Settled.{first_apart}
 use Rattle.cqf_program_placing.proofs.ways_there.first_apart.Given as goal
 
 abbrev pub invariant-loop-name : goal.invariant-loop-name
-invariant-loop-name l = first_apart l.at.plant.now l.bridge (drop l.name-index l.names) ≡ first_apart l.at.plant.now l.bridge l.names
+invariant-loop-name l = first_apart l.at.plan.now l.bridge (drop l.name-index l.names) ≡ first_apart l.at.plan.now l.bridge l.names

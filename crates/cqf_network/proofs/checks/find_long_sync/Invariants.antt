@@ -1,0 +1,6 @@
+use Rattle.std.proofs.Common.{◌≡◌, drop}
+use Rattle.cqf_network.specs.Edges.{first_long_sync}
+use Rattle.cqf_network.proofs.checks.find_long_sync.Given as goal
+
+abbrev pub invariant-loop-edge : goal.invariant-loop-edge
+invariant-loop-edge l = first_long_sync l.sync (drop l.edge-index l.edges) ≡ first_long_sync l.sync l.edges

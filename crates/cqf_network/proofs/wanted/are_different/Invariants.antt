@@ -1,0 +1,7 @@
+-- The first name that occurred earlier is among the rest.
+use Rattle.std.proofs.Common.{◌≡◌, [], drop, take}
+use Rattle.cqf_topology.specs.DomainText.{first_taken}
+use Rattle.cqf_network.proofs.wanted.are_different.Given as goal
+
+abbrev pub invariant-loop-place : goal.invariant-loop-place
+invariant-loop-place l = first_taken (take l.place l.names) (drop l.place l.names) ≡ first_taken [] l.names

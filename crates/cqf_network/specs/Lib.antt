@@ -1,0 +1,11 @@
+pub mod Faults
+pub mod NetworkText
+pub mod Edges
+pub mod NetworkDomain
+pub mod StreamsText
+pub mod NetworkFlows
+pub mod Ways
+pub mod Steps
+pub mod Ends
+pub mod WayLaws
+pub mod Listeners

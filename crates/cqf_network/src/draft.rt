@@ -1,0 +1,353 @@
+//! What the text of a network file's domain says, before any check whether such a network can exist.
+ghost use Rattle.std.specs.Prelude.{◌≡◌, codes, drop, if◌then◌else◌, option_map, ok_or};
+ghost use Rattle.toml.specs.View.{items_view, table_view, view};
+ghost use Rattle.toml.specs.Data.{as_bool, as_table, get_member};
+ghost use Rattle.cqf_lists.specs.Results.{and_then};
+ghost use Rattle.cqf_topology.specs.Fields.{Gives, names_at, number_from};
+ghost use Rattle.cqf_topology.specs.DomainText.{if_some};
+ghost use Rattle.cqf_network.specs.Faults.{network_fault};
+ghost use Rattle.cqf_network.specs.NetworkText.{candidates_read, duplex_at, link_read, links_from, links_read, one_from, one_of_text, one_way_read, other_at};
+ghost use Rattle.cqf_network.specs.NetworkText.{draft_from, draft_of_text, network_with_cycles};
+
+use crate::NetworkFault;
+use crate::cycles::{SHORTEST_CYCLE, candidates_at, one_cycle};
+use crate::frames::{LONGEST_FRAME, frame_octets};
+use cqf_model::{LONGEST_CYCLE, Limits};
+use cqf_topology::{
+    DomainFault, Key, LinkTimes, TomlFault, are_all_tables, array_at, name_at, names_at, number_at,
+    read_document, sync_at, times_at,
+};
+use cqf_units::Name;
+use std::alloc::Global;
+use std::marker::Model;
+use toml::{Table, Value};
+
+/// A link in one direction, by the names of its ends.
+#[derive(Debug, Drop)]
+pub struct OneWay {
+    pub from: Name,
+    pub to: Name,
+    pub times: LinkTimes,
+}
+
+/// A link of a network file, in its written direction; if it is `duplex`, also in the opposite one.
+#[derive(Debug, Drop)]
+pub struct NetworkLink {
+    pub there: OneWay,
+    pub duplex: bool,
+    /// The most octets that a frame has which the station that it leaves, there or back, sends beside its streams; `None` where it sends no
+    /// such frame.
+    pub other: Option<u32>,
+}
+
+/// The domain of a network file as its text says it: times in nanoseconds, and links by the names of their ends.
+#[derive(Debug, Drop)]
+pub struct NetworkDraft {
+    limits: Limits,
+    candidates: Vec<u32>,
+    guard: u32,
+    sync: u32,
+    bridges: Vec<Name>,
+    stations: Vec<Name>,
+    links: Vec<NetworkLink>,
+}
+
+impl Model for NetworkDraft {
+    ghost use Rattle.cqf_network.specs.NetworkText.{NetworkText};
+
+    ghost Value = { NetworkText };
+
+    ghost view = { λ d. record { limits = d.limits; candidates = d.candidates.items; guard = d.guard; sync = d.sync; bridges = d.bridges.items; stations = d.stations.items; links = d.links.items } };
+}
+
+impl NetworkDraft {
+    /// Returns the limits within which it is read.
+    pub fn limits(&self) -> Limits
+        ensures { result ≡ self.now.limits }
+    {
+        self.limits
+    }
+
+    /// Returns the candidates for the cycle time, in the order of preference.
+    pub fn candidates(&self) -> &[u32]
+        ensures { result.now ≡ self.now.candidates }
+    {
+        self.candidates.as_slice()
+    }
+
+    pub fn guard(&self) -> u32
+        ensures { result ≡ self.now.guard }
+    {
+        self.guard
+    }
+
+    pub fn sync(&self) -> u32
+        ensures { result ≡ self.now.sync }
+    {
+        self.sync
+    }
+
+    pub fn bridges(&self) -> &[Name]
+        ensures { result.now ≡ self.now.bridges }
+    {
+        self.bridges.as_slice()
+    }
+
+    pub fn stations(&self) -> &[Name]
+        ensures { result.now ≡ self.now.stations }
+    {
+        self.stations.as_slice()
+    }
+
+    pub fn links(&self) -> &[NetworkLink]
+        ensures { result.now ≡ self.now.links }
+    {
+        self.links.as_slice()
+    }
+}
+
+/// The required keys of a network file's domain, in reading order.
+const KEYS: [Key; 5] = [
+    Key::Cycle,
+    Key::Guard,
+    Key::Bridges,
+    Key::Stations,
+    Key::Links,
+];
+
+/// The required keys of a link's table, in reading order.
+const LINK_KEYS: [Key; 4] = [Key::From, Key::To, Key::Rate, Key::Delay];
+
+/// Returns the written direction of a link's table.
+fn read_one_way(table: &Table) -> Result<OneWay, TomlFault>
+    ensures { result ≡ one_way_read (table_view table.now) }
+{
+    let from = name_at(table, Key::From)?;
+    let to = name_at(table, Key::To)?;
+    let times = times_at(table)?;
+    Ok(OneWay { from, to, times })
+}
+
+/// Whether a value says that a link has both directions.
+fn is_duplex(value: &Value) -> Result<bool, NetworkFault>
+    ensures { result ≡ ok_or (as_bool (view value.now)) NetworkFault.BadDuplex }
+{
+    match value.as_bool() {
+        Some(duplex) => Ok(duplex),
+        None => Err(NetworkFault::BadDuplex),
+    }
+}
+
+/// Returns the value at `duplex` of a link's table.
+fn duplex_value(table: &Table) -> Option<&Value>
+    ensures { option_map (λ v. view v.now) result ≡ get_member (codes "duplex") (table_view table.now) }
+{
+    table.get("duplex")
+}
+
+/// Whether a link's table says that the link has both directions.
+fn read_duplex(table: &Table) -> Result<bool, NetworkFault>
+    ensures { result ≡ duplex_at (table_view table.now) }
+{
+    match duplex_value(table) {
+        Some(value) => is_duplex(value),
+        None => Ok(false),
+    }
+}
+
+/// The size of frames beside streams that a value means, in octets.
+fn other_octets(value: &Value) -> Result<u32, NetworkFault>
+    ensures { result ≡ ok_or (number_from 64 1522 (view value.now)) NetworkFault.BadOther }
+{
+    match frame_octets(value, LONGEST_FRAME) {
+        Some(octets) => Ok(octets),
+        None => Err(NetworkFault::BadOther),
+    }
+}
+
+/// The value at `other` of a link's table.
+fn other_value(table: &Table) -> Option<&Value>
+    ensures { option_map (λ v. view v.now) result ≡ get_member (codes "other") (table_view table.now) }
+{
+    table.get("other")
+}
+
+/// The size of frames beside streams, in octets, where a link's table says it.
+fn read_other(table: &Table) -> Result<Option<u32>, NetworkFault>
+    ensures { result ≡ other_at (table_view table.now) }
+{
+    match other_value(table) {
+        Some(value) => {
+            let octets = other_octets(value)?;
+            Ok(Some(octets))
+        }
+        None => Ok(None),
+    }
+}
+
+/// Reads a link's table.
+fn read_link(table: &Table) -> Result<NetworkLink, NetworkFault>
+    ensures { result ≡ link_read (table_view table.now) }
+{
+    let there = read_one_way(table)?;
+    let duplex = read_duplex(table)?;
+    let other = read_other(table)?;
+    Ok(NetworkLink {
+        there,
+        duplex,
+        other,
+    })
+}
+
+/// Reads a link from an element of the array of links.
+fn link_in(value: &Value) -> Result<NetworkLink, NetworkFault>
+    ensures { result ≡ and_then (ok_or (as_table (view value.now)) (network_fault (TomlFault.BadValue Key.Links))) link_read }
+{
+    match value.as_table() {
+        Some(table) => read_link(table),
+        None => Err(NetworkFault::Domain(DomainFault::BadValue(Key::Links))),
+    }
+}
+
+/// Reads the elements of the array of links.
+fn links_in(alloc: Global, values: &[Value]) -> Result<Vec<NetworkLink>, NetworkFault>
+    ensures { Gives (NetworkFault.Domain DomainFault.Memory) (λ links. links.items) result (links_from (items_view values.now)) }
+{
+    let mut links = Vec::new(alloc);
+    for value in values {
+        let link = link_in(value)?;
+        links.push(link)?;
+    }
+    Ok(links)
+}
+
+/// Reads the links of a domain's table.
+fn read_links(alloc: Global, table: &Table) -> Result<Vec<NetworkLink>, NetworkFault>
+    ensures { Gives (NetworkFault.Domain DomainFault.Memory) (λ links. links.items) result (links_read (table_view table.now)) }
+{
+    let values = array_at(table, Key::Links)?;
+    if !are_all_tables(values) {
+        return Err(NetworkFault::Domain(DomainFault::BadValue(Key::Links)));
+    }
+    links_in(alloc, values)
+}
+
+/// Reads the bridges of a domain's table. There must be at least one.
+fn read_bridges(alloc: Global, table: &Table) -> Result<Vec<Name>, TomlFault>
+    ensures { Gives TomlFault.Memory (λ names. names.items) result (and_then (names_at Key.Bridges (table_view table.now)) (if_some Key.Bridges)) }
+{
+    let bridges = names_at(alloc, table, Key::Bridges)?;
+    if bridges.is_empty() {
+        return Err(TomlFault::BadValue(Key::Bridges));
+    }
+    Ok(bridges)
+}
+
+/// Returns the candidates that are given; otherwise reads those of a domain's table.
+fn read_candidates(
+    alloc: Global,
+    table: &Table,
+    given: Option<Vec<u32>>,
+) -> Result<Vec<u32>, TomlFault>
+    ensures { Gives TomlFault.Memory (λ cycles. cycles.items) result (candidates_read (option_map (λ cycles. cycles.items) given) (table_view table.now)) }
+{
+    match given {
+        Some(cycles) => Ok(cycles),
+        None => candidates_at(alloc, table),
+    }
+}
+
+/// A domain's table, with these cycle times in place of its own.
+fn read_with_cycles(
+    alloc: Global,
+    table: &Table,
+    limits: Limits,
+    candidates: Vec<u32>,
+) -> Result<NetworkDraft, NetworkFault>
+    ensures { Gives (NetworkFault.Domain DomainFault.Memory) (λ draft. draft) result
+        (network_with_cycles limits (table_view table.now) candidates.items) }
+{
+    let guard = number_at(table, Key::Guard, 1, LONGEST_CYCLE)?;
+    let sync = sync_at(table)?;
+    let bridges = read_bridges(alloc, table)?;
+    let stations = names_at(alloc, table, Key::Stations)?;
+    let links = read_links(alloc, table)?;
+    Ok(NetworkDraft {
+        limits,
+        candidates,
+        guard,
+        sync,
+        bridges,
+        stations,
+        links,
+    })
+}
+
+/// A domain's table, whose cycle time may be open.
+fn read_table(
+    alloc: Global,
+    table: &Table,
+    limits: Limits,
+    given: Option<Vec<u32>>,
+) -> Result<NetworkDraft, NetworkFault>
+    ensures { Gives (NetworkFault.Domain DomainFault.Memory) (λ draft. draft) result
+        (draft_from limits (option_map (λ cycles. cycles.items) given) (table_view table.now)) }
+{
+    let candidates = read_candidates(alloc, table, given)?;
+    read_with_cycles(alloc, table, limits, candidates)
+}
+
+/// A domain's table, whose cycle time isn't open.
+fn read_one_table(
+    alloc: Global,
+    table: &Table,
+    limits: Limits,
+) -> Result<NetworkDraft, NetworkFault>
+    ensures { Gives (NetworkFault.Domain DomainFault.Memory) (λ draft. draft) result (one_from limits (table_view table.now)) }
+{
+    let cycle = number_at(table, Key::Cycle, SHORTEST_CYCLE, LONGEST_CYCLE)?;
+    let candidates = one_cycle(alloc, cycle)?;
+    read_with_cycles(alloc, table, limits, candidates)
+}
+
+/// Returns the required keys of a network file's domain. `cycle` is among them only if no candidates are given.
+fn owed_keys(keys: &[Key; 5], given: bool) -> &[Key]
+    ensures { result.now ≡ (if given then drop 1 keys.now else keys.now) }
+{
+    if given { &keys[1..] } else { &keys[..] }
+}
+
+/// Returns what the text of a network file's domain says, to be checked within given limits, or the first fault of
+/// reading it. If candidates for the cycle time are given, the text's `cycle` isn't read. Unknown keys are ignored.
+///
+/// # Errors
+/// `NotToml`, `Missing` and `BadValue` as of a domain, except that `cycle` may be an array of 1 to 1,000 cycle times. After a link's other
+/// keys `BadDuplex` if `duplex` is no boolean, and `BadOther` if `other` is no integer from 64 to 1,522. `Memory` if an allocation fails.
+pub fn read_draft(
+    alloc: Global,
+    text: &[u8],
+    limits: Limits,
+    given: Option<Vec<u32>>,
+) -> Result<NetworkDraft, NetworkFault>
+    ensures { Gives (NetworkFault.Domain DomainFault.Memory) (λ draft. draft) result
+        (draft_of_text limits (option_map (λ cycles. cycles.items) given) text.now) }
+{
+    let keys = owed_keys(&KEYS, given.is_some());
+    let table = read_document(alloc, text, keys, Key::Links, &LINK_KEYS)?;
+    read_table(alloc, &table, limits, given)
+}
+
+/// Returns what the text of a domain says whose cycle time isn't open: it is one number.
+///
+/// # Errors
+/// As of [`read_draft`], except that an array at `cycle` is `BadValue`.
+pub fn read_one_draft(
+    alloc: Global,
+    text: &[u8],
+    limits: Limits,
+) -> Result<NetworkDraft, NetworkFault>
+    ensures { Gives (NetworkFault.Domain DomainFault.Memory) (λ draft. draft) result (one_of_text limits text.now) }
+{
+    let table = read_document(alloc, text, &KEYS, Key::Links, &LINK_KEYS)?;
+    read_one_table(alloc, &table, limits)
+}

@@ -1,0 +1,5 @@
+pub mod DomainMembers
+pub mod StreamMembers
+pub mod Plans
+pub mod Networks
+pub mod NetworkLaws

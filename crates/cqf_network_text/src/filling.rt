@@ -1,0 +1,173 @@
+//! Fills what is open in a network file with what was chosen.
+ghost use Rattle.std.specs.Prelude.{◌≡◌, IfOk, IsSome, OnOk, Some, is_some, option_map, slice_get, string_bytes};
+ghost use Rattle.toml.specs.View.{items_view, table_view, view};
+ghost use Rattle.toml.specs.Data.{array, get_member};
+ghost use Rattle.cqf_topology.specs.Fields.{value_at};
+ghost use Rattle.cqf_network_text.specs.Networks.{IsFilledText, array_at, filled_item, filled_stream, filled_streams, has_branches, item_by, put_turns, table_of, with_way};
+
+use crate::ordered::text_of_network;
+use crate::streams::put_branches;
+use crate::tables::{put_number, put_value};
+use cqf_topology::{Key, PacedRequest};
+use cqf_traffic::TrafficKey;
+use cqf_units::Memory;
+use std::alloc::{AllocError, Global};
+use toml::{Table, Value};
+
+/// What was chosen for a stream: the octets that it reserves, its paths, and the cycles in which it is offered. `offset` is the instant at
+/// which its talker's offers begin, in nanoseconds; it is `None` if the cycles weren't chosen, and then they aren't written.
+#[derive(Debug, Drop)]
+pub struct FilledStream {
+    pub request: PacedRequest,
+    pub offset: Option<u32>,
+}
+
+/// Whether a table has a key.
+fn has_key(table: &Table, key: Key) -> bool
+    ensures { result ≡ is_some (value_at key (table_view table.now)) }
+{
+    table.get(key.as_str()).is_some()
+}
+
+/// Whether a stream's table has its paths.
+fn has_branches(table: &Table) -> bool
+    ensures { result ≡ has_branches (table_view table.now) }
+{
+    has_key(table, Key::Path) || has_key(table, Key::Paths)
+}
+
+/// Puts the cycles in which a stream is offered, and the instant at which its offers begin, into its table. Fails only if memory is refused.
+fn put_turns(
+    alloc: Global,
+    table: &mut Table,
+    request: &PacedRequest,
+    offset: u32,
+) -> Result<(), Memory>
+    ensures { OnOk result (table_view table.new ≡ put_turns request.now offset (table_view table.old)) }
+{
+    put_number(alloc, table, Key::Every.as_str(), request.every)?;
+    put_number(alloc, table, Key::Phase.as_str(), request.phase)?;
+    put_number(alloc, table, TrafficKey::Offset.as_str(), offset)?;
+    Ok(())
+}
+
+/// Puts a stream's paths into its table, if it has none. Fails only if memory is refused.
+fn put_way(alloc: Global, table: &mut Table, filled: &FilledStream) -> Result<(), Memory>
+    ensures { OnOk result (table_view table.new ≡ with_way filled.now (table_view table.old)) }
+{
+    if !has_branches(table) {
+        put_branches(alloc, table, filled.request.paths.as_slice())?;
+    }
+    Ok(())
+}
+
+/// Puts what was chosen for a stream into its table. Fails only if memory is refused.
+fn fill_stream(alloc: Global, table: &mut Table, filled: &FilledStream) -> Result<(), Memory>
+    ensures { OnOk result (table_view table.new ≡ filled_stream filled.now (table_view table.old)) }
+{
+    put_number(alloc, table, Key::Octets.as_str(), filled.request.octets)?;
+    put_way(alloc, table, filled)?;
+    if let Some(offset) = filled.offset {
+        put_turns(alloc, table, &filled.request, offset)?;
+    }
+    Ok(())
+}
+
+/// A stream's value with what was chosen for it. Fails only if memory is refused.
+fn filled_value(alloc: Global, value: &Value, filled: &FilledStream) -> Result<Value, Memory>
+    ensures { IfOk result (λ found. view found ≡ filled_item filled.now (view value.now)) }
+{
+    match value.clone()? {
+        Value::Table(mut table) => {
+            fill_stream(alloc, &mut table, filled)?;
+            Ok(Value::Table(table))
+        }
+        other => Ok(other),
+    }
+}
+
+/// The value of the stream at an index, with what was chosen for it, if anything was. Fails only if memory is refused.
+fn value_filled(
+    alloc: Global,
+    value: &Value,
+    filled: &[FilledStream],
+    place: usize,
+) -> Result<Value, Memory>
+    ensures { IfOk result (λ found. view found ≡ item_by (slice_get filled.now place) (view value.now)) }
+{
+    match filled.get(place) {
+        Some(one) => filled_value(alloc, value, one),
+        None => {
+            let copy = value.clone()?;
+            Ok(copy)
+        }
+    }
+}
+
+/// The values of streams with what was chosen for each, in order. Fails only if memory is refused.
+fn filled_values(alloc: Global, values: &[Value], filled: &[FilledStream]) -> Result<Value, Memory>
+    ensures { IfOk result (λ all. view all ≡ array (filled_streams filled.now (items_view values.now))) }
+{
+    let mut all = Vec::new(alloc);
+    for place in 0..values.len() {
+        let one = value_filled(alloc, &values[place], filled, place)?;
+        all.push(one)?;
+    }
+    Ok(Value::Array(all))
+}
+
+/// The value at a key of a table.
+fn value_at<'t>(table: &'t Table, key: &str) -> Option<&'t Value>
+    ensures { option_map (λ x. view x.now) result ≡ get_member key.now (table_view table.now) }
+{
+    table.get(key)
+}
+
+/// The elements of the array at a key of a table; none if there is no array.
+pub(crate) fn elements_at<'t>(table: &'t Table, key: &str) -> &'t [Value]
+    ensures { items_view result.now ≡ array_at key.now (table_view table.now) }
+{
+    match value_at(table, key) {
+        Some(value) => match value.as_array() {
+            Some(values) => values.as_slice(),
+            None => &[],
+        },
+        None => &[],
+    }
+}
+
+/// The table of a text that is TOML. Fails only if memory is refused.
+fn table_of(alloc: Global, text: &[u8]) -> Result<Table, Memory>
+    requires { IsSome (table_of text.now) }
+    ensures { IfOk result (λ table. table_of text.now ≡ Some (table_view table)) }
+{
+    match toml::table_from_slice(alloc, text) {
+        Ok(table) => Ok(table),
+        Err(_) => Err(AllocError),
+    }
+}
+
+/// Returns the text of a planned network: the top and the links of one text, and the streams of another, with the cycle time in nanoseconds
+/// and with what was chosen for each stream, in order. All other keys are unchanged. Every reader finds what was chosen in the text
+/// ([`crate::filled_networks_read_back`]).
+///
+/// # Errors
+/// If memory is refused.
+pub fn write_network(
+    alloc: Global,
+    domain: &[u8],
+    streams: &[u8],
+    cycle_time: u32,
+    filled: &[FilledStream],
+) -> Result<String, Memory>
+    requires domain { IsSome (table_of domain.now) }
+    requires streams { IsSome (table_of streams.now) }
+    ensures { IfOk result (λ text. IsFilledText domain.now streams.now cycle_time filled.now (string_bytes text)) }
+{
+    let mut table = table_of(alloc, domain)?;
+    let read = table_of(alloc, streams)?;
+    let all = filled_values(alloc, elements_at(&read, Key::Streams.as_str()), filled)?;
+    put_number(alloc, &mut table, Key::Cycle.as_str(), cycle_time)?;
+    put_value(alloc, &mut table, Key::Streams.as_str(), all)?;
+    text_of_network(alloc, &table)
+}

@@ -1,0 +1,304 @@
+//! Files that aren't a plan: keys that no command knows, keys and streams in two files, lines that are too long.
+
+use crate::given::CommandInput;
+use crate::lines::Lines;
+use crate::outline::KeyLine;
+use crate::parts::is_toml;
+use crate::places::{Grouped, Place};
+use crate::told::ToldLines;
+use crate::toml_faults::known_keys;
+use crate::words::{nearest, shortened};
+use crate::written::{KeyOwner, NetworkFile, WrittenItem};
+use cqf_program_files::{MOST_OCTETS, MOST_PARTS, OWN, TOP};
+use std::alloc::{AllocError, Global};
+use std::collections::BTreeMap;
+use toml::Table;
+
+/// A key that no command knows, with its table, and the file and the line by which it is ordered.
+#[derive(Clone, Copy)]
+struct UnknownKey<'p> {
+    file_number: usize,
+    place: Place<'p>,
+    key: &'p str,
+    owner: UnknownOwner<'p>,
+}
+
+/// The owner of the key.
+#[derive(Clone, Copy)]
+enum UnknownOwner<'p> {
+    Top,
+    Item(WrittenItem<'p>),
+}
+
+/// Returns whether a key is known of a kind, or the user's own.
+fn is_known(kind: KeyOwner, key: &str) -> bool {
+    key.starts_with(OWN) || known_keys(kind).contains(&key)
+}
+
+/// Returns the words about a key that no command knows.
+fn unknown_words(alloc: Global, kind: KeyOwner, key: &str) -> Result<String, AllocError> {
+    let shown = shortened(alloc, key)?;
+    if kind != KeyOwner::Top && TOP.contains(&key) {
+        return format!(in alloc; "{shown}: keys of the network come before the first [[..]]");
+    }
+    if let Some(meant) = nearest(alloc, key, known_keys(kind))? {
+        return format!(in alloc; "{shown}: did you mean {meant}?");
+    }
+    let whose = match kind {
+        KeyOwner::Top => "the top",
+        KeyOwner::Link => "a link",
+        KeyOwner::Stream => "a stream",
+    };
+    format!(in alloc;
+        "{shown}: no command knows this key of {whose}; keys of your own begin with x-"
+    )
+}
+
+/// Returns the first line of each key.
+fn lines_of<'p>(
+    alloc: Global,
+    keys: &'p [KeyLine<'p>],
+) -> Result<BTreeMap<&'p [u8], u64>, AllocError> {
+    let mut lines = BTreeMap::new(alloc);
+    for key in keys {
+        if !lines.contains_key(key.key) {
+            lines.insert(key.key, key.line)?;
+        }
+    }
+    Ok(lines)
+}
+
+/// Adds the keys of a table that no command knows.
+fn put_unknown<'p>(
+    alloc: Global,
+    unknown: &mut Vec<UnknownKey<'p>>,
+    kind: KeyOwner,
+    table: &'p Table,
+    lines: &'p [KeyLine<'p>],
+    first: UnknownKey<'p>,
+) -> Result<(), AllocError> {
+    let lines = lines_of(alloc, lines)?;
+    for key in table.keys() {
+        if !is_known(kind, key.as_str()) {
+            let line = lines.get(key.as_bytes()).copied();
+            unknown.push(UnknownKey {
+                place: Place {
+                    file: first.place.file,
+                    line: line.or(first.place.line),
+                },
+                key: key.as_str(),
+                ..first
+            })?;
+        }
+    }
+    Ok(())
+}
+
+/// Adds those of a file's top level.
+fn put_top<'p>(
+    alloc: Global,
+    unknown: &mut Vec<UnknownKey<'p>>,
+    file_number: usize,
+    file: &'p NetworkFile<'_>,
+) -> Result<(), AllocError> {
+    let Some(table) = &file.table else {
+        return Ok(());
+    };
+    let first = UnknownKey {
+        file_number,
+        place: file.at(None),
+        key: "",
+        owner: UnknownOwner::Top,
+    };
+    let lines = file.outline.top.as_slice();
+    put_unknown(alloc, unknown, KeyOwner::Top, table, lines, first)
+}
+
+/// Adds those of a link or a stream.
+fn put_item<'p>(
+    alloc: Global,
+    unknown: &mut Vec<UnknownKey<'p>>,
+    item: &WrittenItem<'p>,
+) -> Result<(), AllocError> {
+    let Some(table) = item.value.as_table() else {
+        return Ok(());
+    };
+    let first = UnknownKey {
+        file_number: item.file_number,
+        place: item.place(),
+        key: "",
+        owner: UnknownOwner::Item(*item),
+    };
+    put_unknown(alloc, unknown, item.kind, table, item.keys, first)
+}
+
+/// Reports a key that no command knows.
+fn tell_unknown_key(
+    given: &CommandInput<'_>,
+    told: &mut ToldLines,
+    unknown: &UnknownKey<'_>,
+) -> Result<(), AllocError> {
+    let place = unknown.place;
+    match &unknown.owner {
+        UnknownOwner::Top => {
+            let words = unknown_words(given.alloc, KeyOwner::Top, unknown.key)?;
+            told.tell(format!(in given.alloc; "{place}: {words}")?)
+        }
+        UnknownOwner::Item(item) => {
+            let words = unknown_words(given.alloc, item.kind, unknown.key)?;
+            let label = item.label(given.alloc)?;
+            told.tell(format!(in given.alloc; "{place}: {label}: {words}")?)
+        }
+    }
+}
+
+/// Returns the keys that no command knows, in files that are checked.
+fn unknown_keys<'p>(
+    given: &'p CommandInput<'_>,
+    links: &[WrittenItem<'p>],
+    streams: &[WrittenItem<'p>],
+) -> Result<Vec<UnknownKey<'p>>, AllocError> {
+    let mut unknown: Vec<UnknownKey<'p>> = Vec::new(given.alloc);
+    for (number, file) in given.written.files.iter().enumerate() {
+        if file.part.is_checked() {
+            put_top(given.alloc, &mut unknown, number, file)?;
+        }
+    }
+    for item in links.iter().chain(streams) {
+        let file = given.written.files.get(item.file_number);
+        if file.is_some_and(|file| file.part.is_checked()) {
+            put_item(given.alloc, &mut unknown, item)?;
+        }
+    }
+    Ok(unknown)
+}
+
+/// Reports each key that no command knows, in files whose keys are checked, in the order of the texts.
+pub(crate) fn tell_unknown_keys(
+    given: &CommandInput<'_>,
+    told: &mut ToldLines,
+) -> Result<(), AllocError> {
+    let links = given.written.all_items(KeyOwner::Link)?;
+    let streams = given.written.all_items(KeyOwner::Stream)?;
+    let mut unknown = unknown_keys(given, links.as_slice(), streams.as_slice())?;
+    unknown.sort_by_key(|key| (key.file_number, key.place.line.unwrap_or(0)))?;
+    for key in &unknown {
+        if !told.is_counted() {
+            tell_unknown_key(given, told, key)?;
+        }
+    }
+    Ok(())
+}
+
+/// Reports each file that has a key of the top level which an earlier file has.
+pub(crate) fn tell_key_twice(
+    given: &CommandInput<'_>,
+    told: &mut ToldLines,
+    key: &str,
+) -> Result<(), AllocError> {
+    let mut first = None;
+    for file in &given.written.files {
+        if file.get(key).is_none() {
+            continue;
+        }
+        let place = file.place_of(key);
+        match first {
+            Some(first) => {
+                told.tell(format!(in given.alloc; "{place}: {key} is already at {first}")?)?;
+            }
+            None => first = Some(place),
+        }
+    }
+    Ok(())
+}
+
+/// What was read of a line: an open quote, how many dots are in a row, with nothing but parts of a key between them, and the most in a key.
+#[derive(Clone, Copy, Debug)]
+struct Dots {
+    quote: Option<u8>,
+    here: u64,
+    most: u64,
+}
+
+impl Dots {
+    /// Returns the state after a byte that is in no text.
+    fn behind(self, byte: u8) -> Dots {
+        match byte {
+            b'"' | b'\'' => Dots {
+                quote: Some(byte),
+                ..self
+            },
+            b'.' => Dots {
+                here: self.here.saturating_add(1),
+                ..self
+            },
+            b'=' | b']' => Dots {
+                quote: None,
+                here: 0,
+                most: self.most.max(self.here),
+            },
+            b',' | b'{' | b'}' | b'[' => Dots { here: 0, ..self },
+            _ => self,
+        }
+    }
+}
+
+/// Returns the most parts, with dots between them, that are in a row on a line.
+fn parts_on(line: &[u8]) -> u64 {
+    let mut dots = Dots {
+        quote: None,
+        here: 0,
+        most: 0,
+    };
+    for byte in line {
+        if dots.quote == Some(*byte) {
+            dots.quote = None;
+        } else if dots.quote.is_none() {
+            if *byte == b'#' {
+                break;
+            }
+            dots = dots.behind(*byte);
+        }
+    }
+    dots.most.saturating_add(1)
+}
+
+/// Reports each line of a file that is longer than allowed.
+fn tell_lines(
+    given: &CommandInput<'_>,
+    told: &mut ToldLines,
+    file: &NetworkFile<'_>,
+) -> Result<(), AllocError> {
+    for (number, line) in Lines::of(file.part.text, file.part.before) {
+        let (place, parts) = (file.at(Some(number)), parts_on(line));
+        let is_long = line.len() > MOST_OCTETS && is_toml(file.part.file);
+        if (is_long || parts > u64::from(MOST_PARTS)) && told.is_counted() {
+            continue;
+        }
+        if is_long {
+            let (octets, most) = (Grouped(line.len() as u64), Grouped(MOST_OCTETS as u64));
+            told.tell(format!(in given.alloc;
+                "{place}: the line has {octets} octets: a line has at most {most}"
+            )?)?;
+        } else if parts > u64::from(MOST_PARTS) {
+            let most = MOST_PARTS;
+            told.tell(format!(in given.alloc;
+                "{place}: the key has {parts} dotted parts: a key has at most {most}"
+            )?)?;
+        }
+    }
+    Ok(())
+}
+
+/// Reports each line that is longer than allowed.
+pub(crate) fn tell_long_lines(
+    given: &CommandInput<'_>,
+    told: &mut ToldLines,
+) -> Result<(), AllocError> {
+    for file in &given.written.files {
+        if file.part.is_checked() {
+            tell_lines(given, told, file)?;
+        }
+    }
+    Ok(())
+}

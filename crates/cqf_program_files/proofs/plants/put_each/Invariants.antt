@@ -1,7 +1,0 @@
-use Rattle.std.proofs.Common.{◌≡◌, map, take}
-use Rattle.toml.specs.View.{table_view}
-use Rattle.cqf_program_files.specs.Plants.{plant_by}
-use Rattle.cqf_program_files.proofs.plants.put_each.Given as goal
-
-abbrev pub invariant-loop-key : goal.invariant-loop-key
-invariant-loop-key l = table_view l.plant ≡ plant_by (map table_view l.tables) (map (λ key. key.now) (take l.key-index l.keys))

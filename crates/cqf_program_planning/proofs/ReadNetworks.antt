@@ -1,0 +1,101 @@
+-- A network file that is read satisfies `IsNetwork`, and its streams are placed if there is room.
+use Rattle.std.proofs.Common.{◌≡◌, ◌∙◌, ℕ, List, [], Option, Result, Ok, Err, IfSome, ap, subst, sym}
+use Rattle.cqf_model.specs.declared.limits.Limits.{Limits}
+use Rattle.cqf_text.specs.Parts.{parts_of}
+use Rattle.cqf_topology.specs.declared.faults.DomainFault.TheVariants as domain
+use Rattle.cqf_lists.specs.Results.{refuse}
+use Rattle.cqf_topology.specs.DomainText.{first_taken, if_so}
+use Rattle.cqf_topology.proofs.Refusals.{and_then-Ok, refuse-Ok}
+use Rattle.cqf_network.specs.declared.faults.NetworkFault.TheVariants.{Domain, NoAccessLink}
+use Rattle.cqf_network.specs.Edges.{Edge, first_long_delay, first_long_gap, first_long_guard, first_long_sync, first_misplaced, first_twice, joined}
+use Rattle.cqf_network.specs.NetworkDomain.{AreCandidates, IsNetwork, NetworkDomain, checked, is_guard_too_long, is_too_many, name_taken}
+use Rattle.cqf_network.specs.NetworkDomain.{open_network_of_text, network_with, with_edges, with_names}
+use Rattle.cqf_network.specs.NetworkText.{NetworkText, draft_of_text}
+use Rattle.cqf_network.proofs.CheckedLemmas.{passes_network}
+use Rattle.cqf_network.proofs.InsideLemmas.{all_joined}
+use Rattle.cqf_network.proofs.OpenLemmas.{passed_is_network}
+use Rattle.cqf_network.proofs.ReadLemmas.{draft_limits, network_readable}
+use Rattle.cqf_network.specs.StreamsText.{network_streams_of_text}
+use Rattle.cqf_edge.specs.EdgeStreams.{EdgeStreamsText, edge_streams}
+use Rattle.cqf_edge.proofs.Written.{streams_written}
+use Rattle.cqf_program_plans.specs.Edges.{full_line}
+use Rattle.cqf_program_plans.specs.Reserving.{flows_line}
+use Rattle.cqf_program_scenario.specs.Parts.{two_parts}
+use Rattle.cqf_output.specs.Stops.{or_line}
+use Rattle.cqf_program_placing.specs.Room.{MayBeWays, PlacedWhereThereIsRoom}
+use Rattle.cqf_program_placing.specs.Settled.{SettledStream, settled_of}
+use Rattle.cqf_program_placing.proofs.StreamsRead.{streams_read}
+use Rattle.cqf_program_planning.specs.PlanLaws.{NetworksArePlacedByRoom}
+use Rattle.cqf_program_planning.specs.PlanOutput.{PlanSource, settled_edges, network_line, unentered_line, unsettled_line}
+use Rattle.cqf_program_planning.proofs.EdgeRead.{edges_read}
+
+-- what was read, before the fault became a line
+or_line-Ok : {A E : Type 0} (line : E → List ℕ) (r : Result A E) (x : A) → or_line line r ≡ Ok x → r ≡ Ok x
+or_line-Ok line (Ok y) x e = cc
+or_line-Ok line (Err fault) x e = absurd cc
+
+-- a network file whose edges pass the checks is what the text says with them
+with_these_edges : (text : NetworkText) (edges : List Edge) (network : NetworkDomain) → with_edges text edges ≡ Ok network → network_with text edges ≡ network
+with_these_edges text edges network e =
+    let a = refuse-Ok (first_twice edges) (λ (element : ℕ). Domain (domain.LinkTwice element)) _ network e in
+    let c = refuse-Ok (if_so (is_guard_too_long text)) (λ (u : Unit {0}). Domain domain.GuardTooLong) _ network a.1 in
+    let k = refuse-Ok (first_long_guard text.candidates text.guard edges) (λ (element : ℕ). Domain (domain.LinkGuardTooLong element)) _ network c.1 in
+    let f = refuse-Ok (first_long_delay text.sync text.guard edges) (λ (element : ℕ). Domain (domain.DelayTooLong element)) _ network k.1 in
+    let g = refuse-Ok (first_long_gap text.guard edges) (λ (element : ℕ). Domain (domain.GapTooLong element)) _ network f.1 in
+    let h = refuse-Ok (if_so (is_too_many text edges)) (λ (u : Unit {0}). Domain domain.TooMany) _ network g.1 in
+    let m = refuse-Ok (first_long_sync text.sync edges) (λ (element : ℕ). Domain (domain.SyncTooLong element)) _ network h.1 in
+    let n = refuse-Ok (first_misplaced edges) (λ (element : ℕ). NoAccessLink element) (Ok (network_with text edges)) network m.1 in
+    let same = n.1 in
+    cc
+
+-- the domain of a network file's text satisfies `IsNetwork`
+pub read_is_network : (limits : Limits) (given : Option (List ℕ)) (text : List ℕ) (network : NetworkDomain) → IfSome given AreCandidates →
+    open_network_of_text limits given text ≡ Ok network → IsNetwork network
+read_is_network limits given text network are e =
+    let (draft, read, passed) = and_then-Ok (draft_of_text limits given text) checked network e in
+    let readable = network_readable limits given text draft are read in
+    let (bridges_apart, rest) = refuse-Ok (first_taken [] draft.bridges) name_taken _ network passed in
+    let (stations_apart, numbered) = refuse-Ok (first_taken draft.bridges draft.stations) name_taken (with_names draft) network rest in
+    let (edges, joined_are, checks) = and_then-Ok (joined draft.bridges draft.stations 0 draft.links) (with_edges draft) network numbered in
+    subst IsNetwork (with_these_edges draft edges network checks)
+    (passed_is_network draft edges readable (passes_network draft edges network checks)
+    (all_joined draft.bridges draft.stations 0 draft.links edges readable.links_are_read joined_are) bridges_apart stations_apart)
+
+-- and has the limits within which it was read
+pub read_limits : (limits : Limits) (given : Option (List ℕ)) (text : List ℕ) (network : NetworkDomain) → open_network_of_text limits given text ≡ Ok network →
+    network.limits ≡ limits
+read_limits limits given text network e =
+    let (draft, read, passed) = and_then-Ok (draft_of_text limits given text) checked network e in
+    let (bridges_apart, rest) = refuse-Ok (first_taken [] draft.bridges) name_taken _ network passed in
+    let (stations_apart, numbered) = refuse-Ok (first_taken draft.bridges draft.stations) name_taken (with_names draft) network rest in
+    let (edges, joined_are, checks) = and_then-Ok (joined draft.bridges draft.stations 0 draft.links) (with_edges draft) network numbered in
+    ap (λ (s : NetworkDomain). s.limits) (sym (with_these_edges draft edges network checks)) ∙ draft_limits limits given text draft read
+
+-- streams are settled, whether or not an access link is full
+edges_settled : (network : NetworkDomain) (edge : EdgeStreamsText) (streams : List SettledStream) → settled_edges network edge ≡ Ok streams →
+    settled_of network edge.streams ≡ Ok streams
+edges_settled network edge streams e =
+    let (settled, are, rest) = and_then-Ok (or_line unsettled_line (settled_of network edge.streams)) (λ settled. refuse edge.full full_line (Ok settled)) streams e in
+    or_line-Ok unsettled_line (settled_of network edge.streams) streams (are ∙ (refuse-Ok edge.full full_line (Ok settled) streams rest).1)
+
+-- so the streams of an input are placed if there is room
+pub networks_are_placed : PlacedWhereThereIsRoom → NetworksArePlacedByRoom
+networks_are_placed law limits given input source cycle placed ways are e is_open placed_at =
+    let (parts, two, e1) = and_then-Ok (two_parts (parts_of input)) _ source e in
+    let (network, of_domain, e2) = and_then-Ok (or_line network_line (open_network_of_text limits given parts.0)) _ source e1 in
+    let (texts, of_streams, e3) = and_then-Ok (or_line flows_line (network_streams_of_text parts.1)) _ source e2 in
+    let (edge, of_edge, e4) = and_then-Ok (or_line unentered_line (edge_streams network texts)) _ source e3 in
+    let (streams, settled, e5) = and_then-Ok (settled_edges network edge) _ source e4 in
+    let made : PlanSource = record { domain = network; streams = streams; times = edge.times; domain_text = parts.0; streams_text = parts.1 } in
+    let same : made ≡ source = cc in
+    let found = or_line-Ok network_line (open_network_of_text limits given parts.0) network of_domain in
+    let is_network = read_is_network limits given parts.0 network are found in
+    let read = or_line-Ok flows_line (network_streams_of_text parts.1) texts of_streams in
+    let as_said : MayBeWays network.limits = subst MayBeWays (sym (read_limits limits given parts.0 network found)) ways in
+    let may_be : MayBeWays source.domain.limits = subst (λ (s : PlanSource). MayBeWays s.domain.limits) same as_said in
+    let is : IsNetwork source.domain = subst (λ (s : PlanSource). IsNetwork s.domain) same is_network in
+    law source.domain edge.streams source.streams cycle placed is may_be is_open
+    (edges_read network texts edge is_network.has_talkers (streams_read parts.1 texts read) (streams_written parts.1 texts read)
+    (or_line-Ok unentered_line (edge_streams network texts) edge of_edge))
+    (subst (λ (s : PlanSource). settled_of s.domain edge.streams ≡ Ok s.streams) same (edges_settled network edge streams settled))
+    placed_at.domain placed_at.placed_are

@@ -1,0 +1,116 @@
+-- A stream whose frames are handed to an access link, as it is read in the text of a plan: it arrives at its edge bridge as it was placed.
+use Rattle.std.proofs.Common.{◌≡◌, ◌+◌, ◌*◌, ◌<◌, ◌≤◌, ℕ, List, Option, Some, None, ap, arith, refl, sym}
+use Rattle.std.specs.Prelude.{min, option_map, slice_get}
+use Rattle.std.specs.Option.{option_and_then, option_map_or}
+use Rattle.cqf_traffic.specs.TrafficText.{TrafficText, promise_of}
+use Rattle.cqf_network.specs.declared.domain.TalkerLink.{TalkerLink}
+use Rattle.cqf_network.specs.NetworkDomain.{NetworkDomain}
+use Rattle.cqf_access.specs.Arriving.{longest_wait}
+use Rattle.cqf_edge.specs.declared.edge.Passage.{Passage}
+use Rattle.cqf_edge.specs.declared.uses.AccessBound.{AccessBound}
+use Rattle.cqf_edge.specs.declared.uses.Handed.{Handed}
+use Rattle.cqf_edge.specs.Edge.{closer_word, grid_word, link_by, longest_way, shortest_way, times_on, word_from, word_on}
+use Rattle.cqf_edge.specs.EdgeFlows.{passage_of}
+use Rattle.cqf_edge.specs.Entrances.{link_at}
+use Rattle.cqf_edge.specs.Uses.{handed_over, longest_frame, shortest_frame, time_in}
+use Rattle.cqf_network_text.specs.NetworkLaws.{beginning_at, chosen_traffic}
+use Rattle.cqf_program_planning.specs.PlanOutput.{offset_before, taken_by}
+use Rattle.cqf_program_planning.specs.ReadPlans.{ComesInRound}
+use Rattle.cqf_program_planning.proofs.Erased.{erased}
+use Rattle.cqf_program_planning.proofs.Rounds.{comes_round}
+
+-- what is handed over, where offers begin at a chosen instant
+abbrev pub retold : Handed → Option ℕ → Handed
+retold h offset = record { place = h.place; octets = h.octets; shortest = h.shortest; traffic = chosen_traffic offset h.traffic }
+
+-- it is the same, apart from when it begins
+erased_by : (offset : Option ℕ) (traffic : Option TrafficText) → option_map (beginning_at 0) (chosen_traffic offset traffic) ≡ option_map (beginning_at 0) traffic
+erased_by None traffic = refl
+erased_by (Some o) None = refl
+erased_by (Some o) (Some t) = refl
+
+pub erased_retold : (h : Handed) (offset : Option ℕ) → erased (retold h offset) ≡ erased h
+erased_retold h offset = (λ i. record { place = h.place; octets = h.octets; shortest = h.shortest; traffic = erased_by offset h.traffic i })
+
+-- frames are as large as they were
+frame_same : (octets others : ℕ) (offset : Option ℕ) (traffic : Option TrafficText) → (traffic ≡ None → octets ≡ others) →
+    longest_frame others (chosen_traffic offset traffic) ≡ longest_frame octets traffic
+frame_same octets others None None same = ap (λ n. min n 1522) (sym (same refl))
+frame_same octets others None (Some t) same = refl
+frame_same octets others (Some o) None same = ap (λ n. min n 1522) (sym (same refl))
+frame_same octets others (Some o) (Some t) same = refl
+
+short_same : (shortest : Option ℕ) (offset : Option ℕ) (traffic : Option TrafficText) →
+    shortest_frame shortest (chosen_traffic offset traffic) ≡ shortest_frame shortest traffic
+short_same (Some n) offset traffic = refl
+short_same None None traffic = refl
+short_same None (Some o) None = refl
+short_same None (Some o) (Some t) = refl
+
+pub handed_retold : (place octets others : ℕ) (shortest : Option ℕ) (offset : Option ℕ) (traffic : Option TrafficText) → (traffic ≡ None → octets ≡ others) →
+    handed_over place others shortest (chosen_traffic offset traffic) ≡ retold (handed_over place octets shortest traffic) offset
+handed_retold place octets others shortest offset traffic same =
+    let long = frame_same octets others offset traffic same in
+    let short = short_same shortest offset traffic in
+    (λ i. record { place = place; octets = long i; shortest = min (short i) (long i); traffic = chosen_traffic offset traffic })
+
+-- ---- how it goes by the link
+
+abbrev pub Found : Type 0
+Found = Option (TalkerLink × AccessBound)
+
+abbrev pub found_at : NetworkDomain → List AccessBound → ℕ → Found
+found_at network bounds place = option_and_then (λ (link : TalkerLink). option_map (λ (b : AccessBound). (link, b)) (slice_get bounds place)) (link_at network place)
+
+abbrev pub made : TalkerLink → Handed → AccessBound → Passage
+made link h b = record { link = link; handed = h; bound = b }
+
+abbrev pub passage_with : Found → Handed → Option Passage
+passage_with found h = option_map (λ (both : TalkerLink × AccessBound). made both.0 h both.1) found
+
+pub passage_found : (network : NetworkDomain) (bounds : List AccessBound) (h : Handed) → passage_of network bounds (Some h) ≡ passage_with (found_at network bounds h.place) h
+passage_found network bounds h = by (link_at network h.place) (slice_get bounds h.place)
+  where
+    by : (l : Option TalkerLink) (b : Option AccessBound) →
+        option_and_then (λ (link : TalkerLink). option_map (λ (found : AccessBound). made link h found) b) l
+        ≡ passage_with (option_and_then (λ (link : TalkerLink). option_map (λ (found : AccessBound). (link, found)) b) l) h
+    by None b = refl
+    by (Some l) None = refl
+    by (Some l) (Some b) = refl
+
+module _ (link : TalkerLink) (b : AccessBound) (h : Handed) where
+  -- as long as it did
+  wait_same : (offset : Option ℕ) (traffic : Option TrafficText) →
+      option_map_or (λ (t : TrafficText). longest_wait (link_by (made link h b)) (time_in b) (promise_of t)) (chosen_traffic offset traffic) 0
+      ≡ option_map_or (λ (t : TrafficText). longest_wait (link_by (made link h b)) (time_in b) (promise_of t)) traffic 0
+  wait_same None traffic = refl
+  wait_same (Some o) None = refl
+  wait_same (Some o) (Some t) = refl
+
+  pub times_retold : (offset : Option ℕ) → times_on (made link (retold h offset) b) ≡ times_on (made link h b)
+  times_retold offset =
+      (λ i. record { least = shortest_way (made link h b); most = longest_way (made link h b) + wait_same offset h.traffic i })
+
+  -- with the same word, if its beginning wasn't chosen
+  pub word_given : word_on (made link (retold h None) b) ≡ word_on (made link h b)
+  word_given = refl
+
+  -- else with one that fits the grid on which it was placed
+  abbrev pub there : ℕ → TrafficText → TrafficText
+  there offset t = word_from (made link (retold h (Some offset)) b) (beginning_at offset t) (closer_word (made link h b) t).jitter
+
+  abbrev pub placed : ℕ → TrafficText → TrafficText
+  placed at t = record (word_from (made link h b) t (grid_word (made link h b) t).jitter) { offset = at }
+
+  pub round_kept : (at cycle_time every : ℕ) (t : TrafficText) → 0 < every * cycle_time →
+      ComesInRound (every * cycle_time) (placed at t) (there (offset_before at (taken_by (Some (times_on (made link h b)))) cycle_time every) t)
+  round_kept at cycle_time every t some =
+      let p = made link h b in
+      let less : (closer_word p t).jitter ≤ (grid_word p t).jitter = omega arith in
+      record {
+        interval = refl;
+        frames = refl;
+        size = refl;
+        jitter = less;
+        offset = comes_round at (shortest_way p) (every * cycle_time) some;
+      }

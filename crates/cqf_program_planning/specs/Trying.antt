@@ -1,0 +1,61 @@
+-- The contracts of inner functions about cycle times that are tried.
+use Rattle.std.specs.Prelude.{ℕ, ◌≡◌, ◌<◌, List, All, IfSome, Option, Some, None, length, map}
+use Rattle.cqf_network.specs.NetworkDomain.{NetworkDomain, longest_guard}
+use Rattle.cqf_program_placing.specs.Placing.{BeginsEarly, PlacedStreams, outcome_value}
+use Rattle.cqf_program_placing.specs.Settled.{SettledStream}
+use Rattle.cqf_program_planning.specs.declared.candidates.Candidate.{Candidate}
+use Rattle.cqf_program_planning.specs.declared.choosing.Choice.{Choice}
+use Rattle.cqf_program_planning.specs.declared.choosing.Choice.TheVariants as choice
+use Rattle.cqf_program_planning.specs.declared.trying.Tried.{Tried}
+use Rattle.cqf_program_planning.specs.Choosing.{IsBad, IsPlanned, IsUnplanned, best_of, line_of_best}
+use Rattle.cqf_program_planning.specs.Judging.{ArePlacedAt, AreJudgedBy, IsJudgedBy, candidate_of, flows_placed}
+use Rattle.cqf_program_planning.specs.Steps.{AreTurned}
+
+-- the verdict on streams that are placed, with their domain and the outcome for each
+pub record IsTriedBy (streams : List SettledStream) (placed : PlacedStreams) (tried : Tried) : Type 0 where
+  pub candidate_is : tried.candidate ≡ candidate_of streams placed
+  pub domain_is : tried.domain ≡ placed.domain
+  pub outcomes_are : map outcome_value tried.outcomes.items ≡ placed.outcomes
+
+-- the same on a cycle time
+pub record IsTried (network : NetworkDomain) (streams : List SettledStream) (cycle_time : ℕ) (tried : Tried) : Type 0 where
+  pub placed : PlacedStreams
+  pub are_placed : ArePlacedAt network streams cycle_time placed
+  pub tried_by : IsTriedBy streams placed tried
+
+-- a cycle time is good: all streams are placed on it, and none may be late
+pub record IsGoodOn (network : NetworkDomain) (streams : List SettledStream) (cycle_time : ℕ) (tried : Tried) : Type 0 where
+  pub open_to : longest_guard network < cycle_time
+  pub tried_is : IsTried network streams cycle_time tried
+  pub good : tried.candidate.fault ≡ None
+
+-- a cycle time isn't good, and this is the verdict on it
+pub record IsBadOn (network : NetworkDomain) (streams : List SettledStream) (cycle_time : ℕ) (candidate : Candidate) : Type 0 where
+  pub judged : IsJudgedBy network streams cycle_time candidate
+  pub bad : IsBad candidate
+
+-- the choice after one candidate
+abbrev pub ComesOf : NetworkDomain → List SettledStream → ℕ → Choice → Type 0
+ComesOf network streams cycle_time (choice.Planned tried) = IsGoodOn network streams cycle_time tried
+ComesOf network streams cycle_time (choice.Unplanned candidate) = IsBadOn network streams cycle_time candidate
+
+-- none of these candidates is good, and this is the one on which most streams are placed
+pub record AreBad (network : NetworkDomain) (streams : List SettledStream) (cycles : List ℕ) (best : Option Candidate) : Type 0 where
+  pub told : List Candidate
+  pub judged : AreJudgedBy network streams cycles told
+  pub bad : All IsBad told
+  pub best_is : best ≡ best_of told
+  pub best_bad : IfSome best IsBad
+
+-- a cycle time on which streams were placed is the plan's
+pub record IsPlannedOn (network : NetworkDomain) (streams : List SettledStream) (tried : Tried) : Type 0 where
+  pub planned : IsPlanned network streams tried.domain (flows_placed tried.domain.cycle_time streams (map outcome_value tried.outcomes.items))
+  pub each : length tried.outcomes.items ≡ length streams
+  pub early : All BeginsEarly (map outcome_value tried.outcomes.items)
+  pub turned : AreTurned streams (flows_placed tried.domain.cycle_time streams (map outcome_value tried.outcomes.items))
+
+-- the choice after all candidates
+abbrev pub ComesOfAll : NetworkDomain → List SettledStream → Choice → Type 0
+ComesOfAll network streams (choice.Planned tried) = IsPlannedOn network streams tried
+ComesOfAll network streams (choice.Unplanned best) =
+    IsUnplanned network streams (line_of_best (length network.candidates) (Some best)) × IsBad best

@@ -1,7 +1,0 @@
-use Rattle.std.proofs.Common.{◌≡◌, map, take}
-use Rattle.cqf_sketch.specs.Edges.{talkers_of}
-use Rattle.cqf_sketch.specs.SketchDomain.{talker_of}
-use Rattle.cqf_sketch.proofs.domain.talker_links.Given as goal
-
-abbrev pub invariant-loop-edge : goal.invariant-loop-edge
-invariant-loop-edge l = l.talkers.items ≡ map talker_of (talkers_of (take l.edge-index l.edges))

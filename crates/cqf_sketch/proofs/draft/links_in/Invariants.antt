@@ -1,8 +1,0 @@
-use Rattle.std.proofs.Common.{◌≡◌, drop}
-use Rattle.toml.specs.View.{items_view}
-use Rattle.cqf_topology.specs.DomainText.{with_front}
-use Rattle.cqf_sketch.specs.SketchText.{links_from}
-use Rattle.cqf_sketch.proofs.draft.links_in.Given as goal
-
-abbrev pub invariant-loop-value : goal.invariant-loop-value
-invariant-loop-value l = with_front l.links.items (links_from (items_view (drop l.value-index l.values))) ≡ links_from (items_view l.values)
