@@ -60,11 +60,11 @@ class Plan:
 
     def __init__(self, program: str, path: Path, form: tuple[str, ...] = ("--format", "tc"), first_address: int = 1) -> None:
         self.program, self.path, self.first_address = program, path, first_address
-        plant = tomllib.loads(without_cut(path.read_text(encoding="utf-8")))
-        self.cycle, self.bridges, self.stations = plant["cycle"], plant["bridges"], plant["stations"]
+        network = tomllib.loads(without_cut(path.read_text(encoding="utf-8")))
+        self.cycle, self.bridges, self.stations = network["cycle"], network["bridges"], network["stations"]
         self.nodes = [*self.bridges, *self.stations]
-        self.links = {(it["from"], it["to"]): it for it in plant["links"]}
-        self.streams = plant["streams"]
+        self.links = {(it["from"], it["to"]): it for it in network["links"]}
+        self.streams = network["streams"]
         for stream in self.streams:
             stream["paths"] = stream.get("paths") or [stream["path"]]
         self.numbers = {stream["name"]: number for number, stream in enumerate(self.streams)}
