@@ -14,3 +14,4 @@ pub mod WayLemmas
 pub mod PartLemmas
 pub mod ShortLemmas
 pub mod ListenerLemmas
+pub mod StreamParts

@@ -25,6 +25,7 @@ use Rattle.cqf_network.specs.NetworkText.{NetworkText, candidates_of, candidates
 use Rattle.cqf_network.specs.NetworkText.{network_with_cycles}
 use Rattle.cqf_network.specs.NetworkDomain.{IsOpenCycle, NetworkDomain, checked, is_guard_too_long, is_too_many, link_of, longest_guard, longest_of, name_taken}
 use Rattle.cqf_network.specs.NetworkDomain.{network_of_text, plan_of, open_network_of_text, network_with, with_edges, with_names}
+use Rattle.cqf_network.proofs.StreamParts.{map_both-Ok, or_None}
 use Rattle.cqf_network_text.specs.declared.filling.FilledStream.{FilledStream}
 use Rattle.cqf_network_text.specs.DomainMembers.{put}
 use Rattle.cqf_network_text.specs.Networks.{filled_network, filled_streams, streams_of, table_of}
@@ -32,7 +33,7 @@ use Rattle.cqf_network_text.specs.NetworkLaws.{with_cycle}
 use Rattle.cqf_network_text.proofs.DomainChecks.{unreached}
 use Rattle.cqf_network_text.proofs.DomainReading.{number_reads}
 use Rattle.cqf_network_text.proofs.Puts.{put_apart, put_here}
-use Rattle.cqf_network_text.proofs.TablesRead.{map_both-Ok, number_if_same, one_table, or_None, read_same, table_is, whole_is, whole_parts}
+use Rattle.cqf_network_text.proofs.TablesRead.{number_if_same, one_table, read_same, table_is, whole_is, whole_parts}
 
 -- what a text says, with another cycle time
 abbrev text_with : ℕ → NetworkText → NetworkText
