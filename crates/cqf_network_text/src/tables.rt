@@ -10,7 +10,7 @@ use std::alloc::Global;
 use toml::{Table, Value};
 
 /// Puts a value into a table. An earlier value at the key is replaced. Returns `Memory` if an allocation fails.
-pub(crate) fn put_value(
+pub fn put_value(
     alloc: Global,
     table: &mut Table,
     key: &str,
@@ -52,7 +52,7 @@ pub(crate) fn put_some(
 }
 
 /// Puts a text into a table. Returns `Memory` if an allocation fails.
-pub(crate) fn put_text(
+pub fn put_text(
     alloc: Global,
     table: &mut Table,
     key: &str,
