@@ -18,7 +18,7 @@ ghost use Rattle.cqf_program_engine.specs.Run.{IsRunOf, IsThreadedRun, LeavesThr
 ghost use Rattle.cqf_program_engine.specs.Run.{version_line, IsAsking, IsVersionWord, IsWithin, IsOutput, input_of, words_of};
 ghost use Rattle.cqf_program_engine.specs.Run.{IsRefusal, IsBehindWords, Ends, EndsTold, HandsOver, HasCause, HasRun};
 ghost use Rattle.cqf_program_engine.specs.Run.{IsDone, IsStopped, TellsPlainly, TellsStop, is_space, is_threaded, first_line, wanted_of};
-ghost use Rattle.cqf_program_engine.specs.Run.{behind_first_line, most_bytes};
+ghost use Rattle.cqf_program_engine.specs.Run.{behind_first_line, most_bytes, search_of};
 ghost use Rattle.cqf_model.specs.Limits.{most_cycles};
 
 use crate::begun::{Begun, ThreadedRun};
@@ -27,17 +27,17 @@ use crate::inputs::{MOST_BYTES, most_bytes, read_input};
 use crate::prepared::PreparedOutput;
 use crate::sources::Source;
 use cqf_model::Limits;
-use cqf_output::{DONE, FAULT, NO_MEMORY, Sink, Stop, Told, USAGE, told_text, write_out};
+use cqf_output::{DONE, FAULT, NO_MEMORY, REFUSED, Sink, Stop, Told, USAGE, told_text, write_out};
 use cqf_program_json::json_output;
 use cqf_program_offers::offers_output;
-use cqf_program_planning::plan_output;
+use cqf_program_planning::{Search, plan_output};
 use cqf_program_plans::{compile_output, latency_output, load_output, port_output};
 use cqf_program_runs::{check_output, deliveries_output, line_output, report_output, run_output};
 use cqf_program_summary::{FrameFilter, hops_output, summary_output};
 use cqf_program_tc::{env_output, tc_output};
 use cqf_program_threads::threads_output;
 use cqf_program_words::{
-    Candidates, Format, Job, limits_of, read_words, stop_of_line, stop_of_long_line,
+    Candidates, Format, Job, PlanOptions, limits_of, read_words, stop_of_line, stop_of_long_line,
 };
 use cqf_text::split_line;
 use cqf_units::{Memory, Name};
@@ -67,8 +67,8 @@ fn prepare_compiled(
     format: &Format,
     input: &[u8],
 ) -> Result<PreparedOutput, Stop>
-    ensures ok { IfOk result (HasText (IsOutput limits (Job.Compile format.now) input.now)) }
-    ensures err { IfErr result (IsRefusal limits (Job.Compile format.now) input.now) }
+    ensures ok { (edge_gates : Bool) → IfOk result (HasText (IsOutput limits (Job.Compile format.now edge_gates) input.now)) }
+    ensures err { (edge_gates : Bool) → IfErr result (IsRefusal limits (Job.Compile format.now edge_gates) input.now) }
 {
     match *format {
         Format::List => Ok(PreparedOutput::Config(compile_output(alloc, limits, input)?)),
@@ -125,20 +125,31 @@ fn times_of(alloc: Global, given: Option<Candidates>) -> Result<Option<Vec<u32>>
     }
 }
 
+/// Returns how `plan` searches with these options.
+fn search_of(options: &PlanOptions) -> Search
+    ensures { result ≡ search_of options.now }
+{
+    Search {
+        tries: options.tries,
+        best: options.best,
+    }
+}
+
 /// Returns the output of `plan` for an input that is read within given limits, with the given candidates for the cycle
 /// time, if any. Errors are those of [`prepare`].
 fn planned(
     alloc: Global,
     limits: Limits,
     table: bool,
+    search: Search,
     given: Option<Candidates>,
     input: &[u8],
 ) -> Result<Vec<u8>, Stop>
-    ensures ok { IfOk result (λ text. IsPlanOf limits table (option_map times_of given) input.now (Ok text.items)) }
-    ensures err { IfErr result (IsPlanRefusal limits table (option_map times_of given) input.now) }
+    ensures ok { IfOk result (λ text. IsPlanOf limits table search (option_map times_of given) input.now (Ok text.items)) }
+    ensures err { IfErr result (IsPlanRefusal limits table search (option_map times_of given) input.now) }
 {
     match times_of(alloc, given) {
-        Ok(times) => plan_output(alloc, limits, table, times, input),
+        Ok(times) => plan_output(alloc, limits, table, search, times, input),
         Err(_) => Err(Stop::memory(alloc)),
     }
 }
@@ -165,8 +176,8 @@ fn prepare(
             alloc, until, rate, input,
         )?)),
         Job::Line { cycles } => Ok(PreparedOutput::Line(line_output(alloc, cycles, input)?)),
-        Job::Compile { ref format } => prepare_compiled(alloc, limits, format, input),
-        Job::Load => Ok(PreparedOutput::Load(load_output(alloc, limits, input)?)),
+        Job::Compile { ref format, .. } => prepare_compiled(alloc, limits, format, input),
+        Job::Load { .. } => Ok(PreparedOutput::Load(load_output(alloc, limits, input)?)),
         Job::Latency { strict } => Ok(PreparedOutput::Latency(latency_output(
             alloc, limits, strict, input,
         )?)),
@@ -195,9 +206,15 @@ fn prepare(
             ref stream,
             frame,
         } => prepare_hops(alloc, limits, cycles, stream, frame, input),
-        Job::Plan { table, given } => Ok(PreparedOutput::Text(planned(
-            alloc, limits, table, given, input,
+        Job::Plan { ref options } => Ok(PreparedOutput::Text(planned(
+            alloc,
+            limits,
+            options.table,
+            search_of(options),
+            options.given,
+            input,
         )?)),
+        Job::Diff { .. } => Err(Stop::with_line(alloc, REFUSED, "cqf: diff: NotYet\n")),
     }
 }
 

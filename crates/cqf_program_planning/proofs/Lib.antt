@@ -5,6 +5,7 @@ mod PlacedLemmas
 mod TriedLemmas
 mod TextLemmas
 mod ChoiceLemmas
+mod BestLemmas
 mod ChoicesMade
 mod EdgeRead
 pub mod ReadNetworks
@@ -23,3 +24,8 @@ mod ReadBack
 mod Shallow
 mod Strict
 mod ToldPlans
+mod OrderSteps
+mod OrderLemmas
+mod OtherOrders
+mod Tried
+mod Searches

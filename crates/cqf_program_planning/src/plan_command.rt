@@ -9,7 +9,7 @@ ghost use Rattle.cqf_output.specs.Stops.{EndsWith, IsRefused, or_line};
 ghost use Rattle.cqf_network.specs.NetworkDomain.{AreCandidates, open_network_of_text};
 ghost use Rattle.cqf_network.specs.StreamsText.{network_streams_of_text, stream_text};
 ghost use Rattle.cqf_program_placing.specs.Placing.{BeginsEarly, outcome_value};
-ghost use Rattle.cqf_program_planning.specs.Choosing.{IsBad, line_of_best};
+ghost use Rattle.cqf_program_planning.specs.Choosing.{IsBad, line_of_nearest};
 ghost use Rattle.cqf_program_planning.specs.Judging.{flows_placed};
 ghost use Rattle.cqf_program_planning.specs.PlanOutput.{IsCandidatesText, IsPlanOf, IsPlanRefusal, IsPlanText, IsToldOf, IsToldRefusal};
 ghost use Rattle.cqf_program_planning.specs.PlanOutput.{planning_input, network_line, unentered_line, unsettled_line};
@@ -17,8 +17,8 @@ ghost use Rattle.cqf_program_planning.specs.Steps.{AreSettled, AreTurned};
 ghost use Rattle.cqf_program_planning.specs.Writing.{IsTriedText, IsWritable, source_of};
 
 use crate::candidates::Candidate;
-use crate::choosing::{Choice, choose};
-use crate::plans::{choices_of, flows_placed, line_of_best};
+use crate::choosing::{Choice, Search, choose};
+use crate::plans::{choices_of, flows_placed, line_of_nearest};
 use crate::table::text_of_candidates;
 use crate::trying::{Tried, judge_all};
 use cqf_edge::{AccessTimes, EdgeFault, EdgeStreams, TalkerFault, edge_streams};
@@ -213,12 +213,12 @@ fn read_source(
 }
 
 /// Returns the table of a network file's candidates.
-fn table_of(alloc: Global, given: &PlanInput<'_>) -> Result<Vec<u8>, Memory>
+fn table_of(alloc: Global, tries: u32, given: &PlanInput<'_>) -> Result<Vec<u8>, Memory>
     requires { AreSettled given.now.domain (map settled_value given.now.streams.items) }
-    ensures { IfOk result (λ text. IsCandidatesText (source_of given.now) text.items) }
+    ensures { IfOk result (λ text. IsCandidatesText tries (source_of given.now) text.items) }
 {
     let streams = given.streams.as_slice();
-    let told = judge_all(alloc, &given.domain, streams)?;
+    let told = judge_all(alloc, &given.domain, streams, tries)?;
     let text = text_of_candidates(alloc, streams.len(), told.as_slice())?;
     Ok(text)
 }
@@ -246,30 +246,30 @@ fn network_text(alloc: Global, given: &PlanInput<'_>, tried: &Tried) -> Result<V
 }
 
 /// Returns the end if none of `count` candidates is good.
-fn unplanned_stop(alloc: Global, count: usize, best: &Candidate) -> Stop
-    requires { IsBad best.now }
-    ensures { EndsWith 1 (line_of_best count (Some best.now)) result }
+fn unplanned_stop(alloc: Global, count: usize, nearest: &Candidate) -> Stop
+    requires { IsBad nearest.now }
+    ensures { EndsWith 1 (line_of_nearest count (Some nearest.now)) result }
 {
-    Stop::with_text(alloc, REFUSED, line_of_best(alloc, count, best))
+    Stop::with_text(alloc, REFUSED, line_of_nearest(alloc, count, nearest))
 }
 
 /// Returns the text of a network file's plan.
 ///
 /// # Errors
 /// With status 1 and the line that says why none of its candidates is good; with status 3 if an allocation fails.
-fn plan_of(alloc: Global, given: &PlanInput<'_>) -> Result<Vec<u8>, Stop>
+fn plan_of(alloc: Global, search: Search, given: &PlanInput<'_>) -> Result<Vec<u8>, Stop>
     requires settled { AreSettled given.now.domain (map settled_value given.now.streams.items) }
     requires written { IsWritable (source_of given.now) }
-    ensures ok { IfOk result (λ text. IsPlanText (source_of given.now) text.items) }
-    ensures err { IfErr result (IsToldRefusal false (source_of given.now)) }
+    ensures ok { IfOk result (λ text. IsPlanText search (source_of given.now) text.items) }
+    ensures err { IfErr result (IsToldRefusal false search (source_of given.now)) }
 {
-    match choose(alloc, &given.domain, given.streams.as_slice()) {
+    match choose(alloc, &given.domain, given.streams.as_slice(), search) {
         Ok(Choice::Planned(tried)) => match network_text(alloc, given, &tried) {
             Ok(text) => Ok(text),
             Err(_) => Err(Stop::memory(alloc)),
         },
-        Ok(Choice::Unplanned(best)) => {
-            Err(unplanned_stop(alloc, given.domain.candidates().len(), &best))
+        Ok(Choice::Unplanned(nearest)) => {
+            Err(unplanned_stop(alloc, given.domain.candidates().len(), &nearest))
         }
         Err(_) => Err(Stop::memory(alloc)),
     }
@@ -279,16 +279,21 @@ fn plan_of(alloc: Global, given: &PlanInput<'_>) -> Result<Vec<u8>, Stop>
 ///
 /// # Errors
 /// As [`plan_of`]; for the table, only with status 3 if an allocation fails.
-fn told_of(alloc: Global, table: bool, given: &PlanInput<'_>) -> Result<Vec<u8>, Stop>
+fn told_of(
+    alloc: Global,
+    table: bool,
+    search: Search,
+    given: &PlanInput<'_>,
+) -> Result<Vec<u8>, Stop>
     requires settled { AreSettled given.now.domain (map settled_value given.now.streams.items) }
     requires written { IsWritable (source_of given.now) }
-    ensures ok { IfOk result (λ text. IsToldOf table (source_of given.now) (Ok text.items)) }
-    ensures err { IfErr result (IsToldRefusal table (source_of given.now)) }
+    ensures ok { IfOk result (λ text. IsToldOf table search (source_of given.now) (Ok text.items)) }
+    ensures err { IfErr result (IsToldRefusal table search (source_of given.now)) }
 {
     if !table {
-        return plan_of(alloc, given);
+        return plan_of(alloc, search, given);
     }
-    match table_of(alloc, given) {
+    match table_of(alloc, search.tries, given) {
         Ok(text) => Ok(text),
         Err(_) => Err(Stop::memory(alloc)),
     }
@@ -299,19 +304,19 @@ fn told_of(alloc: Global, table: bool, given: &PlanInput<'_>) -> Result<Vec<u8>,
 ///
 /// # Errors
 /// With status 1 and the line of the first fault: of the input's parts, of the domain, of the streams, or of what no cycle time changes; or
-/// else, if no table is requested and no candidate is good, of the one on which most streams are placed. With status 3 if an allocation
-/// fails.
+/// else, if no table is requested and no candidate is good, of the nearest. With status 3 if an allocation fails.
 pub fn plan_output(
     alloc: Global,
     limits: Limits,
     table: bool,
+    search: Search,
     given: Option<Vec<u32>>,
     input: &[u8],
 ) -> Result<Vec<u8>, Stop>
     requires { IfSome given (λ cycles. AreCandidates cycles.items) }
-    ensures ok { IfOk result (λ text. IsPlanOf limits table (option_map (λ cycles. cycles.items) given) input.now (Ok text.items)) }
-    ensures err { IfErr result (IsPlanRefusal limits table (option_map (λ cycles. cycles.items) given) input.now) }
+    ensures ok { IfOk result (λ text. IsPlanOf limits table search (option_map (λ cycles. cycles.items) given) input.now (Ok text.items)) }
+    ensures err { IfErr result (IsPlanRefusal limits table search (option_map (λ cycles. cycles.items) given) input.now) }
 {
     let found = read_source(alloc, limits, given, input)?;
-    told_of(alloc, table, &found)
+    told_of(alloc, table, search, &found)
 }
