@@ -24,6 +24,7 @@ mod given;
 mod hints;
 mod lexer;
 mod lines;
+mod link_faults;
 mod network;
 mod network_faults;
 mod noting;

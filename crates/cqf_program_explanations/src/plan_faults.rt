@@ -3,6 +3,7 @@
 use crate::access::edge_promise;
 use crate::domain_faults::{tell_guard_at, tell_link_guards_at};
 use crate::given::CommandInput;
+use crate::link_faults::tell_no_link;
 use crate::network::Network;
 use crate::network_faults::{
     access_link_of, ends_of_talker, is_talker, links_words, tell_entering,
@@ -475,6 +476,9 @@ pub(crate) fn tell_plan(
     told: &mut ToldLines,
     refusal: Refusal<'_>,
 ) -> Result<(), AllocError> {
+    if refusal.fault == "NoLink" {
+        return tell_no_link(given, told, refusal.value);
+    }
     let Some(unplaced) = unplaced_of(refusal) else {
         return tell_guards_at(given, told, cycle_of(refusal));
     };

@@ -312,7 +312,7 @@ fn check_header(
     }
 }
 
-/// Whether nothing may be open for the job: it takes a domain, and isn't `plan`, which chooses what is.
+/// Returns whether nothing may be open for the job: it takes a domain, and isn't `plan`, which chooses what is.
 fn takes_closed(job: &Job) -> bool
     ensures { result ≡ takes_closed job.now }
 {
@@ -322,7 +322,7 @@ fn takes_closed(job: &Job) -> bool
     }
 }
 
-/// Looks whether nothing is open that the job doesn't choose. `Err` where something is, and for want of memory.
+/// Refuses files in which something is open that the job doesn't choose. Returns `Err` also if an allocation fails.
 fn check_closed(alloc: Global, job: &Job, names: &[&str], texts: &[&[u8]]) -> Result<(), Stop>
     requires { length names.now ≡ length texts.now }
     ensures ok { OnOk result (closed_refusal job.now (map (λ name. name.now) names.now) (map (λ text. text.now) texts.now) ≡ None) }

@@ -15,3 +15,4 @@ pub mod StreamsRead
 pub mod Behind
 pub mod Known
 pub mod RoomLemmas
+pub mod InOrder

@@ -9,6 +9,7 @@ ghost use Rattle.cqf_model.specs.History.{held_in, seals};
 ghost use Rattle.cqf_model.specs.Limits.{most_calls, most_reserved, most_streams};
 ghost use Rattle.cqf_network.specs.NetworkDomain.{IsOpenCycle, domain_at};
 ghost use Rattle.cqf_program_placing.specs.Known.{AreKnown};
+ghost use Rattle.cqf_program_placing.specs.Orders.{in_order};
 ghost use Rattle.cqf_program_placing.specs.Placing.{AreFound, ArePlaced, IsAskedFor, IsPlacing, IsRouted, IsRoutedAndAnswered, outcome_value};
 ghost use Rattle.cqf_program_placing.specs.Routes.{AreReached, IsFullFor, IsUnrouted};
 ghost use Rattle.cqf_program_placing.specs.Settled.{Between, IsOnWay, IsPlaceable, open_domain, settled_value, way_value};
@@ -387,6 +388,59 @@ pub fn place(
 {
     let domain = network.at(alloc, cycle_time)?;
     place_all(alloc, &domain, network.links(), streams)
+}
+
+/// Places streams on a domain, which has these links, in an order of their indices.
+fn place_each(
+    alloc: Global,
+    domain: &Domain,
+    links: &[Link],
+    streams: &[Settled],
+    order: &[usize],
+) -> Result<Placing, Memory>
+    requires links { links.now ≡ domain.now.links }
+    requires inside { All (λ index. index < length streams.now) order.now }
+    requires few { length order.now ≤ most_streams }
+    requires placeable { All (IsPlaceable domain.now) (map settled_value streams.now) }
+    ensures domain { IfOk result (λ placing. placing.domain ≡ domain.now) }
+    ensures placed { IfOk result (λ placing. ArePlaced (in_order (map settled_value streams.now) order.now) placing) }
+{
+    state_follows_history();
+    let mut admission = Admission::new(alloc, domain)?;
+    let mut rooms = Rooms::new(alloc);
+    let mut outcomes = Vec::new(alloc);
+    for index in order {
+        let stream = &streams[*index];
+        let outcome = place_one(alloc, domain, links, &mut admission, &mut rooms, stream)?;
+        outcomes.push(outcome)?;
+    }
+    Ok(Placing {
+        admission,
+        outcomes,
+    })
+}
+
+/// Places settled streams of a network file on an open cycle time, in nanoseconds, as [`place`] does, but in an order of their indices. The
+/// outcomes are in that order too.
+///
+/// # Errors
+/// `Memory` if an allocation fails.
+pub fn place_in_order(
+    alloc: Global,
+    network: &NetworkDomain,
+    cycle_time: u32,
+    streams: &[Settled],
+    order: &[usize],
+) -> Result<Placing, Memory>
+    requires open { IsOpenCycle network.now cycle_time }
+    requires inside { All (λ index. index < length streams.now) order.now }
+    requires few { length order.now ≤ most_streams }
+    requires on_way { All (IsPlaceable (open_domain network.now)) (map settled_value streams.now) }
+    ensures domain { IfOk result (λ placing. placing.domain ≡ domain_at network.now cycle_time) }
+    ensures placed { IfOk result (λ placing. ArePlaced (in_order (map settled_value streams.now) order.now) placing) }
+{
+    let domain = network.at(alloc, cycle_time)?;
+    place_each(alloc, &domain, network.links(), streams, order)
 }
 
 /// Returns the rows of a table, by number.
