@@ -135,10 +135,10 @@ fn sources_of<'t>(
 /// Returns the cycle times that the words of `plan` give, in nanoseconds; none for other words. Returns `None` if an allocation fails.
 fn cycle_times_of(alloc: Global, job: &Job) -> Option<Vec<u32>> {
     match *job {
-        Job::Plan {
-            given: Some(candidates),
-            ..
-        } => candidates.list(alloc).ok(),
+        Job::Plan { ref options } => match options.given {
+            Some(candidates) => candidates.list(alloc).ok(),
+            None => Some(Vec::new(alloc)),
+        },
         _ => Some(Vec::new(alloc)),
     }
 }
@@ -295,7 +295,7 @@ pub(crate) fn run_files(
         Err(stop) => return end(rt, &stop),
     };
     let names = operands.files();
-    if let Err(stop) = check_files(alloc, names) {
+    if let Err(stop) = check_files(alloc, &job, names) {
         return end(rt, &stop);
     }
     let words = operands.words();

@@ -7,7 +7,6 @@ use Rattle.cqf_topology.specs.Fields.{and_first}
 use Rattle.cqf_topology.proofs.Refusals.{and_then-Ok}
 use Rattle.cqf_network.specs.NetworkFlows.{NetworkFlowText}
 use Rattle.cqf_network.specs.NetworkDomain.{NetworkDomain}
-use Rattle.cqf_network.proofs.StreamParts.{and_first-Ok}
 use Rattle.cqf_edge.specs.declared.edge.Passage.{Passage}
 use Rattle.cqf_edge.specs.declared.faults.EdgeFault.{EdgeFault}
 use Rattle.cqf_edge.specs.declared.uses.Handed.{Handed}
@@ -16,6 +15,19 @@ use Rattle.cqf_edge.specs.EdgeLaws.{AreByPlaces, EdgesAreByPlaces}
 use Rattle.cqf_edge.specs.Edge.{times_on}
 use Rattle.cqf_edge.specs.Uses.{bounds_of}
 
+-- the first was right, and so were the others
+pub record AreBoth {A E : Type 0} (first : Result A E) (others : Result (List A) E) (xs : List A) : Type 0 where
+  pub one : A
+  pub more : List A
+  pub first_is : first ≡ Ok one
+  pub others_are : others ≡ Ok more
+  pub all : xs ≡ one ∷ more
+
+pub both : {A E : Type 0} (first : Result A E) (others : Result (List A) E) (xs : List A) → and_first first others ≡ Ok xs → AreBoth first others xs
+both (Err e) others xs h = absurd cc
+both (Ok x) (Err e) xs h = absurd cc
+both (Ok x) (Ok ys) xs h = let e : xs ≡ x ∷ ys = cc in record { one = x; more = ys; first_is = refl; others_are = refl; all = e }
+
 list_same : (network : NetworkDomain) (hs : List (Option Handed)) → handed_of_all network [] ≡ Ok hs → hs ≡ []
 list_same network hs h = cc
 
@@ -23,7 +35,7 @@ list_same network hs h = cc
 handed_length : (network : NetworkDomain) (found : List NetworkFlowText) (hs : List (Option Handed)) → handed_of_all network found ≡ Ok hs → length hs ≡ length found
 handed_length network [] hs h = ap length (list_same network hs h)
 handed_length network (one ∷ found) hs h =
-    let w = and_first-Ok (handed_of network one) (handed_of_all network found) hs h in
+    let w = both (handed_of network one) (handed_of_all network found) hs h in
     ap length w.all ∙ ap suc (handed_length network found w.more w.others_are)
 
 flows_length : (ps : List (Option Passage)) (found : List NetworkFlowText) → length ps ≡ length found → length (flows_behind ps found) ≡ length found

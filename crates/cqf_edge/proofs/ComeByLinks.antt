@@ -22,7 +22,6 @@ use Rattle.cqf_network.specs.NetworkFlows.{NetworkFlowText}
 use Rattle.cqf_network.specs.NetworkDomain.{NetworkDomain}
 use Rattle.cqf_access.specs.Access.{IsBound}
 use Rattle.cqf_access.specs.Arriving.{longest_wait, way_of}
-use Rattle.cqf_network.proofs.StreamParts.{and_first-Ok}
 use Rattle.cqf_edge.specs.declared.edge.Passage.{Passage}
 use Rattle.cqf_edge.specs.declared.entrances.Entrance.{Entrance}
 use Rattle.cqf_edge.specs.declared.entrances.Entrance.TheVariants.{AtBridge, ByAccess}
@@ -38,7 +37,7 @@ use Rattle.cqf_edge.specs.Entrances.{agrees_with, at_node, by_station, by_that_t
 use Rattle.cqf_edge.specs.Uses.{bound_by, bound_for, bound_of, bounds_from, bounds_of, handed_over, handed_to, is_full, is_handed_to, least_bound, link_with}
 use Rattle.cqf_edge.specs.Uses.{longest_frame, most_bound, other_beside, promise_in, promises_in, shortest_frame, station_at, time_in}
 use Rattle.cqf_edge.proofs.Bounds.{bound_from}
-use Rattle.cqf_edge.proofs.Came.{edge_same}
+use Rattle.cqf_edge.proofs.Came.{both, edge_same}
 use Rattle.cqf_edge.proofs.Written.{after}
 
 -- ---- what is handed over
@@ -118,11 +117,11 @@ handed_there : (network : NetworkDomain) (found : List NetworkFlowText) (hs : Li
     handed_of_all network found ≡ Ok hs → slice_get found k ≡ Some one → slice_get hs k ≡ Some x → handed_of network one ≡ Ok x
 handed_there network [] hs k one x h a b = absurd cc
 handed_there network (f ∷ found) hs zero one x h a b =
-    let w = and_first-Ok (handed_of network f) (handed_of_all network found) hs h in
+    let w = both (handed_of network f) (handed_of_all network found) hs h in
     ap (handed_of network) (sym (same_Some f one a)) ∙ w.first_is
     ∙ ap Ok (same_Some w.one x (sym (ap (λ (xs : List (Option Handed)). slice_get xs 0) w.all) ∙ b))
 handed_there network (f ∷ found) hs (suc k) one x h a b =
-    let w = and_first-Ok (handed_of network f) (handed_of_all network found) hs h in
+    let w = both (handed_of network f) (handed_of_all network found) hs h in
     handed_there network found w.more k one x w.others_are a (sym (ap (λ (xs : List (Option Handed)). slice_get xs (suc k)) w.all) ∙ b)
 
 -- ---- bounds

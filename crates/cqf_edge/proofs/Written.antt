@@ -23,7 +23,6 @@ use Rattle.cqf_network.specs.NetworkFlows.{NetworkFlowText, network_flow_from, n
 use Rattle.cqf_network.specs.StreamsText.{StreamText, branches_if, listeners_read, octets_from, pacing_from, shortest_read, network_streams_of_text}
 use Rattle.cqf_network.specs.StreamsText.{stream_from, streams_from, streams_in, streams_of_array, talker_read, way_by}
 use Rattle.cqf_network.specs.StreamsText.{first_lack_of as wanted_lack}
-use Rattle.cqf_network.proofs.StreamParts.{each_stream, has_read, map_both-Ok}
 use Rattle.cqf_edge.specs.Edge.{IsWritten}
 use Rattle.cqf_edge.specs.EdgeFlows.{IsWrittenFlow}
 use Rattle.cqf_edge.specs.EdgeStreams.{IsWrittenStream}
@@ -70,6 +69,10 @@ traffic_written table traffic h = by (has_traffic table) h
         λ u there. let same : t ≡ u = cc in subst IsWritten same (numbers_written table t read)
     by false e = λ u there. absurd cc
 
+or_read : (r : Result (Option TrafficText) TrafficKey) (traffic : Option TrafficText) → result_map_both (λ t. t) flows_fault.BadValue r ≡ Ok traffic → r ≡ Ok traffic
+or_read (Ok t) traffic h = cc
+or_read (Err e) traffic h = absurd cc
+
 -- what holds of all that a step and then the next may give
 pub after : {A B E : Type 0} (P : B → Type 0) (r : Result A E) (next : A → Result B E) → ((x : A) → r ≡ Ok x → (y : B) → next x ≡ Ok y → P y) →
     (y : B) → and_then r next ≡ Ok y → P y
@@ -87,7 +90,7 @@ flow_written : (table : Members) (flow : FlowText) → flow_from table ≡ Ok fl
 flow_written table =
     after IsWrittenPair (or_streams (planned_from table)) (λ planned. and_then (traffic_or table) (λ traffic. Ok (planned, traffic))) (λ planned _.
     after IsWrittenPair (traffic_or table) (λ traffic. Ok (planned, traffic)) (λ traffic read flow made.
-    subst IsWrittenPair (pair_same (planned, traffic) flow made) (traffic_written table traffic (map_both-Ok flows_fault.BadValue (traffic_from table) traffic read))))
+    subst IsWrittenPair (pair_same (planned, traffic) flow made) (traffic_written table traffic (or_read (traffic_from table) traffic read))))
 
 found_same : (x y : NetworkFlowText) → ◌≡◌ {A = Result NetworkFlowText FlowsFault} (Ok x) (Ok y) → x ≡ y
 found_same x y e = cc
@@ -128,6 +131,53 @@ flows_written text =
 
 -- ---- a stream that is to be planned
 
+stream_same : (x y : StreamText) → ◌≡◌ {A = Result StreamText FlowsFault} (Ok x) (Ok y) → x ≡ y
+stream_same x y e = cc
+
+stream_written : (table : Members) (stream : StreamText) → stream_from table ≡ Ok stream → IsWrittenStream stream
+stream_written table =
+    after IsWrittenStream (or_streams (read_at key.Name as_str table)) _ (λ name _.
+    after IsWrittenStream (or_streams (octets_from table)) _ (λ octets _.
+    after IsWrittenStream (pacing_from table) _ (λ pacing _.
+    after IsWrittenStream (or_streams (branches_if table)) _ (λ paths _.
+    after IsWrittenStream (or_streams (talker_read table)) _ (λ talker _.
+    after IsWrittenStream (or_streams (listeners_read table)) _ (λ listeners _.
+    after IsWrittenStream (or_streams (way_by paths talker listeners)) _ (λ way _.
+    after IsWrittenStream (or_streams (deadline_from table)) _ (λ deadline _.
+    after IsWrittenStream (traffic_or table) _ (λ traffic read.
+    after IsWrittenStream (shortest_read traffic table) _ (λ shortest _ stream made.
+    subst IsWrittenStream (stream_same (record {
+      name = name;
+      octets = octets;
+      pacing = pacing;
+      way = way;
+      talker = talker;
+      listeners = listeners;
+      deadline = deadline;
+      traffic = traffic;
+      shortest = shortest;
+    }) stream made) (traffic_written table traffic (or_read (traffic_from table) traffic read))))))))))))
+
+wanted_written : (d : Data) (stream : StreamText) → and_then (ok_or (as_table d) (flows_fault.Streams (toml_fault.BadValue key.Streams))) stream_from ≡ Ok stream →
+    IsWrittenStream stream
+wanted_written d =
+    after IsWrittenStream (ok_or (as_table d) (flows_fault.Streams (toml_fault.BadValue key.Streams))) stream_from (λ table _ stream h. stream_written table stream h)
+
+abbrev AreWrittenStreams : List StreamText → Type 0
+AreWrittenStreams streams = All IsWrittenStream streams
+
+wanted_array_written : (items : Items) (streams : List StreamText) → streams_of_array items ≡ Ok streams → AreWrittenStreams streams
+wanted_array_written items streams h = by (are_tables items) h
+  where
+    by : (b : Bool) → (if b then streams_from items else Err (flows_fault.Streams (toml_fault.BadValue key.Streams))) ≡ Ok streams → AreWrittenStreams streams
+    by true e = each_from-All IsWrittenStream (λ d. and_then (ok_or (as_table d) (flows_fault.Streams (toml_fault.BadValue key.Streams))) stream_from) wanted_written items streams e
+    by false e = absurd cc
+
+wanted_document_written : (table : Members) (streams : List StreamText) → streams_in table ≡ Ok streams → AreWrittenStreams streams
+wanted_document_written table =
+    after AreWrittenStreams (or_streams (read_at key.Streams as_array table)) streams_of_array (λ items _ streams h. wanted_array_written items streams h)
+
 pub streams_written : (text : List ℕ) (streams : List StreamText) → network_streams_of_text text ≡ Ok streams → All IsWrittenStream streams
 streams_written text =
-    each_stream IsWrittenStream (λ table stream lack read. traffic_written table stream.traffic (has_read table stream read).traffic) text
+    after AreWrittenStreams (or_streams (whole_document streams_keys key.Streams [] text)) _ (λ table _ streams h.
+    wanted_document_written table streams (refuse-Ok (wanted_lack table) (λ fault. fault) (streams_in table) streams h).1)

@@ -23,7 +23,7 @@ pub enum TalkerFault {
 /// The first fault of a network's streams and access links.
 #[derive(Debug, PartialEq, Eq, Drop, Error)]
 pub enum EdgeFault {
-    /// The name of the first stream that can't enter the network as its keys say, and why.
+    /// The name of the first stream that doesn't enter as its text says, and why.
     Talker(Name, TalkerFault),
     /// The station of the first access link without a bound up to 10^9 ns.
     AccessFull(Name),

@@ -239,7 +239,7 @@ fn edges_with(
 /// streams are as if no frame waited there. A caller that relies on them has to refuse such a network.
 ///
 /// # Errors
-/// `Talker` of the first stream that can't enter the network as its keys say; `Memory` if memory for the result is refused.
+/// `Talker` of the first stream that doesn't enter as its text says; `Memory` if memory for the result is refused.
 pub fn edge_flows(
     alloc: Global,
     network: &NetworkDomain,

@@ -262,7 +262,7 @@ fn streams_from(
 /// and with what is left there of its deadline. A stream that enters nowhere is returned as it was.
 ///
 /// # Errors
-/// `Talker` of the first stream that can't enter the network as its keys say, but `NoTalker` only if its way is given or its text names a bridge with the
+/// `Talker` of the first stream that doesn't enter as its text says, but `NoTalker` only if its way is given or its text names a bridge with the
 /// talker; `Memory` if memory for the result is refused.
 pub fn edge_streams(
     alloc: Global,

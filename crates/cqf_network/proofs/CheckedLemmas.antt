@@ -13,7 +13,6 @@ use Rattle.cqf_topology.specs.DomainText.{first_taken, if_so}
 use Rattle.cqf_topology.specs.declared.faults.DomainFault.{DomainFault}
 use Rattle.cqf_topology.proofs.Passed.{not_so}
 use Rattle.cqf_topology.proofs.Refusals.{refuse-Ok}
-use Rattle.cqf_network.proofs.StreamParts.{map_None}
 use Rattle.cqf_network.specs.declared.faults.NetworkFault.{NetworkFault}
 use Rattle.cqf_network.specs.declared.faults.NetworkFault.TheVariants.{Domain}
 use Rattle.cqf_topology.specs.declared.faults.DomainFault.TheVariants as domain
@@ -64,6 +63,11 @@ numbered_names_are text bridges stations readable first second =
       stations_apart = ap (λ front. first_taken front text.stations) (sym bridges_are) ∙ stations_apart;
     }
 
+-- if an optional value is absent after a mapping, it was absent before
+unmapped : {X Y : Type 0} (f : X → Y) (o : Option X) → option_map f o ≡ None → o ≡ None
+unmapped f None e = refl
+unmapped f (Some x) e = absurd cc
+
 -- the results of the checks
 pub record PassesNetwork (text : NetworkText) (edges : List Edge) : Type 0 where
   pub no_twice : first_repeat [] (map ends_of edges) ≡ None
@@ -90,16 +94,16 @@ passes_network text edges d e =
     let few = counted (bridges_within text.limits) (stations_within text.limits) (links_within text.limits) (access_within text.limits)
     (length text.bridges) (length text.stations) (bridge_edge_count edges) (length (talkers_of edges)) (not_so (is_too_many text edges) h.0) in
     record {
-      no_twice = map_None (element_at edges) _ a.0;
+      no_twice = unmapped (element_at edges) _ a.0;
       some_open = not_so (is_guard_too_long text) c.0;
-      no_guard = map_None (λ (edge : Edge). edge.element) _ own.0;
-      no_delay = map_None (λ (edge : Edge). edge.element) _ f.0;
-      no_gap = map_None (λ (edge : Edge). edge.element) _ g.0;
+      no_guard = unmapped (λ (edge : Edge). edge.element) _ own.0;
+      no_delay = unmapped (λ (edge : Edge). edge.element) _ f.0;
+      no_gap = unmapped (λ (edge : Edge). edge.element) _ g.0;
       few_bridges = few.0;
       few_stations = few.1;
       few_links = few.2;
       few_access = few.3;
-      no_sync = map_None (λ (edge : Edge). edge.element) _ sync.0;
+      no_sync = unmapped (λ (edge : Edge). edge.element) _ sync.0;
     }
   where
     counted : (bridges stations links access b s l a : ℕ) → (nat_lt bridges b || (nat_lt stations s || (nat_lt links l || nat_lt access a))) ≡ false →

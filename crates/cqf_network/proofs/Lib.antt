@@ -14,4 +14,3 @@ pub mod WayLemmas
 pub mod PartLemmas
 pub mod ShortLemmas
 pub mod ListenerLemmas
-pub mod StreamParts

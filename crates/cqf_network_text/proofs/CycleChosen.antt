@@ -24,8 +24,7 @@ use Rattle.cqf_network.specs.Faults.{or_network, network_fault}
 use Rattle.cqf_network.specs.NetworkText.{NetworkText, candidates_of, candidates_read, links_of_array, links_read, one_from, draft_from, network_keys, draft_of_text}
 use Rattle.cqf_network.specs.NetworkText.{network_with_cycles}
 use Rattle.cqf_network.specs.NetworkDomain.{IsOpenCycle, NetworkDomain, checked, is_guard_too_long, is_too_many, link_of, longest_guard, longest_of, name_taken}
-use Rattle.cqf_network.specs.NetworkDomain.{network_of_text, bridge_edges, open_network_of_text, network_with, with_edges, with_names}
-use Rattle.cqf_network.proofs.StreamParts.{map_both-Ok, or_None}
+use Rattle.cqf_network.specs.NetworkDomain.{network_of_text, plan_of, open_network_of_text, network_with, with_edges, with_names}
 use Rattle.cqf_network_text.specs.declared.filling.FilledStream.{FilledStream}
 use Rattle.cqf_network_text.specs.DomainMembers.{put}
 use Rattle.cqf_network_text.specs.Networks.{filled_network, filled_streams, streams_of, table_of}
@@ -33,7 +32,7 @@ use Rattle.cqf_network_text.specs.NetworkLaws.{with_cycle}
 use Rattle.cqf_network_text.proofs.DomainChecks.{unreached}
 use Rattle.cqf_network_text.proofs.DomainReading.{number_reads}
 use Rattle.cqf_network_text.proofs.Puts.{put_apart, put_here}
-use Rattle.cqf_network_text.proofs.TablesRead.{number_if_same, one_table, read_same, table_is, whole_is, whole_parts}
+use Rattle.cqf_network_text.proofs.TablesRead.{map_both-Ok, number_if_same, one_table, or_None, read_same, table_is, whole_is, whole_parts}
 
 -- what a text says, with another cycle time
 abbrev text_with : ℕ → NetworkText → NetworkText
@@ -62,7 +61,7 @@ own_within None guard others few = omega arith
 own_within (Some n) guard others few = omega arith
 
 -- no guard band reaches a cycle time above the longest one
-short_guards : (cycle guard others : ℕ) (edges : List Edge) → guard ≤ others → longest_of others (map link_of (bridge_edges edges)) < cycle →
+short_guards : (cycle guard others : ℕ) (edges : List Edge) → guard ≤ others → longest_of others (map link_of (plan_of edges)) < cycle →
     find (has_long_guard (cycle ∷ []) guard) edges ≡ None
 short_guards cycle guard others [] few above = refl
 short_guards cycle guard others (edge ∷ edges) few above =
@@ -73,8 +72,8 @@ short_guards cycle guard others (edge ∷ edges) few above =
         find (has_long_guard (cycle ∷ []) guard) (edge ∷ edges) ≡ None
     rest b is short none = ap (λ c. cond c (Some edge) (find (has_long_guard (cycle ∷ []) guard) edges)) (is ∙ short) ∙ none
 
-    by : ((more : ℕ) → guard ≤ more → longest_of more (map link_of (bridge_edges edges)) < cycle → find (has_long_guard (cycle ∷ []) guard) edges ≡ None) →
-        (b : Bool) → is_talkers edge ≡ b → longest_of others (map link_of (cond (not b) (edge ∷ bridge_edges edges) (bridge_edges edges))) < cycle →
+    by : ((more : ℕ) → guard ≤ more → longest_of more (map link_of (plan_of edges)) < cycle → find (has_long_guard (cycle ∷ []) guard) edges ≡ None) →
+        (b : Bool) → is_talkers edge ≡ b → longest_of others (map link_of (cond (not b) (edge ∷ plan_of edges) (plan_of edges))) < cycle →
         find (has_long_guard (cycle ∷ []) guard) (edge ∷ edges) ≡ None
     by those true is above =
         rest (not true && reaches_each (cycle ∷ []) (guard_within guard edge.times)) (ap (λ b. not b && reaches_each (cycle ∷ []) (guard_within guard edge.times)) is) refl
@@ -83,8 +82,8 @@ short_guards cycle guard others (edge ∷ edges) few above =
         let own : ℕ = guard_within guard edge.times in
         let both : ℕ = max others (unwrap_or edge.times.guard others) in
         let within : own ≤ both = own_within edge.times.guard guard others few in
-        let more : both ≤ longest_of both (map link_of (bridge_edges edges)) = longest_others both (map link_of (bridge_edges edges)) in
-        let all : longest_of both (map link_of (bridge_edges edges)) < cycle = above in
+        let more : both ≤ longest_of both (map link_of (plan_of edges)) = longest_others both (map link_of (plan_of edges)) in
+        let all : longest_of both (map link_of (plan_of edges)) < cycle = above in
         let short : nat_le cycle own ≡ false = unreached cycle own (omega (arith, within, more, all)) in
         let few_both : guard ≤ both = omega (arith, few) in
         rest (not false && reaches_each (cycle ∷ []) own) (ap (λ b. not b && reaches_each (cycle ∷ []) own) is) (λ i. short i && true)
@@ -104,8 +103,8 @@ module _ (text : NetworkText) (cycle : ℕ) where
       let (syncs, h7) = refuse-Ok (first_long_sync text.sync edges) (λ element. fault.Domain (domain.SyncTooLong element)) _ network h6 in
       let (misplaced, same) = refuse-Ok (first_misplaced edges) fault.NoAccessLink _ network h7 in
       let is : network_with text edges ≡ network = cc in
-      let long : longest_of text.guard (map link_of (bridge_edges edges)) < cycle = subst (λ (d : NetworkDomain). longest_guard d < cycle) (sym is) above in
-      let most : text.guard ≤ longest_of text.guard (map link_of (bridge_edges edges)) = longest_others text.guard (map link_of (bridge_edges edges)) in
+      let long : longest_of text.guard (map link_of (plan_of edges)) < cycle = subst (λ (d : NetworkDomain). longest_guard d < cycle) (sym is) above in
+      let most : text.guard ≤ longest_of text.guard (map link_of (plan_of edges)) = longest_others text.guard (map link_of (plan_of edges)) in
       let short : nat_le cycle text.guard ≡ false = unreached cycle text.guard (omega (arith, long, most)) in
       let shorts : find (has_long_guard (cycle ∷ []) text.guard) edges ≡ None = short_guards cycle text.guard text.guard edges (omega arith) long in
       (λ i. refuse (twice i) (λ element. fault.Domain (domain.LinkTwice element)) (

@@ -21,7 +21,6 @@ use Rattle.cqf_traffic.specs.PacedFlows.{paced_flow_from, paced_flows_from, pace
 use Rattle.cqf_network.specs.NetworkFlows.{network_flow_from, network_flows_from, network_flows_in, network_flows_of_array, network_flows_of_text}
 use Rattle.cqf_network.specs.StreamsText.{StreamText, first_lack, first_lack_of, first_lack_within, network_streams_of_text, stream_from, streams_from, streams_in}
 use Rattle.cqf_network.specs.StreamsText.{streams_of_array}
-use Rattle.cqf_network.proofs.StreamParts.{map_both-Ok, or_None}
 use Rattle.cqf_network_text.specs.declared.filling.FilledStream.{FilledStream}
 use Rattle.cqf_network_text.specs.DomainMembers.{put}
 use Rattle.cqf_network_text.specs.Networks.{array_or_none, filled_item, filled_network, filled_stream, filled_streams, streams_of, table_of}
@@ -31,7 +30,7 @@ use Rattle.cqf_network_text.proofs.CycleChosen.{network_reads_back, open_network
 use Rattle.cqf_network_text.proofs.Puts.{put_here}
 use Rattle.cqf_network_text.proofs.StreamChosen.{flow_is_chosen, flow_lacks_none, keys_lack_none, network_flow_is_chosen, paced_flow_is_chosen, paced_is_chosen, planned_is_chosen}
 use Rattle.cqf_network_text.proofs.StreamChosen.{request_is_chosen, stream_is_chosen, stream_lacks_none}
-use Rattle.cqf_network_text.proofs.TablesRead.{one_table, table_is, whole_is, whole_parts}
+use Rattle.cqf_network_text.proofs.TablesRead.{map_both-Ok, one_table, or_None, table_is, whole_is, whole_parts}
 
 -- the fault of an array whose elements aren't all tables
 abbrev no_table : FlowsFault

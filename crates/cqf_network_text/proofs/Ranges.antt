@@ -19,7 +19,7 @@ use Rattle.cqf_traffic.specs.FlowsText.{FlowText, first_lack_of, flow_from, flow
 use Rattle.cqf_traffic.specs.Keys.{default_of, least_of, most_of}
 use Rattle.cqf_traffic.specs.TrafficText.{IsInRange, IsTrafficText, TrafficText, has_traffic, number_at, number_by, numbers_from, traffic_from}
 use Rattle.cqf_traffic.specs.TrafficText.{value_at as traffic_at}
-use Rattle.cqf_network.proofs.StreamParts.{map_both-Ok}
+use Rattle.cqf_network_text.proofs.TablesRead.{map_both-Ok}
 use Rattle.cqf_network_text.specs.Plans.{IsTellable, IsTellableNumber, IsTellableTraffic, ReadStreamsAreTellable}
 
 -- a number that is read is in its range

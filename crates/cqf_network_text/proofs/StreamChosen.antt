@@ -32,7 +32,6 @@ use Rattle.cqf_network.specs.NetworkFlows.{NetworkFlowText, network_flow_from}
 use Rattle.cqf_network.specs.StreamsText.{StreamText, WantedText, Along, Between, branches_if, first_lack, has_path, in_step_at, in_step_by, listeners_if}
 use Rattle.cqf_network.specs.StreamsText.{listeners_read, octets_by, octets_from, owed_keys, pacing_from, shortest_by, shortest_read, stream_from}
 use Rattle.cqf_network.specs.StreamsText.{talker_from, talker_if, talker_read, way_by}
-use Rattle.cqf_network.proofs.StreamParts.{HasRead, has_read, map_None, map_both-Ok, or_None}
 use Rattle.cqf_network_text.specs.declared.filling.FilledStream.{FilledStream}
 use Rattle.cqf_network_text.specs.DomainMembers.{put, texts_data}
 use Rattle.cqf_network_text.specs.StreamMembers.{branches_data, put_branches}
@@ -43,7 +42,7 @@ use Rattle.cqf_network_text.proofs.DomainReading.{number_reads}
 use Rattle.cqf_network_text.proofs.Puts.{put_apart, put_here}
 use Rattle.cqf_network_text.proofs.StreamReading.{branches_by_read}
 use Rattle.cqf_network_text.proofs.StreamValues.{path_data, paths_data}
-use Rattle.cqf_network_text.proofs.TablesRead.{number_if_same, number_or_same, read_same}
+use Rattle.cqf_network_text.proofs.TablesRead.{map_both-Ok, number_if_same, number_or_same, or_None, read_same}
 
 -- ---- the values at its keys
 
@@ -564,6 +563,68 @@ module _ (one : FilledStream) (before : Members) where
       traffic_kept Jitter = branches_kept (traffic_key_text Jitter) (record { path = refl; paths = refl }) ∙ reserved_apart (traffic_key_text Jitter) refl
       traffic_kept Offset = branches_kept (traffic_key_text Offset) (record { path = refl; paths = refl }) ∙ reserved_apart (traffic_key_text Offset) refl
 
+-- what was read of a stream's table
+record HasRead (before : Members) (s : StreamText) : Type 0 where
+  given : Option (List (List (List ℕ)))
+  name : read_at key.Name as_str before ≡ Ok s.name
+  pacing : pacing_from before ≡ Ok s.pacing
+  branches : branches_if before ≡ Ok given
+  talker : talker_read before ≡ Ok s.talker
+  listeners : listeners_read before ≡ Ok s.listeners
+  way : way_by given s.talker s.listeners ≡ Ok s.way
+  deadline : deadline_from before ≡ Ok s.deadline
+  traffic : traffic_from before ≡ Ok s.traffic
+  shortest : shortest_read s.traffic before ≡ Ok s.shortest
+
+-- what is read is one
+abbrev read_as : StreamText → Result StreamText FlowsFault
+read_as s = Ok s
+
+abbrev ok_value : StreamText → Result StreamText FlowsFault → StreamText
+ok_value default (Ok x) = x
+ok_value default (Err e) = default
+
+one_ok : (a b : StreamText) → read_as a ≡ read_as b → a ≡ b
+one_ok a b same = ap (ok_value a) same
+
+has_read : (before : Members) (s : StreamText) → stream_from before ≡ Ok s → HasRead before s
+has_read before s h =
+    let (name, at_name, h1) = and_then-Ok (or_streams (read_at key.Name as_str before)) _ s h in
+    let (octets, at_octets, h2) = and_then-Ok (or_streams (octets_from before)) _ s h1 in
+    let (pacing, at_pacing, h3) = and_then-Ok (pacing_from before) _ s h2 in
+    let (paths, at_paths, h4) = and_then-Ok (or_streams (branches_if before)) _ s h3 in
+    let (talker, at_talker, h5) = and_then-Ok (or_streams (talker_read before)) _ s h4 in
+    let (listeners, at_listeners, h6) = and_then-Ok (or_streams (listeners_read before)) _ s h5 in
+    let (way, at_way, h7) = and_then-Ok (or_streams (way_by paths talker listeners)) _ s h6 in
+    let (deadline, at_deadline, h8) = and_then-Ok (or_streams (deadline_from before)) _ s h7 in
+    let (traffic, at_traffic, h9) = and_then-Ok (traffic_or before) _ s h8 in
+    let (shortest, at_shortest, h10) = and_then-Ok (shortest_read traffic before) _ s h9 in
+    let found : StreamText = record {
+      name = name;
+      octets = octets;
+      pacing = pacing;
+      way = way;
+      talker = talker;
+      listeners = listeners;
+      deadline = deadline;
+      traffic = traffic;
+      shortest = shortest;
+    } in
+    let same : found ≡ s = one_ok found s h10 in
+    let was : HasRead before found = record {
+      given = paths;
+      name = map_both-Ok flows_fault.Streams (read_at key.Name as_str before) name at_name;
+      pacing = at_pacing;
+      branches = map_both-Ok flows_fault.Streams (branches_if before) paths at_paths;
+      talker = map_both-Ok flows_fault.Streams (talker_read before) talker at_talker;
+      listeners = map_both-Ok flows_fault.Streams (listeners_read before) listeners at_listeners;
+      way = map_both-Ok flows_fault.Streams (way_by paths talker listeners) way at_way;
+      deadline = map_both-Ok flows_fault.Streams (deadline_from before) deadline at_deadline;
+      traffic = map_both-Ok flows_fault.BadValue (traffic_from before) traffic at_traffic;
+      shortest = at_shortest;
+    } in
+    subst (HasRead before) same was
+
 -- tables with the same talker are read alike
 talker_same : (a b : Members) → value_at key.From a ≡ value_at key.From b → talker_read a ≡ talker_read b
 talker_same a b same = ap (λ o. talker_if o a) same ∙ by (value_at key.From b)
@@ -580,6 +641,10 @@ longest_same (Some offset) None = refl
 longest_same (Some offset) (Some t) = refl
 
 -- what no table lacks
+map_None : {A B : Type 0} (f : A → B) (o : Option A) → option_map f o ≡ None → o ≡ None
+map_None f None h = refl
+map_None f (Some x) h = absurd cc
+
 first_there : (b : Bool) (rest : Option Key) → cond b (Some key.Name) rest ≡ None → b ≡ false
 first_there true rest h = absurd cc
 first_there false rest h = refl

@@ -33,6 +33,11 @@ table_is text members is = by (is_utf8 text) is
     by true is = parsed (parse_document text) is
     by false is = absurd cc
 
+-- a step whose fault was converted went well
+pub map_both-Ok : {A E F : Type 0} (f : E → F) (r : Result A E) (x : A) → result_map_both (λ y. y) f r ≡ Ok x → r ≡ Ok x
+map_both-Ok f (Ok y) x h = cc
+map_both-Ok f (Err e) x h = absurd cc
+
 -- the table of a text that lacks no key
 pub record IsWhole (keys : List Key) (elements : Key) (within : List Key) (text : List ℕ) (members : Members) : Type 0 where
   pub document : document_of text ≡ Ok members
@@ -60,6 +65,11 @@ whole_is keys elements within text members is none =
 -- two documents of one text are one
 pub one_table : (text : List ℕ) (a b : Members) → document_of text ≡ Ok a → table_of text ≡ Some b → a ≡ b
 one_table text a b at is = one_ok (document_of text) a b at (document_is text b is)
+
+-- both options are empty
+pub or_None : {A : Type 0} (a b : Option A) → option_or a b ≡ None → (a ≡ None) × (b ≡ None)
+or_None None b h = (refl, h)
+or_None (Some x) b h = absurd cc
 
 -- two tables with the same value at a key are read alike there
 pub read_same : {A : Type 0} (key : Key) (reader : Data → Option A) (a b : Members) → value_at key a ≡ value_at key b → read_at key reader a ≡ read_at key reader b

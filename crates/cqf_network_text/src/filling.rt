@@ -124,7 +124,7 @@ fn value_at<'t>(table: &'t Table, key: &str) -> Option<&'t Value>
 }
 
 /// The elements of the array at a key of a table; none if there is no array.
-pub fn elements_at<'t>(table: &'t Table, key: &str) -> &'t [Value]
+pub(crate) fn elements_at<'t>(table: &'t Table, key: &str) -> &'t [Value]
     ensures { items_view result.now ≡ array_at key.now (table_view table.now) }
 {
     match value_at(table, key) {

@@ -182,7 +182,7 @@ fn is_read_as(alloc: Global, text: &str, table: &Table) -> Result<bool, Memory>
 ///
 /// # Errors
 /// If memory is refused, or for a date that no text can have.
-pub fn text_of_network(alloc: Global, table: &Table) -> Result<String, Memory>
+pub(crate) fn text_of_network(alloc: Global, table: &Table) -> Result<String, Memory>
     ensures { IfOk result (λ text. IsReadAs (table_view table.now) (string_bytes text)) }
 {
     let text = in_order(alloc, table)?;

@@ -10,7 +10,12 @@ use std::alloc::Global;
 use toml::{Table, Value};
 
 /// Puts a value into a table. An earlier value at the key is replaced. Returns `Memory` if an allocation fails.
-pub fn put_value(alloc: Global, table: &mut Table, key: &str, value: Value) -> Result<(), Memory>
+pub(crate) fn put_value(
+    alloc: Global,
+    table: &mut Table,
+    key: &str,
+    value: Value,
+) -> Result<(), Memory>
     ensures { OnOk result (table_view table.new ≡ put key.now (view value) (table_view table.old)) }
 {
     let name = String::from_str(alloc, key)?;
@@ -47,7 +52,12 @@ pub(crate) fn put_some(
 }
 
 /// Puts a text into a table. Returns `Memory` if an allocation fails.
-pub fn put_text(alloc: Global, table: &mut Table, key: &str, text: &str) -> Result<(), Memory>
+pub(crate) fn put_text(
+    alloc: Global,
+    table: &mut Table,
+    key: &str,
+    text: &str,
+) -> Result<(), Memory>
     ensures { OnOk result (table_view table.new ≡ put key.now (string text.now) (table_view table.old)) }
 {
     let value = Value::string(alloc, text)?;

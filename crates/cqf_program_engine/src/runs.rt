@@ -28,6 +28,7 @@ use crate::prepared::PreparedOutput;
 use crate::sources::Source;
 use cqf_model::Limits;
 use cqf_output::{DONE, FAULT, NO_MEMORY, Sink, Stop, Told, USAGE, told_text, write_out};
+use cqf_program_diff::diff_output;
 use cqf_program_json::json_output;
 use cqf_program_offers::offers_output;
 use cqf_program_planning::plan_output;
@@ -67,8 +68,8 @@ fn prepare_compiled(
     format: &Format,
     input: &[u8],
 ) -> Result<PreparedOutput, Stop>
-    ensures ok { IfOk result (HasText (IsOutput limits (Job.Compile format.now) input.now)) }
-    ensures err { IfErr result (IsRefusal limits (Job.Compile format.now) input.now) }
+    ensures ok { (edge_gates : Bool) → IfOk result (HasText (IsOutput limits (Job.Compile format.now edge_gates) input.now)) }
+    ensures err { (edge_gates : Bool) → IfErr result (IsRefusal limits (Job.Compile format.now edge_gates) input.now) }
 {
     match *format {
         Format::List => Ok(PreparedOutput::Config(compile_output(alloc, limits, input)?)),
@@ -165,8 +166,8 @@ fn prepare(
             alloc, until, rate, input,
         )?)),
         Job::Line { cycles } => Ok(PreparedOutput::Line(line_output(alloc, cycles, input)?)),
-        Job::Compile { ref format } => prepare_compiled(alloc, limits, format, input),
-        Job::Load => Ok(PreparedOutput::Load(load_output(alloc, limits, input)?)),
+        Job::Compile { ref format, .. } => prepare_compiled(alloc, limits, format, input),
+        Job::Load { .. } => Ok(PreparedOutput::Load(load_output(alloc, limits, input)?)),
         Job::Latency { strict } => Ok(PreparedOutput::Latency(latency_output(
             alloc, limits, strict, input,
         )?)),
@@ -195,9 +196,16 @@ fn prepare(
             ref stream,
             frame,
         } => prepare_hops(alloc, limits, cycles, stream, frame, input),
-        Job::Plan { table, given } => Ok(PreparedOutput::Text(planned(
-            alloc, limits, table, given, input,
+        Job::Plan { ref options } => Ok(PreparedOutput::Text(planned(
+            alloc,
+            limits,
+            options.table,
+            options.given,
+            input,
         )?)),
+        Job::Diff { quiet } => {
+            Ok(PreparedOutput::Text(diff_output(alloc, limits, quiet, input)?))
+        }
     }
 }
 

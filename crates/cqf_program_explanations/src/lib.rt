@@ -28,6 +28,7 @@ mod network;
 mod network_faults;
 mod noting;
 mod outline;
+mod pairs;
 mod part_faults;
 mod parts;
 mod places;

@@ -25,7 +25,6 @@ use Rattle.cqf_network.specs.NetworkDomain.{HasTalkerLinks, NetworkDomain, domai
 use Rattle.cqf_traffic.specs.TrafficText.{IsTrafficText, TrafficText, promise_of}
 use Rattle.cqf_network.specs.StreamsText.{StreamText, WantedText, Along as AlongText, Between as BetweenText}
 use Rattle.cqf_admission.specs.Branches.{tree_refusal}
-use Rattle.cqf_network.proofs.StreamParts.{and_first-Ok}
 use Rattle.cqf_program_placing.specs.declared.faults.PlanFault.TheVariants as fault
 use Rattle.cqf_program_placing.specs.Placing.{if_enough, reserved_by, reserved_on}
 use Rattle.cqf_program_placing.specs.Room.{AreListeners, IsReadStream}
@@ -33,7 +32,7 @@ use Rattle.cqf_program_placing.specs.Settled.{Along, Between, SettledStream, Set
 use Rattle.cqf_program_placing.specs.Settled.{station_by_name, stations_by_name}
 use Rattle.cqf_program_placing.proofs.FirstBranches.{AreBranches, AreFew}
 use Rattle.cqf_program_placing.proofs.PlaceLemmas.{needed_least, reserved_there}
-use Rattle.cqf_program_placing.proofs.SettledLemmas.{entrance_there, settled_by, station_named_by}
+use Rattle.cqf_program_placing.proofs.SettledLemmas.{and_first-Ok, entrance_there, settled_by, station_named_by}
 
 -- from a bridge of the domain to some stations, all different
 pub record IsToStations (d : Domain) (bridge : ℕ) (stations : List ℕ) : Type 0 where

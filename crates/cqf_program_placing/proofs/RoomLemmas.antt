@@ -34,7 +34,6 @@ use Rattle.cqf_topology.specs.NodeNames.{name_of_bridge}
 use Rattle.cqf_network.specs.WayLaws.{FirstWayIsOne, FirstWaysHaveNoLoop, FirstWaysPartForGood}
 use Rattle.cqf_network.specs.Ways.{has_room}
 use Rattle.cqf_program_plans.specs.EndNames.{name_of_end}
-use Rattle.cqf_network.proofs.StreamParts.{and_first-Ok}
 use Rattle.cqf_program_placing.specs.declared.faults.PlanFault.{PlanFault}
 use Rattle.cqf_program_placing.specs.declared.faults.PlanFault.TheVariants as fault
 use Rattle.cqf_program_placing.specs.declared.turns.Turns.{Turns}
@@ -52,7 +51,7 @@ use Rattle.cqf_program_placing.proofs.Loads.{some_as_full}
 use Rattle.cqf_program_placing.proofs.Emptiest.{left_of_hop}
 use Rattle.cqf_program_placing.proofs.PlaceLemmas.{reserved_few, reserved_there}
 use Rattle.cqf_program_placing.proofs.ReadyStreams.{IsGoodWay, IsReady, IsToStations, next_ready, reserved_least}
-use Rattle.cqf_program_placing.proofs.SettledLemmas.{next_stands}
+use Rattle.cqf_program_placing.proofs.SettledLemmas.{and_first-Ok, next_stands}
 use Rattle.cqf_program_placing.proofs.Stepping.{is_good_pace, pace_is_good, turns_good}
 
 -- ---- what admission answers

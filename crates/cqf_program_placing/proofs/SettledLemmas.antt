@@ -26,7 +26,6 @@ use Rattle.cqf_network.specs.declared.domain.TalkerLink.{TalkerLink}
 use Rattle.cqf_network.specs.NetworkDomain.{HasTalkerLinks, IsTalkerLink, NetworkDomain}
 use Rattle.cqf_network.specs.StreamsText.{StreamText, WantedText, Along as AlongText, Between as BetweenText}
 use Rattle.cqf_admission.specs.Branches.{tree_refusal}
-use Rattle.cqf_network.proofs.StreamParts.{and_first-Ok}
 use Rattle.cqf_program_placing.specs.declared.entrances.Entrance.{Entrance}
 use Rattle.cqf_program_placing.specs.declared.faults.PlanFault.{PlanFault}
 use Rattle.cqf_program_placing.specs.declared.faults.PlanFault.TheVariants as fault
@@ -42,6 +41,19 @@ use Rattle.cqf_program_placing.specs.Settled.{station_by_name, stations_by_name,
 or_unsettled-Ok : {A : Type 0} (name : List ℕ) (r : Result A PlanFault) (x : A) → or_unsettled name r ≡ Ok x → r ≡ Ok x
 or_unsettled-Ok name (Ok y) x e = cc
 or_unsettled-Ok name (Err fault) x e = absurd cc
+
+-- the first was right, and so were the others
+pub record AreBoth {A E : Type 0} (first : Result A E) (others : Result (List A) E) (xs : List A) : Type 0 where
+  pub one : A
+  pub more : List A
+  pub first_is : first ≡ Ok one
+  pub others_are : others ≡ Ok more
+  pub all : xs ≡ one ∷ more
+
+pub and_first-Ok : {A E : Type 0} (first : Result A E) (others : Result (List A) E) (xs : List A) → and_first first others ≡ Ok xs → AreBoth first others xs
+and_first-Ok (Err e) others xs h = absurd cc
+and_first-Ok (Ok x) (Err e) xs h = absurd cc
+and_first-Ok {A} {E} (Ok x) (Ok ys) xs h = let e : xs ≡ x ∷ ys = cc in record { one = x; more = ys; first_is = refl; others_are = refl; all = e }
 
 -- a test that doesn't fail passes
 not_not : (b : Bool) → not b ≡ false → b ≡ true

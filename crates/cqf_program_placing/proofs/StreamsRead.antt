@@ -29,9 +29,27 @@ use Rattle.cqf_network.specs.declared.talkers.Talker.{Talker}
 use Rattle.cqf_network.specs.StreamsText.{Along, Between, StreamText, WantedText, branches_if, first_lack, first_lack_of, first_lack_within, has_path, if_listeners}
 use Rattle.cqf_network.specs.StreamsText.{listeners_by, listeners_if, listeners_read, octets_by, octets_from, owed_keys, pacing_from, shortest_read, network_streams_of_text}
 use Rattle.cqf_network.specs.StreamsText.{stream_from, streams_from, streams_in, streams_of_array, talker_read, way_by}
-use Rattle.cqf_network.proofs.StreamParts.{each_stream, has_read, map_None, or_None}
 use Rattle.cqf_program_placing.specs.Room.{AreListeners, IsReadStream}
-use Rattle.cqf_program_placing.proofs.SettledLemmas.{found_none}
+use Rattle.cqf_program_placing.proofs.SettledLemmas.{and_first-Ok, found_none}
+
+-- what was read, before its faults are converted
+or_streams-Ok : {A : Type 0} (r : Result A TomlFault) (x : A) → or_streams r ≡ Ok x → r ≡ Ok x
+or_streams-Ok (Ok y) x e = cc
+or_streams-Ok (Err fault) x e = absurd cc
+
+traffic-Ok : (r : Result (Option TrafficText) TrafficKey) (traffic : Option TrafficText) → result_map_both (λ t. t) flows_fault.BadValue r ≡ Ok traffic →
+    r ≡ Ok traffic
+traffic-Ok (Ok t) traffic e = cc
+traffic-Ok (Err key) traffic e = absurd cc
+
+-- of two answers neither is there
+neither : {A : Type 0} (first later : Option A) → option_or first later ≡ None → (first ≡ None) × (later ≡ None)
+neither None later e = (refl, e)
+neither (Some x) later e = absurd cc
+
+unmapped : {A B : Type 0} (f : A → B) (o : Option A) → option_map f o ≡ None → o ≡ None
+unmapped f None e = refl
+unmapped f (Some x) e = absurd cc
 
 none_is : {A : Type 0} (o : Option A) → is_none o ≡ true → o ≡ None
 none_is None e = refl
@@ -85,6 +103,10 @@ way_read None None listeners way apart e = absurd cc
 way_read None (Some talker) None way apart e = absurd cc
 way_read None (Some talker) (Some to) way apart e = let is : Between talker.node to ≡ way = cc in subst AreListeners is apart
 
+-- what was read is the stream
+stream_same : (x y : StreamText) → ◌≡◌ {A = Result StreamText FlowsFault} (Ok x) (Ok y) → x ≡ y
+stream_same x y e = cc
+
 module _ (table : Members) where
   -- ---- octets and traffic
 
@@ -115,8 +137,8 @@ module _ (table : Members) where
       ends = cond (has_path table) [] (From ∷ To ∷ [])
 
       absent : find (λ key. lacks key table) (Name ∷ (cond (has_traffic table) [] (Octets ∷ []) ++ ends)) ≡ None
-      absent = map_None (λ key. flows_fault.Streams (toml_fault.Missing key)) (first_absent (owed_keys table) table)
-          (or_None (option_map (λ key. flows_fault.Streams (toml_fault.Missing key)) (first_absent (owed_keys table) table))
+      absent = unmapped (λ key. flows_fault.Streams (toml_fault.Missing key)) (first_absent (owed_keys table) table)
+          (neither (option_map (λ key. flows_fault.Streams (toml_fault.Missing key)) (first_absent (owed_keys table) table))
           (option_map flows_fault.Missing (first_owed table)) lack).0
 
       by : (b : Bool) → has_traffic table ≡ b → cond b (and_then (numbers_from table) (λ t. Ok (Some t))) (Ok None) ≡ Ok traffic →
@@ -129,14 +151,63 @@ module _ (table : Members) where
   -- a stream that is read
   stream_read : (stream : StreamText) → first_lack table ≡ None → stream_from table ≡ Ok stream → IsReadStream stream
   stream_read stream lack e =
-      let was = has_read table stream e in
-      let apart = any_read (value_at To table) stream.listeners was.listeners in
-      record {
-        reserves = some_reserved stream.octets stream.traffic lack was.octets was.traffic;
-        traffic = traffic_in_range table stream.traffic was.traffic;
-        listeners = way_read was.given stream.talker stream.listeners stream.way apart was.way;
-      }
+      let (name, at_name, h1) = and_then-Ok (or_streams (read_at Name as_str table)) _ stream e in
+      let (octets, at_octets, h2) = and_then-Ok (or_streams (octets_from table)) _ stream h1 in
+      let (pacing, at_pacing, h3) = and_then-Ok (pacing_from table) _ stream h2 in
+      let (paths, at_paths, h4) = and_then-Ok (or_streams (branches_if table)) _ stream h3 in
+      let (talker, at_talker, h5) = and_then-Ok (or_streams (talker_read table)) _ stream h4 in
+      let (listeners, at_listeners, h6) = and_then-Ok (or_streams (listeners_read table)) _ stream h5 in
+      let (way, at_way, h7) = and_then-Ok (or_streams (way_by paths talker listeners)) _ stream h6 in
+      let (deadline, at_deadline, h8) = and_then-Ok (or_streams (deadline_from table)) _ stream h7 in
+      let (traffic, at_traffic, h9) = and_then-Ok (traffic_or table) _ stream h8 in
+      let (shortest, at_shortest, h10) = and_then-Ok (shortest_read traffic table) _ stream h9 in
+      let made : StreamText = record {
+        name = name;
+        octets = octets;
+        pacing = pacing;
+        way = way;
+        talker = talker;
+        listeners = listeners;
+        deadline = deadline;
+        traffic = traffic;
+        shortest = shortest;
+      } in
+      let read : traffic_from table ≡ Ok traffic = traffic-Ok (traffic_from table) traffic at_traffic in
+      let apart = any_read (value_at To table) listeners (or_streams-Ok (listeners_read table) listeners at_listeners) in
+      subst IsReadStream (stream_same made stream h10) (record {
+        reserves = some_reserved octets traffic lack (or_streams-Ok (octets_from table) octets at_octets) read;
+        traffic = traffic_in_range table traffic read;
+        listeners = way_read paths talker listeners way apart (or_streams-Ok (way_by paths talker listeners) way at_way);
+      })
+
+-- ---- all of them
+
+abbrev no_table : FlowsFault
+no_table = flows_fault.Streams (toml_fault.BadValue Streams)
+
+abbrev reader : Data → Result StreamText FlowsFault
+reader d = and_then (ok_or (as_table d) no_table) stream_from
+
+elements_read : (items : Items) (texts : List StreamText) → first_lack_within items ≡ None → each_from reader items ≡ Ok texts → All IsReadStream texts
+elements_read no_items texts lack e = let nil : [] ≡ texts = cc in subst (All IsReadStream) nil (All-nil IsReadStream)
+elements_read (item d ds) texts lack e =
+    let both = and_first-Ok (reader d) (each_from reader ds) texts e in
+    let none = neither (option_and_then first_lack (as_table d)) (first_lack_within ds) lack in
+    let (table, at, read) = and_then-Ok (ok_or (as_table d) no_table) stream_from both.one both.first_is in
+    let whole : first_lack table ≡ None = sym (ap (option_and_then first_lack) (ok_or-Ok (as_table d) no_table table at)) ∙ none.0 in
+    subst (All IsReadStream) (sym both.all)
+    (All-cons IsReadStream both.one both.more (stream_read table both.one whole read) (elements_read ds both.more none.1 both.others_are))
 
 -- the streams of a text
 pub streams_read : (text : List ℕ) (texts : List StreamText) → network_streams_of_text text ≡ Ok texts → All IsReadStream texts
-streams_read text = each_stream IsReadStream (λ table stream lack read. stream_read table stream lack read) text
+streams_read text texts e =
+    let (table, whole, read) = and_then-Ok (or_streams (whole_document streams_keys Streams [] text)) _ texts e in
+    let (lack, all) = refuse-Ok (first_lack_of table) (λ (fault : FlowsFault). fault) (streams_in table) texts read in
+    let (items, at, array) = and_then-Ok (or_streams (read_at Streams as_array table)) streams_of_array texts all in
+    let stand : option_and_then as_array (value_at Streams table) ≡ Some items =
+    ok_or-Ok (option_and_then as_array (value_at Streams table)) (toml_fault.BadValue Streams) items (or_streams-Ok (read_at Streams as_array table) items at) in
+    by items (are_tables items) (sym (ap (option_and_then first_lack_within) stand) ∙ lack) array
+  where
+    by : (items : Items) (b : Bool) → first_lack_within items ≡ None → cond b (streams_from items) (Err no_table) ≡ Ok texts → All IsReadStream texts
+    by items true lack each = elements_read items texts lack each
+    by items false lack each = absurd cc

@@ -21,9 +21,9 @@ use Rattle.cqf_output.specs.Stops.{or_line}
 use Rattle.cqf_program_scenario.specs.Parts.{two_parts}
 use Rattle.cqf_program_plans.specs.Edges.{full_line}
 use Rattle.cqf_program_plans.specs.Reserving.{flows_line}
-use Rattle.cqf_network.proofs.StreamParts.{and_first-Ok}
 use Rattle.cqf_program_placing.specs.declared.settled.Unsettled.{Unsettled}
 use Rattle.cqf_program_placing.specs.Settled.{SettledStream, open_domain, settled_behind, settled_next, settled_of}
+use Rattle.cqf_program_placing.proofs.SettledLemmas.{and_first-Ok}
 use Rattle.cqf_program_planning.specs.PlanOutput.{PlanSource, settled_edges, planning_input, network_line, unentered_line, unsettled_line}
 use Rattle.cqf_program_planning.specs.Writing.{IsWritable}
 

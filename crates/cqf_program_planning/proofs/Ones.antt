@@ -15,10 +15,9 @@ use Rattle.cqf_edge.specs.Edge.{times_on}
 use Rattle.cqf_edge.specs.EdgeFlows.{passage_of}
 use Rattle.cqf_edge.specs.EdgeStreams.{entrance_of_stream, entrances_of, handed_at, handed_at_each, stream_behind, streams_behind}
 use Rattle.cqf_network_text.specs.declared.filling.FilledStream.{FilledStream}
-use Rattle.cqf_network.proofs.StreamParts.{and_first-Ok}
 use Rattle.cqf_program_placing.specs.Placing.{ArePlacedFrom, PlacedOr, Placed, Unplaced, reserved_on}
 use Rattle.cqf_program_placing.specs.Settled.{SettledStream, settled_behind, settled_next}
-use Rattle.cqf_program_placing.proofs.SettledLemmas.{IsSettledBy, settled_by}
+use Rattle.cqf_program_placing.proofs.SettledLemmas.{IsSettledBy, and_first-Ok, settled_by}
 use Rattle.cqf_program_planning.specs.Judging.{first_unplaced, flow_of, flows_placed}
 use Rattle.cqf_program_planning.specs.PlanLaws.{IsTakenOver}
 use Rattle.cqf_program_planning.specs.PlanOutput.{IsChoiceOf}

@@ -19,12 +19,11 @@ use Rattle.cqf_network.specs.Ways.{led_to}
 use Rattle.cqf_units.specs.Timing.{cost_of}
 use Rattle.cqf_edge.specs.Entrances.{begins_with, end_at, ends_with}
 use Rattle.cqf_program_plans.specs.EndNames.{name_of_end}
-use Rattle.cqf_network.proofs.StreamParts.{and_first-Ok}
 use Rattle.cqf_program_placing.specs.declared.faults.PlanFault.{PlanFault}
 use Rattle.cqf_program_placing.specs.Placing.{IsAnswered, IsPlacedBy, IsRouted, Placed, names_along, turns_on}
 use Rattle.cqf_program_placing.specs.Turns.{every_in}
 use Rattle.cqf_program_placing.specs.Settled.{Along, Between, SettledStream, SettledWay, station_by_name, stations_by_name}
-use Rattle.cqf_program_placing.proofs.SettledLemmas.{station_named_by}
+use Rattle.cqf_program_placing.proofs.SettledLemmas.{and_first-Ok, station_named_by}
 use Rattle.cqf_program_placing.proofs.WayNames.{end_name, first_step}
 use Rattle.cqf_program_planning.proofs.AllPlaced.{answered_placed, never_placed}
 

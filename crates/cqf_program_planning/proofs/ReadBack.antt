@@ -37,12 +37,11 @@ use Rattle.cqf_program_plans.specs.declared.latency.latencies.Latency.{Latency}
 use Rattle.cqf_program_plans.specs.Compile.Output.{admitted_from, with_asked}
 use Rattle.cqf_admission.specs.Asking.{asked_by}
 use Rattle.cqf_program_offers.specs.OffersOutput.{asked_in}
-use Rattle.cqf_network.proofs.StreamParts.{and_first-Ok}
 use Rattle.cqf_program_placing.specs.Placing.{is_chosen_on, turns_on}
 use Rattle.cqf_program_placing.specs.Turns.{IsGoodEvery}
 use Rattle.cqf_program_placing.proofs.Stepping.{every_is_good_in, turns_good}
 use Rattle.cqf_program_placing.specs.Settled.{SettledStream, open_domain, refusal_behind, settled_behind, settled_next}
-use Rattle.cqf_program_placing.proofs.SettledLemmas.{settled_by}
+use Rattle.cqf_program_placing.proofs.SettledLemmas.{and_first-Ok, settled_by}
 use Rattle.cqf_program_planning.specs.PlanLaws.{IsSoundPlan, ReservesEnough, deadlines_of}
 use Rattle.cqf_program_planning.specs.ReadPlans.{ComeAsPlaced, ComesAsPlaced, ComesIn, IsGoodPlan}
 use Rattle.cqf_program_planning.specs.Steps.{IsTurned}

@@ -15,18 +15,18 @@ use std::alloc::Global;
 
 /// What streams take of an access link, in octets of a cycle.
 #[derive(Drop)]
-pub(crate) struct AccessLoad {
+pub struct AccessLoad {
     /// The name of the station that it leaves.
-    pub(crate) from: Name,
+    pub from: Name,
     /// The name of the bridge in which it ends.
-    pub(crate) to: Name,
-    pub(crate) rate: Rate,
+    pub to: Name,
+    pub rate: Rate,
     /// The number of octets that it can send in a cycle.
-    pub(crate) budget: u64,
+    pub budget: u64,
     /// The number of octets that its streams take, with preambles and gaps.
-    pub(crate) held: u128,
+    pub held: u128,
     /// The number of these streams.
-    pub(crate) streams: u64,
+    pub streams: u64,
 }
 
 impl AccessLoad {
@@ -145,7 +145,7 @@ fn handed_at(all: &[Option<Handed>], place: usize) -> Option<&Handed>
 ///
 /// # Errors
 /// `Memory` if an allocation fails.
-pub(crate) fn access_loads(
+pub fn access_loads(
     alloc: Global,
     network: &NetworkDomain,
     cycle_time: Nanos,

@@ -18,7 +18,7 @@ use cqf_topology::{Domain, put_link};
 use cqf_units::Rate;
 
 /// Returns a rate in Mb/s.
-fn megabits_of(rate: Rate) -> u32
+pub fn megabits_of(rate: Rate) -> u32
     ensures { result ≡ megabits_of rate }
 {
     match rate {
