@@ -9,7 +9,7 @@ ghost use Rattle.cqf_program_words.specs.Shown.{ShowsLine, is_shown_whole};
 ghost use Rattle.cqf_program_words.specs.Words.{EndsWords, Mean};
 ghost use Rattle.cqf_program_summary.specs.Hops.Known.{wanted_scenario};
 ghost use Rattle.cqf_program_summary.specs.Hops.Output.{IsHopsOutput};
-ghost use Rattle.cqf_program_planning.specs.PlanOutput.{IsPlanOf, IsPlanRefusal};
+ghost use Rattle.cqf_program_without.specs.Output.{IsPlanWithout, IsRefusalWithout};
 ghost use Rattle.cqf_program_words.specs.Candidates.{times_of};
 ghost use Rattle.cqf_network.specs.NetworkDomain.{AreCandidates};
 ghost use Rattle.cqf_output.specs.Stops.{EndsWith, IsRefused};
@@ -18,7 +18,7 @@ ghost use Rattle.cqf_program_engine.specs.Run.{IsRunOf, IsThreadedRun, LeavesThr
 ghost use Rattle.cqf_program_engine.specs.Run.{version_line, IsAsking, IsVersionWord, IsWithin, IsOutput, input_of, words_of};
 ghost use Rattle.cqf_program_engine.specs.Run.{IsRefusal, IsBehindWords, Ends, EndsTold, HandsOver, HasCause, HasRun};
 ghost use Rattle.cqf_program_engine.specs.Run.{IsDone, IsStopped, TellsPlainly, TellsStop, is_space, is_threaded, first_line, wanted_of};
-ghost use Rattle.cqf_program_engine.specs.Run.{behind_first_line, most_bytes};
+ghost use Rattle.cqf_program_engine.specs.Run.{behind_first_line, most_bytes, search_of};
 ghost use Rattle.cqf_model.specs.Limits.{most_cycles};
 
 use crate::begun::{Begun, ThreadedRun};
@@ -28,16 +28,20 @@ use crate::prepared::PreparedOutput;
 use crate::sources::Source;
 use cqf_model::Limits;
 use cqf_output::{DONE, FAULT, NO_MEMORY, Sink, Stop, Told, USAGE, told_text, write_out};
+use cqf_program_diff::diff_output;
 use cqf_program_json::json_output;
 use cqf_program_offers::offers_output;
-use cqf_program_planning::plan_output;
-use cqf_program_plans::{compile_output, latency_output, load_output, port_output};
+use cqf_program_planning::Search;
+use cqf_program_plans::{
+    compile_output, latency_output, load_output, load_streams_output, port_output,
+};
 use cqf_program_runs::{check_output, deliveries_output, line_output, report_output, run_output};
 use cqf_program_summary::{FrameFilter, hops_output, summary_output};
 use cqf_program_tc::{env_output, tc_output};
 use cqf_program_threads::threads_output;
+use cqf_program_without::plan_without;
 use cqf_program_words::{
-    Candidates, Format, Job, limits_of, read_words, stop_of_line, stop_of_long_line,
+    Candidates, Format, Job, PlanOptions, limits_of, read_words, stop_of_line, stop_of_long_line,
 };
 use cqf_text::split_line;
 use cqf_units::{Memory, Name};
@@ -50,34 +54,56 @@ use std::thread::Threads;
 fn prepare_variables(
     alloc: Global,
     limits: Limits,
+    edge_gates: bool,
     bridge: &Name,
     input: &[u8],
 ) -> Result<PreparedOutput, Stop>
-    ensures ok { IfOk result (HasText (λ output. env_of_input limits bridge.now input.now ≡ Ok output)) }
-    ensures err { IfErr result (IsRefused (env_of_input limits bridge.now input.now)) }
+    ensures ok { IfOk result (HasText (λ output. env_of_input limits edge_gates bridge.now input.now ≡ Ok output)) }
+    ensures err { IfErr result (IsRefused (env_of_input limits edge_gates bridge.now input.now)) }
 {
-    Ok(PreparedOutput::Variables(env_output(alloc, limits, bridge.as_str(), input)?))
+    Ok(PreparedOutput::Variables(env_output(alloc, limits, edge_gates, bridge.as_str(), input)?))
 }
 
-/// Returns the output of `compile` in a format, for an input that is read within given limits, ready to be written.
+/// Returns the output of `compile` in a format, for an input that is read within given limits, ready to be written. With
+/// `edge_gates`, streams have gates at their edge bridges alone.
 /// Errors are those of [`prepare`].
 fn prepare_compiled(
     alloc: Global,
     limits: Limits,
     format: &Format,
+    edge_gates: bool,
     input: &[u8],
 ) -> Result<PreparedOutput, Stop>
-    ensures ok { IfOk result (HasText (IsOutput limits (Job.Compile format.now) input.now)) }
-    ensures err { IfErr result (IsRefusal limits (Job.Compile format.now) input.now) }
+    ensures ok { IfOk result (HasText (IsOutput limits (Job.Compile format.now edge_gates) input.now)) }
+    ensures err { IfErr result (IsRefusal limits (Job.Compile format.now edge_gates) input.now) }
 {
     match *format {
-        Format::List => Ok(PreparedOutput::Config(compile_output(alloc, limits, input)?)),
+        Format::List => Ok(PreparedOutput::Config(compile_output(
+            alloc, limits, edge_gates, input,
+        )?)),
         Format::Tc { is_software } => {
-            Ok(PreparedOutput::Script(tc_output(alloc, limits, is_software, input)?))
+            Ok(PreparedOutput::Script(tc_output(alloc, limits, is_software, edge_gates, input)?))
         }
-        Format::Env { ref bridge } => prepare_variables(alloc, limits, bridge, input),
-        Format::Json => Ok(PreparedOutput::Object(json_output(alloc, limits, input)?)),
+        Format::Env { ref bridge } => prepare_variables(alloc, limits, edge_gates, bridge, input),
+        Format::Json => Ok(PreparedOutput::Object(json_output(alloc, limits, edge_gates, input)?)),
     }
+}
+
+/// Returns the output of `load`, stream by stream if asked, for an input that is read within given limits, ready to be
+/// written. Errors are those of [`prepare`].
+fn prepare_load(
+    alloc: Global,
+    limits: Limits,
+    streams: bool,
+    input: &[u8],
+) -> Result<PreparedOutput, Stop>
+    ensures ok { IfOk result (HasText (IsOutput limits (Job.Load streams) input.now)) }
+    ensures err { IfErr result (IsRefusal limits (Job.Load streams) input.now) }
+{
+    if streams {
+        return Ok(PreparedOutput::StreamLoads(load_streams_output(alloc, limits, input)?));
+    }
+    Ok(PreparedOutput::Load(load_output(alloc, limits, input)?))
 }
 
 /// Returns the name, if there is one.
@@ -125,20 +151,29 @@ fn times_of(alloc: Global, given: Option<Candidates>) -> Result<Option<Vec<u32>>
     }
 }
 
-/// Returns the output of `plan` for an input that is read within given limits, with the given candidates for the cycle
-/// time, if any. Errors are those of [`prepare`].
+/// Returns how `plan` searches with these options.
+fn search_of(options: &PlanOptions) -> Search
+    ensures { result ≡ search_of options.now }
+{
+    Search {
+        tries: options.tries,
+    }
+}
+
+/// Returns the output of `plan` with these options for an input that is read within given limits. Errors are those of [`prepare`].
 fn planned(
     alloc: Global,
     limits: Limits,
-    table: bool,
-    given: Option<Candidates>,
+    options: &PlanOptions,
     input: &[u8],
 ) -> Result<Vec<u8>, Stop>
-    ensures ok { IfOk result (λ text. IsPlanOf limits table (option_map times_of given) input.now (Ok text.items)) }
-    ensures err { IfErr result (IsPlanRefusal limits table (option_map times_of given) input.now) }
+    ensures ok { IfOk result (λ text. IsPlanWithout limits options.now.table (search_of options.now) (option_map times_of options.now.given) options.now.without.items input.now (Ok text.items)) }
+    ensures err { IfErr result (IsRefusalWithout limits options.now.table (search_of options.now) (option_map times_of options.now.given) options.now.without.items input.now) }
 {
-    match times_of(alloc, given) {
-        Ok(times) => plan_output(alloc, limits, table, times, input),
+    let search = search_of(options);
+    let links = options.without.as_slice();
+    match times_of(alloc, options.given) {
+        Ok(times) => plan_without(alloc, limits, options.table, search, times, links, input),
         Err(_) => Err(Stop::memory(alloc)),
     }
 }
@@ -165,8 +200,11 @@ fn prepare(
             alloc, until, rate, input,
         )?)),
         Job::Line { cycles } => Ok(PreparedOutput::Line(line_output(alloc, cycles, input)?)),
-        Job::Compile { ref format } => prepare_compiled(alloc, limits, format, input),
-        Job::Load => Ok(PreparedOutput::Load(load_output(alloc, limits, input)?)),
+        Job::Compile {
+            ref format,
+            edge_gates,
+        } => prepare_compiled(alloc, limits, format, edge_gates, input),
+        Job::Load { streams } => prepare_load(alloc, limits, streams, input),
         Job::Latency { strict } => Ok(PreparedOutput::Latency(latency_output(
             alloc, limits, strict, input,
         )?)),
@@ -195,9 +233,12 @@ fn prepare(
             ref stream,
             frame,
         } => prepare_hops(alloc, limits, cycles, stream, frame, input),
-        Job::Plan { table, given } => Ok(PreparedOutput::Text(planned(
-            alloc, limits, table, given, input,
+        Job::Plan { ref options } => Ok(PreparedOutput::Text(planned(
+            alloc, limits, options, input,
         )?)),
+        Job::Diff { quiet } => {
+            Ok(PreparedOutput::Text(diff_output(alloc, limits, quiet, input)?))
+        }
     }
 }
 

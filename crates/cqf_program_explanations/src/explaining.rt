@@ -2,7 +2,7 @@
 ghost use Rattle.std.specs.Prelude.{IfOk};
 ghost use Rattle.cqf_program_explanations.specs.Explanations.{IsExplanation};
 
-use crate::budgets::{TriedStreams, tell_refused};
+use crate::budgets::tell_short_streams;
 use crate::command_faults::{tell_hops, tell_unknown_bridge};
 use crate::domain_faults::{
     tell_delays, tell_gaps, tell_guard, tell_link_guards, tell_links_twice, tell_misplaced_others,
@@ -11,13 +11,16 @@ use crate::domain_faults::{
 use crate::file_faults::{tell_key_twice, tell_long_lines, tell_unknown_keys};
 use crate::given::{CommandInput, given_of};
 use crate::network_faults::tell_network;
+use crate::pairs::{FileLine, command_about, file_line};
 use crate::part_faults::tell_parts;
 use crate::plan_faults::{tell_below_traffic, tell_plan};
 use crate::refusal::{Refusal, refusal_of};
 use crate::script_faults::{
     tell_bad_lines, tell_too_many_lines, tell_unknown_offer, tell_unknown_streams,
 };
-use crate::stream_faults::{form_fault_of, tell_form_faults, tell_gates_twice};
+use crate::stream_faults::{
+    tell_form_faults, tell_gates_twice, tell_names_twice, tell_streams_beyond,
+};
 use crate::table_faults::{InputTable, tell_table};
 use crate::told::ToldLines;
 use crate::toml_faults::{tell_bad_value, tell_missing, tell_not_toml};
@@ -92,13 +95,10 @@ fn tell_stream(
 ) -> Result<(), AllocError> {
     match refusal.fault {
         "BelowTraffic" => tell_below_traffic(given, told, refusal),
-        "NameHeld" => tell_refused(given, told, TriedStreams::NameHeld),
-        "TooManyStreams" => tell_refused(given, told, TriedStreams::TooManyStreams),
-        "BudgetShort" => tell_refused(given, told, TriedStreams::BudgetShort),
-        fault => match form_fault_of(fault) {
-            Some(fault) => tell_form_faults(given, told, fault),
-            None => Ok(()),
-        },
+        "NameHeld" => tell_names_twice(given, told),
+        "TooManyStreams" => tell_streams_beyond(given, told),
+        "BudgetShort" => tell_short_streams(given, told),
+        fault => tell_form_faults(given, told, fault),
     }
 }
 
@@ -144,18 +144,8 @@ fn tell_refusal(
     }
 }
 
-/// Returns the text after the line of a refusal: for each thing that is wrong in this way a line, at most 20 of them, in the order of the
-/// texts, followed by `and N more` if there are more. Each line begins with two blanks and ends with LF, and has only printable characters
-/// of ASCII; any other character is printed as `\u{..}`, with its number in hexadecimal digits. The text is empty if there is nothing to
-/// say: the line isn't a known refusal, or says everything by itself, or no file is named.
-///
-/// `command` is the command's word, such as `run`. `cycles` is how many cycles are run, if the words say so, and `cycle_times` are the
-/// cycle times in nanoseconds that they give instead of those of the plan. `limits` are those within which a plan is read. `sources` are
-/// the files that the words name, in their order. `line` is the line of the refusal with its line feed.
-///
-/// # Errors
-/// If an allocation fails.
-pub fn explanation(
+/// Returns the explanation of a line that is about all files together.
+fn explained(
     alloc: Global,
     command: &str,
     cycles: Option<u32>,
@@ -182,4 +172,51 @@ pub fn explanation(
         }
     }
     told.text("  ")
+}
+
+/// Returns the text after the line of a refusal: for each thing that is wrong in this way a line, at most 20 of them, in the order of the
+/// texts, followed by `and N more` if there are more. Each line begins with two blanks and ends with LF, and has only printable characters
+/// of ASCII; any other character is printed as `\u{..}`, with its number in hexadecimal digits. The text is empty if there is nothing to
+/// say: the line isn't a known refusal, or says everything by itself, or no file is named.
+///
+/// `command` is the command's word, such as `run`. `cycles` is how many cycles are run, if the words say so, and `cycle_times` are the
+/// cycle times in nanoseconds that they give instead of those of the plan. `limits` are those within which a plan is read. `sources` are
+/// the files that the words name, in their order. `line` is the line of the refusal with its line feed.
+///
+/// # Errors
+/// If an allocation fails.
+pub fn explanation(
+    alloc: Global,
+    command: &str,
+    cycles: Option<u32>,
+    cycle_times: &[u32],
+    limits: Limits,
+    sources: &[NamedFile<'_>],
+    line: &[u8],
+) -> Result<Vec<u8>, AllocError>
+    ensures { IfOk result (λ text. IsExplanation text.items) }
+{
+    match file_line(alloc, line)? {
+        Some(FileLine { place, line }) => match sources.get(place) {
+            Some(source) => explained(
+                alloc,
+                "latency",
+                cycles,
+                cycle_times,
+                limits,
+                &[*source],
+                line.as_bytes(),
+            ),
+            None => Ok(Vec::new(alloc)),
+        },
+        None => explained(
+            alloc,
+            command_about(command, line),
+            cycles,
+            cycle_times,
+            limits,
+            sources,
+            line,
+        ),
+    }
 }

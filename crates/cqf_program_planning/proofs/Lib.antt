@@ -23,3 +23,8 @@ mod ReadBack
 mod Shallow
 mod Strict
 mod ToldPlans
+mod OrderSteps
+mod OrderLemmas
+mod OtherOrders
+mod Tried
+mod Searches

@@ -7,8 +7,10 @@ use Rattle.cqf_program_planning.specs.declared.candidates.Candidate.{Candidate}
 use Rattle.cqf_program_planning.specs.declared.choosing.Choice.{Choice}
 use Rattle.cqf_program_planning.specs.declared.choosing.Choice.TheVariants as choice
 use Rattle.cqf_program_planning.specs.declared.trying.Tried.{Tried}
-use Rattle.cqf_program_planning.specs.Choosing.{IsBad, IsPlanned, IsUnplanned, best_of, line_of_best}
-use Rattle.cqf_program_planning.specs.Judging.{ArePlacedAt, AreJudgedBy, IsJudgedBy, candidate_of, flows_placed}
+use Rattle.cqf_program_planning.specs.Choosing.{IsBad, IsPlanned, IsUnplanned, line_of_nearest, nearest_of}
+use Rattle.cqf_program_planning.specs.declared.choosing.Search.{Search}
+use Rattle.cqf_program_planning.specs.Judging.{candidate_of, flows_placed}
+use Rattle.cqf_program_planning.specs.Orders.{AreJudgedBy, AreTriedAt, IsJudgedBy}
 use Rattle.cqf_program_planning.specs.Steps.{AreTurned}
 
 -- the verdict on streams that are placed, with their domain and the outcome for each
@@ -18,44 +20,44 @@ pub record IsTriedBy (streams : List SettledStream) (placed : PlacedStreams) (tr
   pub outcomes_are : map outcome_value tried.outcomes.items ≡ placed.outcomes
 
 -- the same on a cycle time
-pub record IsTried (network : NetworkDomain) (streams : List SettledStream) (cycle_time : ℕ) (tried : Tried) : Type 0 where
+pub record IsTried (network : NetworkDomain) (streams : List SettledStream) (tries cycle_time : ℕ) (tried : Tried) : Type 0 where
   pub placed : PlacedStreams
-  pub are_placed : ArePlacedAt network streams cycle_time placed
+  pub are_placed : AreTriedAt network streams tries cycle_time placed
   pub tried_by : IsTriedBy streams placed tried
 
 -- a cycle time is good: all streams are placed on it, and none may be late
-pub record IsGoodOn (network : NetworkDomain) (streams : List SettledStream) (cycle_time : ℕ) (tried : Tried) : Type 0 where
+pub record IsGoodOn (network : NetworkDomain) (streams : List SettledStream) (tries cycle_time : ℕ) (tried : Tried) : Type 0 where
   pub open_to : longest_guard network < cycle_time
-  pub tried_is : IsTried network streams cycle_time tried
+  pub tried_is : IsTried network streams tries cycle_time tried
   pub good : tried.candidate.fault ≡ None
 
 -- a cycle time isn't good, and this is the verdict on it
-pub record IsBadOn (network : NetworkDomain) (streams : List SettledStream) (cycle_time : ℕ) (candidate : Candidate) : Type 0 where
-  pub judged : IsJudgedBy network streams cycle_time candidate
+pub record IsBadOn (network : NetworkDomain) (streams : List SettledStream) (tries cycle_time : ℕ) (candidate : Candidate) : Type 0 where
+  pub judged : IsJudgedBy network streams tries cycle_time candidate
   pub bad : IsBad candidate
 
 -- the choice after one candidate
-abbrev pub ComesOf : NetworkDomain → List SettledStream → ℕ → Choice → Type 0
-ComesOf network streams cycle_time (choice.Planned tried) = IsGoodOn network streams cycle_time tried
-ComesOf network streams cycle_time (choice.Unplanned candidate) = IsBadOn network streams cycle_time candidate
+abbrev pub ComesOf : NetworkDomain → List SettledStream → ℕ → ℕ → Choice → Type 0
+ComesOf network streams tries cycle_time (choice.Planned tried) = IsGoodOn network streams tries cycle_time tried
+ComesOf network streams tries cycle_time (choice.Unplanned candidate) = IsBadOn network streams tries cycle_time candidate
 
--- none of these candidates is good, and this is the one on which most streams are placed
-pub record AreBad (network : NetworkDomain) (streams : List SettledStream) (cycles : List ℕ) (best : Option Candidate) : Type 0 where
+-- none of these candidates is good, and this is the nearest
+pub record AreBad (network : NetworkDomain) (streams : List SettledStream) (tries : ℕ) (cycles : List ℕ) (nearest : Option Candidate) : Type 0 where
   pub told : List Candidate
-  pub judged : AreJudgedBy network streams cycles told
+  pub judged : AreJudgedBy network streams tries cycles told
   pub bad : All IsBad told
-  pub best_is : best ≡ best_of told
-  pub best_bad : IfSome best IsBad
+  pub nearest_is : nearest ≡ nearest_of told
+  pub nearest_bad : IfSome nearest IsBad
 
 -- a cycle time on which streams were placed is the plan's
-pub record IsPlannedOn (network : NetworkDomain) (streams : List SettledStream) (tried : Tried) : Type 0 where
-  pub planned : IsPlanned network streams tried.domain (flows_placed tried.domain.cycle_time streams (map outcome_value tried.outcomes.items))
+pub record IsPlannedOn (network : NetworkDomain) (streams : List SettledStream) (search : Search) (tried : Tried) : Type 0 where
+  pub planned : IsPlanned network streams search tried.domain (flows_placed tried.domain.cycle_time streams (map outcome_value tried.outcomes.items))
   pub each : length tried.outcomes.items ≡ length streams
   pub early : All BeginsEarly (map outcome_value tried.outcomes.items)
   pub turned : AreTurned streams (flows_placed tried.domain.cycle_time streams (map outcome_value tried.outcomes.items))
 
 -- the choice after all candidates
-abbrev pub ComesOfAll : NetworkDomain → List SettledStream → Choice → Type 0
-ComesOfAll network streams (choice.Planned tried) = IsPlannedOn network streams tried
-ComesOfAll network streams (choice.Unplanned best) =
-    IsUnplanned network streams (line_of_best (length network.candidates) (Some best)) × IsBad best
+abbrev pub ComesOfAll : NetworkDomain → List SettledStream → Search → Choice → Type 0
+ComesOfAll network streams search (choice.Planned tried) = IsPlannedOn network streams search tried
+ComesOfAll network streams search (choice.Unplanned nearest) =
+    IsUnplanned network streams search.tries (line_of_nearest (length network.candidates) (Some nearest)) × IsBad nearest

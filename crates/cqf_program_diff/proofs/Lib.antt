@@ -1,0 +1,5 @@
+mod Steps
+mod Held
+mod Files
+mod Own
+mod Described

@@ -1,0 +1,6 @@
+mod Taking
+mod LinkLists
+mod StreamLists
+mod Branches
+mod Keys
+mod Outs
