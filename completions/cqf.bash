@@ -22,8 +22,8 @@ _cqf() {
         ;;
     port) own='--until --rate --help' ;;
     line) own='--cycles --help' ;;
-    compile) own='--format --bridge --software --large --help' ;;
-    load) own='--large --help' ;;
+    compile) own='--format --bridge --software --edge-gates --large --help' ;;
+    load) own='--streams --large --help' ;;
     latency) own='--strict --large --help' ;;
     run) own='--cycles --threads --large --help' ;;
     report) own='--cycles --large --help' ;;
@@ -32,7 +32,7 @@ _cqf() {
     summary) own='--cycles --large --help' ;;
     hops) own='--cycles --stream --frame --large --help' ;;
     offers) own='--cycles --seed --large --help' ;;
-    plan) own='--table --cycle --large --help' ;;
+    plan) own='--table --cycle --verbose --large --help' ;;
     *) return ;;
     esac
     for ((place = 2; place < COMP_CWORD; place++)); do

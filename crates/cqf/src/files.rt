@@ -4,9 +4,9 @@ ghost use Rattle.std.specs.Prelude.{◌≤◌, ◌<◌, ◌^◌, IfOk, OnOk, len
 
 use crate::terminal::hint;
 use cqf_model::Limits;
-use cqf_output::{DONE, FAULT, REFUSED, Sink, Stop, Told, write_out};
+use cqf_output::{DONE, FAULT, REFUSED, Sink, Stop, Told, told_text, write_out};
 use cqf_program_engine::{Heard, Texts, engine, most_bytes, tell};
-use cqf_program_explanations::{NamedFile, explanation, notes};
+use cqf_program_explanations::{NamedFile, explanation, notes, plan_notes};
 use cqf_program_files::{Front, cycles_of, front_of, renumbered};
 use cqf_program_offers::made_input;
 use cqf_program_words::{
@@ -15,7 +15,7 @@ use cqf_program_words::{
 use std::alloc::{AllocError, Global};
 use std::fs::File;
 use std::io;
-use std::io::{ErrorKind, Read, Write};
+use std::io::{ErrorKind, IsTerminal, Read, Write};
 use std::process::ExitCode;
 use std::sync::Wait;
 use std::thread::Threads;
@@ -219,19 +219,78 @@ fn write_notes(rt: &HostRuntime, notes: &Option<Vec<u8>>) {
     }
 }
 
-/// Runs the engine on the input that is made from the files, and returns its status and the line that it prints about a fault. Returns an
-/// error if an allocation fails before the run has begun.
+/// How a run ended.
+#[derive(Drop)]
+struct Ended {
+    status: u8,
+    /// The line that it prints about a fault.
+    told: Told<Vec<u8>>,
+    /// The notes on the plan that it made, if they are wanted.
+    plan_notes: Option<Vec<u8>>,
+}
+
+/// Runs the engine on the input that is made from the files. Returns an error if an allocation fails before the run has begun.
 fn run(
     rt: &HostRuntime,
     threads: &(impl Threads + Wait + Sync),
     alloc: Global,
     words: &[&str],
     input: &[u8],
-) -> Result<(u8, Told<Vec<u8>>), AllocError> {
-    let mut faults = Told::new(Vec::with_capacity(alloc, ROOM)?);
+) -> Result<Ended, AllocError> {
+    let mut told = Told::new(Vec::with_capacity(alloc, ROOM)?);
     let (mut heard, mut output) = (Heard::new(alloc, input), Told::new(rt.stdout()));
-    let status = engine(threads, alloc, words, &mut heard, &mut output, &mut faults);
-    Ok((status, faults))
+    let status = engine(threads, alloc, words, &mut heard, &mut output, &mut told);
+    Ok(Ended {
+        status,
+        told,
+        plan_notes: None,
+    })
+}
+
+/// Returns whether notes on the plan that a job makes are wanted: the job asks for them, or standard error is a terminal.
+fn wants_plan_notes<F: IsTerminal>(job: &Job, faults: &F) -> bool {
+    match *job {
+        Job::Plan { table, verbose, .. } => !table && (verbose || faults.is_terminal()),
+        _ => false,
+    }
+}
+
+/// Returns the notes on a plan that was made; none if memory lacks.
+fn plan_notes_of(given: &FilesInput<'_>, plan: &[u8]) -> Option<Vec<u8>> {
+    let Ok(sources) = sources_of(given.alloc, given.operands.files(), given.texts) else {
+        return None;
+    };
+    plan_notes(given.alloc, given.limits, sources.as_slice(), plan).ok()
+}
+
+/// The same as [`run`] for a plan on which notes are wanted. They are made of the plan before it is written, since no memory is allocated once
+/// its output has begun.
+fn run_plan(
+    rt: &HostRuntime,
+    threads: &(impl Threads + Wait + Sync),
+    given: &FilesInput<'_>,
+    input: &[u8],
+) -> Result<Ended, AllocError> {
+    let (alloc, words) = (given.alloc, given.operands.words());
+    let mut told = Told::new(Vec::with_capacity(alloc, ROOM)?);
+    let (mut heard, mut plan) = (Heard::new(alloc, input), Told::new(Vec::new(alloc)));
+    let status = engine(threads, alloc, words, &mut heard, &mut plan, &mut told);
+    let text = told_text(plan)?;
+    if status != DONE {
+        return Ok(Ended {
+            status,
+            told,
+            plan_notes: None,
+        });
+    }
+    let plan_notes = plan_notes_of(given, text.as_slice());
+    let (stop, mut output) = (Stop { status, text }, Told::new(rt.stdout()));
+    let status = tell(&stop, &mut output, &mut told);
+    Ok(Ended {
+        status,
+        told,
+        plan_notes,
+    })
 }
 
 /// Returns the line about a run that ended with this status. In a refusal, after which no output was written, a line's number in the script
@@ -257,15 +316,21 @@ fn run_front(
     given: &FilesInput<'_>,
     front: &Front,
 ) -> ExitCode {
-    let alloc = given.alloc;
+    let (alloc, input) = (given.alloc, front.input.as_slice());
     let notes = notes_of(given);
-    let Ok((status, told)) = run(
-        rt,
-        threads,
-        alloc,
-        given.operands.words(),
-        front.input.as_slice(),
-    ) else {
+    let ended = if wants_plan_notes(given.job, &rt.stderr()) {
+        run_plan(rt, threads, given, input)
+    } else {
+        run(rt, threads, alloc, given.operands.words(), input)
+    };
+    let Ok(
+        Ended {
+            status,
+            told,
+            plan_notes,
+        },
+    ) = ended
+    else {
         return end(rt, &Stop::memory(alloc));
     };
     let line = line_told(alloc, front, status, told.into_writer());
@@ -278,6 +343,7 @@ fn run_front(
     }
     if has_accepted(status, line.as_slice()) {
         write_notes(rt, &notes);
+        write_notes(rt, &plan_notes);
     }
     ExitCode::from(status)
 }

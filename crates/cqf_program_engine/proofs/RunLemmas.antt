@@ -142,11 +142,12 @@ IsStopped-by_cause words input stop sound at_end (inr (inr (inr (inr e)))) = inr
 refusal_statuses : (limits : Limits) (job : Job) (input : List ℕ) (stop : Stop) → IsRefusal limits job input stop → (stop.status ≡ 1) ⊎ (stop.status ≡ 3)
 refusal_statuses limits (Port until rate) input stop h = h.statuses
 refusal_statuses limits (Line cycles) input stop h = h.statuses
-refusal_statuses limits (Compile form.List) input stop h = h.statuses
-refusal_statuses limits (Compile (form.Tc is_software)) input stop h = h.statuses
-refusal_statuses limits (Compile (form.Env bridge)) input stop h = h.statuses
-refusal_statuses limits (Compile form.Json) input stop h = h.statuses
-refusal_statuses limits Load input stop h = h.statuses
+refusal_statuses limits (Compile form.List edge_gates) input stop h = h.statuses
+refusal_statuses limits (Compile (form.Tc is_software) edge_gates) input stop h = h.statuses
+refusal_statuses limits (Compile (form.Env bridge) edge_gates) input stop h = h.statuses
+refusal_statuses limits (Compile form.Json edge_gates) input stop h = h.statuses
+refusal_statuses limits (Load false) input stop h = h.statuses
+refusal_statuses limits (Load true) input stop h = h.statuses
 refusal_statuses limits (Latency strict) input stop h = h.statuses
 refusal_statuses limits (Run cycles threads) input stop h = h.statuses
 refusal_statuses limits (Report cycles) input stop h = h.statuses
@@ -155,17 +156,18 @@ refusal_statuses limits (Check cycles) input stop h = h.statuses
 refusal_statuses limits (Summary cycles) input stop h = h.statuses
 refusal_statuses limits (Offers cycles seed) input stop h = h.statuses
 refusal_statuses limits (Hops cycles stream frame) input stop h = h.statuses
-refusal_statuses limits (Plan table given) input stop h = h.statuses
+refusal_statuses limits (Plan table given verbose) input stop h = h.statuses
 
 -- a refused input with status 3 has no text
 refusal_memory : (limits : Limits) (job : Job) (input : List ℕ) (stop : Stop) → IsRefusal limits job input stop → stop.status ≡ 3 → stop.text.items ≡ []
 refusal_memory limits (Port until rate) input stop h = h.memory
 refusal_memory limits (Line cycles) input stop h = h.memory
-refusal_memory limits (Compile form.List) input stop h = h.memory
-refusal_memory limits (Compile (form.Tc is_software)) input stop h = h.memory
-refusal_memory limits (Compile (form.Env bridge)) input stop h = h.memory
-refusal_memory limits (Compile form.Json) input stop h = h.memory
-refusal_memory limits Load input stop h = h.memory
+refusal_memory limits (Compile form.List edge_gates) input stop h = h.memory
+refusal_memory limits (Compile (form.Tc is_software) edge_gates) input stop h = h.memory
+refusal_memory limits (Compile (form.Env bridge) edge_gates) input stop h = h.memory
+refusal_memory limits (Compile form.Json edge_gates) input stop h = h.memory
+refusal_memory limits (Load false) input stop h = h.memory
+refusal_memory limits (Load true) input stop h = h.memory
 refusal_memory limits (Latency strict) input stop h = h.memory
 refusal_memory limits (Run cycles threads) input stop h = h.memory
 refusal_memory limits (Report cycles) input stop h = h.memory
@@ -174,14 +176,14 @@ refusal_memory limits (Check cycles) input stop h = h.memory
 refusal_memory limits (Summary cycles) input stop h = h.memory
 refusal_memory limits (Offers cycles seed) input stop h = h.memory
 refusal_memory limits (Hops cycles stream frame) input stop h = h.memory
-refusal_memory limits (Plan table given) input stop h = h.memory
+refusal_memory limits (Plan table given verbose) input stop h = h.memory
 
 -- a job that fails has status 4
 failure_status : (limits : Limits) (job : Job) (input : List ℕ) (stop : Stop) → IsFailure limits job input stop → stop.status ≡ 4
 failure_status limits (Port until rate) input stop h = absurd h
 failure_status limits (Line cycles) input stop h = absurd h
-failure_status limits (Compile format) input stop h = absurd h
-failure_status limits Load input stop h = absurd h
+failure_status limits (Compile format edge_gates) input stop h = absurd h
+failure_status limits (Load streams) input stop h = absurd h
 failure_status limits (Latency strict) input stop h = absurd h
 failure_status limits (Run cycles true) input stop h = h.0
 failure_status limits (Run cycles false) input stop h = absurd h
@@ -191,7 +193,7 @@ failure_status limits (Check cycles) input stop h = absurd h
 failure_status limits (Summary cycles) input stop h = absurd h
 failure_status limits (Offers cycles seed) input stop h = absurd h
 failure_status limits (Hops cycles stream frame) input stop h = absurd h
-failure_status limits (Plan table given) input stop h = absurd h
+failure_status limits (Plan table given verbose) input stop h = absurd h
 
 -- an input that is refused stops it
 HasCause-by_refusal : (words : List (List ℕ)) (bytes : List ℕ) (job : Job) (stop : Stop) → length bytes ≤ most_bytes words
@@ -402,8 +404,8 @@ number_within least most number (Some text) is = is.3
 job_within : (job : Job) (name : Text) (rows : List Row) → IsJobOf job name rows → IsWithin job
 job_within (Port until rate) name rows is = number_within 1 100000000 until (first_of (codes "until") rows) is.1
 job_within (Line cycles) name rows is = number_within 1 100000 cycles (first_of (codes "cycles") rows) is.1
-job_within (Compile format) name rows is = tt
-job_within Load name rows is = tt
+job_within (Compile format edge_gates) name rows is = tt
+job_within (Load streams) name rows is = tt
 job_within (Latency strict) name rows is = tt
 job_within (Run cycles threads) name rows is = number_within 1 100000 cycles (first_of (codes "cycles") rows) is.1
 job_within (Report cycles) name rows is = number_within 1 100000 cycles (first_of (codes "cycles") rows) is.1
@@ -412,7 +414,7 @@ job_within (Check cycles) name rows is = number_within 1 100000 cycles (first_of
 job_within (Summary cycles) name rows is = number_within 1 100000 cycles (first_of (codes "cycles") rows) is.1
 job_within (Offers cycles seed) name rows is = number_within 1 100000 cycles (first_of (codes "cycles") rows) is.1
 job_within (Hops cycles stream frame) name rows is = number_within 1 100000 cycles (first_of (codes "cycles") rows) is.1
-job_within (Plan table given) name rows is = tt
+job_within (Plan table given verbose) name rows is = tt
 
 -- the numbers of a job that options give are within their ranges
 found_within : (job : Job) (found : Option (Text × List Row)) → IsJob job found → IsWithin job
@@ -506,8 +508,8 @@ not_both name first second is_first is_second differ = absurd (differ (ap length
 no_threads : (job : Job) (name : Text) (rows : List Row) (cycles : ℕ) → IsJobOf job name rows → is_threaded job ≡ false → IsJobOf (Run cycles true) name rows → ⊥
 no_threads (Port until rate) name rows cycles is other h = not_both name (codes "port") (codes "run") is.0 h.0 (λ e. omega (arith, e))
 no_threads (Line own) name rows cycles is other h = not_both name (codes "line") (codes "run") is.0 h.0 (λ e. omega (arith, e))
-no_threads (Compile format) name rows cycles is other h = not_both name (codes "compile") (codes "run") is.0 h.0 (λ e. omega (arith, e))
-no_threads Load name rows cycles is other h = not_both name (codes "load") (codes "run") is h.0 (λ e. omega (arith, e))
+no_threads (Compile format edge_gates) name rows cycles is other h = not_both name (codes "compile") (codes "run") is.0 h.0 (λ e. omega (arith, e))
+no_threads (Load streams) name rows cycles is other h = not_both name (codes "load") (codes "run") is.0 h.0 (λ e. omega (arith, e))
 no_threads (Latency strict) name rows cycles is other h = not_both name (codes "latency") (codes "run") is.0 h.0 (λ e. omega (arith, e))
 no_threads (Run own true) name rows cycles is other h = (cc)
 no_threads (Run own false) name rows cycles is other h = is.2 h.2
@@ -517,7 +519,7 @@ no_threads (Check own) name rows cycles is other h = not_both name (codes "check
 no_threads (Summary own) name rows cycles is other h = not_both name (codes "summary") (codes "run") is.0 h.0 (λ e. omega (arith, e))
 no_threads (Offers own seed) name rows cycles is other h = not_both name (codes "offers") (codes "run") is.0 h.0 (λ e. omega (arith, e))
 no_threads (Hops own stream frame) name rows cycles is other h = not_both name (codes "hops") (codes "run") is.0 h.0 (λ e. omega (arith, e))
-no_threads (Plan table given) name rows cycles is other h = not_both name (codes "plan") (codes "run") is.0 h.0 (λ e. omega (arith, e))
+no_threads (Plan table given verbose) name rows cycles is other h = not_both name (codes "plan") (codes "run") is.0 h.0 (λ e. omega (arith, e))
 
 -- what is read from words isn't both
 no_threads_found : (job : Job) (found : Option (Text × List Row)) (cycles : ℕ) → IsJob job found → is_threaded job ≡ false → IsJob (Run cycles true) found → ⊥

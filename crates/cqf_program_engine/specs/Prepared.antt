@@ -5,7 +5,7 @@ use Rattle.cqf_program_engine.specs.declared.begun.Begun.TheVariants.{Ready, Thr
 use Rattle.cqf_program_engine.specs.declared.begun.ThreadedRun.{ThreadedRun}
 use Rattle.cqf_program_engine.specs.declared.prepared.PreparedOutput.{PreparedOutput}
 use Rattle.cqf_program_engine.specs.declared.prepared.PreparedOutput.TheVariants.{Account, Config, Deliveries, Hops, Latency, Line, Load, Object}
-use Rattle.cqf_program_engine.specs.declared.prepared.PreparedOutput.TheVariants.{Port, Run, Script, Summary, Text, Variables}
+use Rattle.cqf_program_engine.specs.declared.prepared.PreparedOutput.TheVariants.{Port, Run, Script, StreamLoads, Summary, Text, Variables}
 use Rattle.cqf_program_json.specs.Output.{text_of_json}
 use Rattle.cqf_program_plans.specs.Compile.Told.{text_of_config}
 use Rattle.cqf_program_summary.specs.Hops.Rounds.{IsToldText}
@@ -13,6 +13,7 @@ use Rattle.cqf_program_runs.specs.Deliveries.Following.{AreDeliveriesTold}
 use Rattle.cqf_program_summary.specs.Summary.Text.{text_of_summary}
 use Rattle.cqf_program_plans.specs.Latency.Text.{text_of_latency}
 use Rattle.cqf_program_runs.specs.Line.Told.{IsLineTold}
+use Rattle.cqf_program_plans.specs.Load.Streams.{text_of_streams}
 use Rattle.cqf_program_plans.specs.Load.Told.{text_of_load}
 use Rattle.cqf_program_plans.specs.Port.Told.{text_of_port}
 use Rattle.cqf_program_runs.specs.Run.Told.{IsRunTold}
@@ -29,6 +30,7 @@ IsTextOf (Script output) text = text ≡ text_of_tc output
 IsTextOf (Variables output) text = text ≡ text_of_env output
 IsTextOf (Object output) text = text ≡ text_of_json output
 IsTextOf (Load output) text = text ≡ text_of_load output
+IsTextOf (StreamLoads output) text = text ≡ text_of_streams output
 IsTextOf (Latency output) text = text ≡ text_of_latency output
 IsTextOf (Run output) text = IsRunTold output text
 IsTextOf (Account output) text = text ≡ text_of_account output

@@ -20,7 +20,7 @@ use Rattle.cqf_program_json.specs.Output.{json_of_input}
 use Rattle.cqf_program_offers.specs.OffersOutput.{offered_input}
 use Rattle.cqf_program_plans.specs.Compile.Output.{compiled_input}
 use Rattle.cqf_program_plans.specs.Latency.Input.{latency_of_input}
-use Rattle.cqf_program_plans.specs.Load.Output.{loaded_input}
+use Rattle.cqf_program_plans.specs.Load.Output.{loaded_input, loaded_streams}
 use Rattle.cqf_program_plans.specs.Port.Output.{IsPortOutput, port_input}
 use Rattle.cqf_program_tc.specs.Output.{env_of_input, tc_of_input}
 use Rattle.cqf_output.specs.declared.stops.Stop.{Stop}
@@ -48,8 +48,8 @@ use Rattle.cqf_program_engine.specs.declared.runs.TheConstants.{VERSION}
 abbrev pub IsWithin : Job → Type 0
 IsWithin (Port until rate) = until ≤ last_until
 IsWithin (Line cycles) = cycles ≤ most_cycles
-IsWithin (Compile format) = ⊤
-IsWithin Load = ⊤
+IsWithin (Compile format edge_gates) = ⊤
+IsWithin (Load streams) = ⊤
 IsWithin (Latency strict) = ⊤
 IsWithin (Run cycles threads) = cycles ≤ most_cycles
 IsWithin (Report cycles) = cycles ≤ most_cycles
@@ -58,7 +58,7 @@ IsWithin (Check cycles) = cycles ≤ most_cycles
 IsWithin (Offers cycles seed) = cycles ≤ most_cycles
 IsWithin (Summary cycles) = cycles ≤ most_cycles
 IsWithin (Hops cycles stream frame) = cycles ≤ most_cycles
-IsWithin (Plan table given) = ⊤
+IsWithin (Plan table given verbose) = ⊤
 
 -- whether the job is a run on threads
 abbrev pub is_threaded : Job → Bool
@@ -82,11 +82,12 @@ pub record IsRunOf (limits : Limits) (job : Job) (threaded : ThreadedRun) : Type
 abbrev pub IsOutput : Limits → Job → List ℕ → List ℕ → Type 0
 IsOutput limits (Port until rate) input output = IsPortOutput until rate input output
 IsOutput limits (Line cycles) input output = IsLineOutput cycles input output
-IsOutput limits (Compile form.List) input output = compiled_input limits input ≡ Ok output
-IsOutput limits (Compile (form.Tc is_software)) input output = tc_of_input limits is_software input ≡ Ok output
-IsOutput limits (Compile (form.Env bridge)) input output = env_of_input limits bridge input ≡ Ok output
-IsOutput limits (Compile form.Json) input output = json_of_input limits input ≡ Ok output
-IsOutput limits Load input output = loaded_input limits input ≡ Ok output
+IsOutput limits (Compile form.List edge_gates) input output = compiled_input limits edge_gates input ≡ Ok output
+IsOutput limits (Compile (form.Tc is_software) edge_gates) input output = tc_of_input limits is_software edge_gates input ≡ Ok output
+IsOutput limits (Compile (form.Env bridge) edge_gates) input output = env_of_input limits edge_gates bridge input ≡ Ok output
+IsOutput limits (Compile form.Json edge_gates) input output = json_of_input limits edge_gates input ≡ Ok output
+IsOutput limits (Load false) input output = loaded_input limits input ≡ Ok output
+IsOutput limits (Load true) input output = loaded_streams limits input ≡ Ok output
 IsOutput limits (Latency strict) input output = latency_of_input limits strict input ≡ Ok output
 IsOutput limits (Run cycles false) input output = IsRunOutput limits cycles input output
 IsOutput limits (Run cycles true) input output = IsThreadsOutput limits cycles input output
@@ -96,7 +97,7 @@ IsOutput limits (Check cycles) input output = IsChecked limits cycles input (Ok 
 IsOutput limits (Offers cycles seed) input output = offered_input limits cycles seed input ≡ Ok output
 IsOutput limits (Summary cycles) input output = IsSummaryOutput limits cycles input output
 IsOutput limits (Hops cycles stream frame) input output = IsHopsOutput limits cycles (wanted_of stream frame) input output
-IsOutput limits (Plan table given) input output = IsPlanOf limits table (option_map times_of given) input (Ok output)
+IsOutput limits (Plan table given verbose) input output = IsPlanOf limits table (option_map times_of given) input (Ok output)
 
 -- the input of a job, which is read within given limits, is refused with a line: of its first fault; for `latency` if
 -- strict, of a deadline that isn't certain to be met; for `check`, of what isn't well; or for `plan`, if no candidate
@@ -104,11 +105,12 @@ IsOutput limits (Plan table given) input output = IsPlanOf limits table (option_
 abbrev pub IsRefusal : Limits → Job → List ℕ → Stop → Type 0
 IsRefusal limits (Port until rate) input stop = IsRefused (port_input input) stop
 IsRefusal limits (Line cycles) input stop = IsRefused (line_input input) stop
-IsRefusal limits (Compile form.List) input stop = IsRefused (compiled_input limits input) stop
-IsRefusal limits (Compile (form.Tc is_software)) input stop = IsRefused (tc_of_input limits is_software input) stop
-IsRefusal limits (Compile (form.Env bridge)) input stop = IsRefused (env_of_input limits bridge input) stop
-IsRefusal limits (Compile form.Json) input stop = IsRefused (json_of_input limits input) stop
-IsRefusal limits Load input stop = IsRefused (loaded_input limits input) stop
+IsRefusal limits (Compile form.List edge_gates) input stop = IsRefused (compiled_input limits edge_gates input) stop
+IsRefusal limits (Compile (form.Tc is_software) edge_gates) input stop = IsRefused (tc_of_input limits is_software edge_gates input) stop
+IsRefusal limits (Compile (form.Env bridge) edge_gates) input stop = IsRefused (env_of_input limits edge_gates bridge input) stop
+IsRefusal limits (Compile form.Json edge_gates) input stop = IsRefused (json_of_input limits edge_gates input) stop
+IsRefusal limits (Load false) input stop = IsRefused (loaded_input limits input) stop
+IsRefusal limits (Load true) input stop = IsRefused (loaded_streams limits input) stop
 IsRefusal limits (Latency strict) input stop = IsRefused (latency_of_input limits strict input) stop
 IsRefusal limits (Run cycles threads) input stop = IsRefused (scenario_input limits cycles input) stop
 IsRefusal limits (Report cycles) input stop = IsRefused (scenario_input limits cycles input) stop
@@ -117,7 +119,7 @@ IsRefusal limits (Check cycles) input stop = IsCheckRefusal limits cycles input 
 IsRefusal limits (Offers cycles seed) input stop = IsRefused (offered_input limits cycles seed input) stop
 IsRefusal limits (Summary cycles) input stop = IsRefused (planned_scenario limits cycles input) stop
 IsRefusal limits (Hops cycles stream frame) input stop = IsRefused (wanted_scenario limits cycles (wanted_of stream frame) input) stop
-IsRefusal limits (Plan table given) input stop = IsPlanRefusal limits table (option_map times_of given) input stop
+IsRefusal limits (Plan table given verbose) input stop = IsPlanRefusal limits table (option_map times_of given) input stop
 
 -- a run on threads fails, with the line of its fault; its input isn't refused. No other job fails
 abbrev pub IsFailure : Limits → Job → List ℕ → Stop → Type 0

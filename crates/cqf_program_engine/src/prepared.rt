@@ -5,7 +5,7 @@ ghost use Rattle.cqf_output.specs.Edge.{HasTold, writing};
 
 use cqf_output::{Sink, Told, write_out};
 use cqf_program_json::JsonOutput;
-use cqf_program_plans::{ConfigOutput, LatencyOutput, LoadOutput, PortOutput};
+use cqf_program_plans::{ConfigOutput, LatencyOutput, LoadOutput, PortOutput, StreamLoadsOutput};
 use cqf_program_runs::{DeliveriesOutput, LineOutput, RunOutput};
 use cqf_program_summary::{HopsOutput, SummaryOutput};
 use cqf_program_tc::{EnvOutput, TcOutput};
@@ -30,6 +30,8 @@ pub enum PreparedOutput {
     Object(JsonOutput),
     /// That of `load`: a domain and its streams.
     Load(LoadOutput),
+    /// That of `load --streams`: what each stream takes of each link.
+    StreamLoads(StreamLoadsOutput),
     /// That of `latency`: a domain, its streams and their deadlines.
     Latency(LatencyOutput),
     /// That of `run`: a history and a book.
@@ -58,6 +60,7 @@ impl PreparedOutput {
             PreparedOutput::Variables(output) => output.tell(told),
             PreparedOutput::Object(output) => output.tell(told),
             PreparedOutput::Load(output) => output.tell(told),
+            PreparedOutput::StreamLoads(output) => output.tell(told),
             PreparedOutput::Latency(output) => output.tell(told),
             PreparedOutput::Run(output) => output.tell(told),
             PreparedOutput::Account(output) => output.tell(told),

@@ -31,7 +31,9 @@ use cqf_output::{DONE, FAULT, NO_MEMORY, Sink, Stop, Told, USAGE, told_text, wri
 use cqf_program_json::json_output;
 use cqf_program_offers::offers_output;
 use cqf_program_planning::plan_output;
-use cqf_program_plans::{compile_output, latency_output, load_output, port_output};
+use cqf_program_plans::{
+    compile_output, latency_output, load_output, load_streams_output, port_output,
+};
 use cqf_program_runs::{check_output, deliveries_output, line_output, report_output, run_output};
 use cqf_program_summary::{FrameFilter, hops_output, summary_output};
 use cqf_program_tc::{env_output, tc_output};
@@ -50,34 +52,56 @@ use std::thread::Threads;
 fn prepare_variables(
     alloc: Global,
     limits: Limits,
+    edge_gates: bool,
     bridge: &Name,
     input: &[u8],
 ) -> Result<PreparedOutput, Stop>
-    ensures ok { IfOk result (HasText (λ output. env_of_input limits bridge.now input.now ≡ Ok output)) }
-    ensures err { IfErr result (IsRefused (env_of_input limits bridge.now input.now)) }
+    ensures ok { IfOk result (HasText (λ output. env_of_input limits edge_gates bridge.now input.now ≡ Ok output)) }
+    ensures err { IfErr result (IsRefused (env_of_input limits edge_gates bridge.now input.now)) }
 {
-    Ok(PreparedOutput::Variables(env_output(alloc, limits, bridge.as_str(), input)?))
+    Ok(PreparedOutput::Variables(env_output(alloc, limits, edge_gates, bridge.as_str(), input)?))
 }
 
-/// Returns the output of `compile` in a format, for an input that is read within given limits, ready to be written.
+/// Returns the output of `compile` in a format, for an input that is read within given limits, ready to be written. With
+/// `edge_gates`, streams have gates at their edge bridges alone.
 /// Errors are those of [`prepare`].
 fn prepare_compiled(
     alloc: Global,
     limits: Limits,
     format: &Format,
+    edge_gates: bool,
     input: &[u8],
 ) -> Result<PreparedOutput, Stop>
-    ensures ok { IfOk result (HasText (IsOutput limits (Job.Compile format.now) input.now)) }
-    ensures err { IfErr result (IsRefusal limits (Job.Compile format.now) input.now) }
+    ensures ok { IfOk result (HasText (IsOutput limits (Job.Compile format.now edge_gates) input.now)) }
+    ensures err { IfErr result (IsRefusal limits (Job.Compile format.now edge_gates) input.now) }
 {
     match *format {
-        Format::List => Ok(PreparedOutput::Config(compile_output(alloc, limits, input)?)),
+        Format::List => Ok(PreparedOutput::Config(compile_output(
+            alloc, limits, edge_gates, input,
+        )?)),
         Format::Tc { is_software } => {
-            Ok(PreparedOutput::Script(tc_output(alloc, limits, is_software, input)?))
+            Ok(PreparedOutput::Script(tc_output(alloc, limits, is_software, edge_gates, input)?))
         }
-        Format::Env { ref bridge } => prepare_variables(alloc, limits, bridge, input),
-        Format::Json => Ok(PreparedOutput::Object(json_output(alloc, limits, input)?)),
+        Format::Env { ref bridge } => prepare_variables(alloc, limits, edge_gates, bridge, input),
+        Format::Json => Ok(PreparedOutput::Object(json_output(alloc, limits, edge_gates, input)?)),
     }
+}
+
+/// Returns the output of `load`, stream by stream if asked, for an input that is read within given limits, ready to be
+/// written. Errors are those of [`prepare`].
+fn prepare_load(
+    alloc: Global,
+    limits: Limits,
+    streams: bool,
+    input: &[u8],
+) -> Result<PreparedOutput, Stop>
+    ensures ok { IfOk result (HasText (IsOutput limits (Job.Load streams) input.now)) }
+    ensures err { IfErr result (IsRefusal limits (Job.Load streams) input.now) }
+{
+    if streams {
+        return Ok(PreparedOutput::StreamLoads(load_streams_output(alloc, limits, input)?));
+    }
+    Ok(PreparedOutput::Load(load_output(alloc, limits, input)?))
 }
 
 /// Returns the name, if there is one.
@@ -165,8 +189,11 @@ fn prepare(
             alloc, until, rate, input,
         )?)),
         Job::Line { cycles } => Ok(PreparedOutput::Line(line_output(alloc, cycles, input)?)),
-        Job::Compile { ref format } => prepare_compiled(alloc, limits, format, input),
-        Job::Load => Ok(PreparedOutput::Load(load_output(alloc, limits, input)?)),
+        Job::Compile {
+            ref format,
+            edge_gates,
+        } => prepare_compiled(alloc, limits, format, edge_gates, input),
+        Job::Load { streams } => prepare_load(alloc, limits, streams, input),
         Job::Latency { strict } => Ok(PreparedOutput::Latency(latency_output(
             alloc, limits, strict, input,
         )?)),
@@ -195,7 +222,7 @@ fn prepare(
             ref stream,
             frame,
         } => prepare_hops(alloc, limits, cycles, stream, frame, input),
-        Job::Plan { table, given } => Ok(PreparedOutput::Text(planned(
+        Job::Plan { table, given, .. } => Ok(PreparedOutput::Text(planned(
             alloc, limits, table, given, input,
         )?)),
     }

@@ -6,28 +6,9 @@ use crate::refusal::Refusal;
 use crate::script_faults::names_of;
 use crate::table_faults::count_of_offers;
 use crate::told::ToldLines;
-use crate::words::{question, shortened};
+use crate::words::{question, shortened, some_of};
 use crate::written::KeyOwner;
 use std::alloc::{AllocError, Global};
-
-/// How many names a line has.
-const MOST_NAMED: usize = 8;
-
-/// Returns names with commas between them, followed by `..` if there are more.
-fn some_of(alloc: Global, names: &[&str]) -> Result<String, AllocError> {
-    let mut words = String::new(alloc);
-    for name in names.iter().take(MOST_NAMED) {
-        let name = shortened(alloc, name)?;
-        if !words.is_empty() {
-            words.push_str(", ")?;
-        }
-        words.push_str(name.as_str())?;
-    }
-    if names.len() > MOST_NAMED {
-        words.push_str(", ..")?;
-    }
-    Ok(words)
-}
 
 /// Returns the question which of the names was meant, or, if none is near, what the names are; `kind` is their plural.
 fn meant_words(

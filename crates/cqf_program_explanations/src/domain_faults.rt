@@ -8,6 +8,8 @@ use crate::told::ToldLines;
 use crate::words::shortened;
 use crate::written::{FoundKey, KeyOwner, WrittenItem};
 use cqf_model::{LARGE, Limits};
+use cqf_topology::LinkTimes;
+use cqf_units::time_of;
 use std::alloc::{AllocError, Global};
 use std::collections::BTreeMap;
 
@@ -72,51 +74,30 @@ fn tell_talkers_end(
     if told.is_counted() {
         return Ok(());
     }
-    let (place, label) = (link.item.place_of("to"), link.item.label(given.alloc)?);
     let shown = shortened(given.alloc, link.to)?;
-    told.tell(format!(in given.alloc;
-        "{place}: {label}: to: {shown} is a station: a link from a station leads to a bridge"
-    )?)
+    let words = format!(in given.alloc;
+        "to: {shown} is a station: a link from a station leads to a bridge"
+    )?;
+    tell_of_link(given, told, link, "to", words.as_str())
 }
 
-/// Reports a link that begins at what isn't a node.
-fn tell_beginning(
+/// Reports an end of a link that isn't a node.
+fn tell_no_node(
     given: &CommandInput<'_>,
     told: &mut ToldLines,
     network: &Network<'_>,
     link: &WrittenLink<'_>,
+    (key, name): (&str, &str),
 ) -> Result<(), AllocError> {
-    if network.is_node(link.from) || told.is_counted() {
+    if network.is_node(name) || told.is_counted() {
         return Ok(());
     }
-    let (place, label) = (link.item.place_of("from"), link.item.label(given.alloc)?);
     let (shown, question) = (
-        shortened(given.alloc, link.from)?,
-        network.node_question(given.alloc, link.from)?,
+        shortened(given.alloc, name)?,
+        network.node_question(given.alloc, name)?,
     );
-    told.tell(format!(in given.alloc;
-        "{place}: {label}: from: no bridge or station {shown}{question}"
-    )?)
-}
-
-/// Reports a link that ends at what isn't a node.
-fn tell_no_end(
-    given: &CommandInput<'_>,
-    told: &mut ToldLines,
-    network: &Network<'_>,
-    link: &WrittenLink<'_>,
-) -> Result<(), AllocError> {
-    if told.is_counted() {
-        return Ok(());
-    }
-    let (place, label) = (link.item.place_of("to"), link.item.label(given.alloc)?);
-    let (shown, question) = (
-        shortened(given.alloc, link.to)?,
-        network.node_question(given.alloc, link.to)?,
-    );
-    told.tell(format!(in given.alloc;
-        "{place}: {label}: to: no bridge or station {shown}{question}"
-    )?)
+    let words = format!(in given.alloc; "{key}: no bridge or station {shown}{question}")?;
+    tell_of_link(given, told, link, key, words.as_str())
 }
 
 /// Reports what is wrong with the ends of a link.
@@ -126,9 +107,9 @@ fn tell_ends(
     network: &Network<'_>,
     link: &WrittenLink<'_>,
 ) -> Result<(), AllocError> {
-    tell_beginning(given, told, network, link)?;
+    tell_no_node(given, told, network, link, ("from", link.from))?;
     if !network.is_node(link.to) {
-        return tell_no_end(given, told, network, link);
+        return tell_no_node(given, told, network, link, ("to", link.to));
     }
     if link.from != link.to {
         return tell_talkers_end(given, told, network, link);
@@ -136,10 +117,13 @@ fn tell_ends(
     if told.is_counted() {
         return Ok(());
     }
-    let (place, label) = (link.item.place_of("to"), link.item.label(given.alloc)?);
-    told.tell(format!(in given.alloc;
-        "{place}: {label}: to: a link's from and to are different nodes"
-    )?)
+    tell_of_link(
+        given,
+        told,
+        link,
+        "to",
+        "to: a link's from and to are different nodes",
+    )
 }
 
 /// Reports each end of a link that isn't a node which may be there.
@@ -239,11 +223,9 @@ pub(crate) fn tell_misplaced_others(
         if told.is_counted() {
             continue;
         }
-        let (place, label) = (link.item.place_of("other"), link.item.label(given.alloc)?);
         let other = Grouped(link.item.number("other"));
-        told.tell(format!(in given.alloc;
-            "{place}: {label}: other = {other}: only a link from a station has it"
-        )?)?;
+        let words = format!(in given.alloc; "other = {other}: only a link from a station has it")?;
+        tell_of_link(given, told, link, "other", words.as_str())?;
     }
     Ok(())
 }
@@ -257,9 +239,25 @@ fn greatest_cycle(given: &CommandInput<'_>) -> Result<u64, AllocError> {
     Ok(most)
 }
 
-/// Returns whether delays and gaps are checked for a link: an access link isn't one of the domain's.
-fn is_checked(network: &Network<'_>, link: &WrittenLink<'_>) -> bool {
-    is_of_domain(network, link)
+/// Returns what a link says of its times, if it is one of the domain's.
+fn times_of(network: &Network<'_>, link: &WrittenLink<'_>) -> Option<LinkTimes> {
+    if is_of_domain(network, link) {
+        link.times
+    } else {
+        None
+    }
+}
+
+/// Reports what is wrong with a link, at one of its keys.
+fn tell_of_link(
+    given: &CommandInput<'_>,
+    told: &mut ToldLines,
+    link: &WrittenLink<'_>,
+    key: &str,
+    words: &str,
+) -> Result<(), AllocError> {
+    let (place, label) = (link.item.place_of(key), link.item.label(given.alloc)?);
+    told.tell(format!(in given.alloc; "{place}: {label}: {words}")?)
 }
 
 /// Reports a guard band that isn't shorter than a cycle time.
@@ -299,14 +297,16 @@ pub(crate) fn tell_link_guards_at(
 ) -> Result<(), AllocError> {
     let network = given.network()?;
     for link in &network.links {
-        let is_own = link.item.get("guard").is_some();
-        let is_long = is_own && link.guard >= cycle && is_checked(&network, link);
-        if is_long && !told.is_counted() {
-            let (place, label) = (link.item.place_of("guard"), link.item.label(given.alloc)?);
-            let (guard, cycle) = (Grouped(link.guard), Grouped(cycle));
-            told.tell(format!(in given.alloc;
-                "{place}: {label}: the guard band of {guard} ns isn't shorter than the cycle time, {cycle} ns"
-            )?)?;
+        let own = times_of(&network, link).and_then(|times| times.guard);
+        let Some(guard) = own.map(u64::from).filter(|guard| *guard >= cycle) else {
+            continue;
+        };
+        if !told.is_counted() {
+            let (guard, cycle) = (Grouped(guard), Grouped(cycle));
+            let words = format!(in given.alloc;
+                "the guard band of {guard} ns isn't shorter than the cycle time, {cycle} ns"
+            )?;
+            tell_of_link(given, told, link, "guard", words.as_str())?;
         }
     }
     Ok(())
@@ -331,14 +331,19 @@ pub(crate) fn tell_delays(
     given: &CommandInput<'_>,
     told: &mut ToldLines,
 ) -> Result<(), AllocError> {
-    let network = given.network()?;
+    let (network, guard, sync) = (
+        given.network()?,
+        given.written.short("guard"),
+        given.written.short("sync"),
+    );
     for link in &network.links {
-        let together = link.delay.saturating_add(network.sync);
-        let is_long = together >= link.guard && is_checked(&network, link);
-        if is_long && !told.is_counted() {
-            let (place, label) = (link.item.place_of("delay"), link.item.label(given.alloc)?);
-            let why = delay_words(given.alloc, link.delay, network.sync, link.guard)?;
-            told.tell(format!(in given.alloc; "{place}: {label}: {why}")?)?;
+        let Some(times) = times_of(&network, link) else {
+            continue;
+        };
+        if times.has_long_delay(sync, guard) && !told.is_counted() {
+            let (delay, own) = (u64::from(times.delay), u64::from(times.guard_within(guard)));
+            let words = delay_words(given.alloc, delay, u64::from(sync), own)?;
+            tell_of_link(given, told, link, "delay", words.as_str())?;
         }
     }
     Ok(())
@@ -346,16 +351,21 @@ pub(crate) fn tell_delays(
 
 /// Reports each link on which the gap after a frame is longer than the guard band.
 pub(crate) fn tell_gaps(given: &CommandInput<'_>, told: &mut ToldLines) -> Result<(), AllocError> {
-    let network = given.network()?;
+    let (network, guard) = (given.network()?, given.written.short("guard"));
     for link in &network.links {
-        let gap = link.time_of(GAP_OCTETS);
-        let is_long = gap > link.guard && is_checked(&network, link);
-        if is_long && !told.is_counted() {
-            let (place, label) = (link.item.place_of("rate"), link.item.label(given.alloc)?);
-            let (rate, gap, guard) = (link.rate, Grouped(gap), Grouped(link.guard));
-            told.tell(format!(in given.alloc;
-                "{place}: {label}: the gap of 12 octets takes {gap} ns at {rate} Mb/s, more than the guard band, {guard} ns"
-            )?)?;
+        let Some(times) = times_of(&network, link) else {
+            continue;
+        };
+        if times.has_long_gap(guard) && !told.is_counted() {
+            let (rate, gap, own) = (
+                link.item.number("rate"),
+                Grouped(time_of(GAP_OCTETS, times.rate)),
+                Grouped(u64::from(times.guard_within(guard))),
+            );
+            let words = format!(in given.alloc;
+                "the gap of 12 octets takes {gap} ns at {rate} Mb/s, more than the guard band, {own} ns"
+            )?;
+            tell_of_link(given, told, link, "rate", words.as_str())?;
         }
     }
     Ok(())
@@ -363,18 +373,19 @@ pub(crate) fn tell_gaps(given: &CommandInput<'_>, told: &mut ToldLines) -> Resul
 
 /// Reports each link on which a shortest frame takes less, with the least delay, than clocks may differ.
 pub(crate) fn tell_syncs(given: &CommandInput<'_>, told: &mut ToldLines) -> Result<(), AllocError> {
-    let network = given.network()?;
+    let (network, sync) = (given.network()?, given.written.short("sync"));
     for link in &network.links {
-        let shortest = link.time_of(SHORTEST_OCTETS);
-        let most = shortest.saturating_add(link.least);
-        let is_long = network.sync > most && is_checked(&network, link);
-        if is_long && !told.is_counted() {
-            let (place, label) = (link.item.place_of("delay"), link.item.label(given.alloc)?);
-            let (shortest, least) = (Grouped(shortest), Grouped(link.least));
-            let (sync, most) = (network.sync, Grouped(most));
-            told.tell(format!(in given.alloc;
-                "{place}: {label}: sync = {sync}: the shortest frame takes {shortest} ns and the least delay is {least} ns, so sync is at most {most}"
-            )?)?;
+        let Some(times) = times_of(&network, link) else {
+            continue;
+        };
+        if times.has_long_sync(sync) && !told.is_counted() {
+            let (shortest, least) = (time_of(SHORTEST_OCTETS, times.rate), u64::from(times.least));
+            let most = Grouped(shortest.saturating_add(least));
+            let (shortest, least) = (Grouped(shortest), Grouped(least));
+            let words = format!(in given.alloc;
+                "sync = {sync}: the shortest frame takes {shortest} ns and the least delay is {least} ns, so sync is at most {most}"
+            )?;
+            tell_of_link(given, told, link, "delay", words.as_str())?;
         }
     }
     Ok(())

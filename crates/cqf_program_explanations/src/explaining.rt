@@ -2,7 +2,7 @@
 ghost use Rattle.std.specs.Prelude.{IfOk};
 ghost use Rattle.cqf_program_explanations.specs.Explanations.{IsExplanation};
 
-use crate::budgets::{TriedStreams, tell_refused};
+use crate::budgets::tell_short_streams;
 use crate::command_faults::{tell_hops, tell_unknown_bridge};
 use crate::domain_faults::{
     tell_delays, tell_gaps, tell_guard, tell_link_guards, tell_links_twice, tell_misplaced_others,
@@ -17,7 +17,9 @@ use crate::refusal::{Refusal, refusal_of};
 use crate::script_faults::{
     tell_bad_lines, tell_too_many_lines, tell_unknown_offer, tell_unknown_streams,
 };
-use crate::stream_faults::{form_fault_of, tell_form_faults, tell_gates_twice};
+use crate::stream_faults::{
+    tell_form_faults, tell_gates_twice, tell_names_twice, tell_streams_beyond,
+};
 use crate::table_faults::{InputTable, tell_table};
 use crate::told::ToldLines;
 use crate::toml_faults::{tell_bad_value, tell_missing, tell_not_toml};
@@ -92,13 +94,10 @@ fn tell_stream(
 ) -> Result<(), AllocError> {
     match refusal.fault {
         "BelowTraffic" => tell_below_traffic(given, told, refusal),
-        "NameHeld" => tell_refused(given, told, TriedStreams::NameHeld),
-        "TooManyStreams" => tell_refused(given, told, TriedStreams::TooManyStreams),
-        "BudgetShort" => tell_refused(given, told, TriedStreams::BudgetShort),
-        fault => match form_fault_of(fault) {
-            Some(fault) => tell_form_faults(given, told, fault),
-            None => Ok(()),
-        },
+        "NameHeld" => tell_names_twice(given, told),
+        "TooManyStreams" => tell_streams_beyond(given, told),
+        "BudgetShort" => tell_short_streams(given, told),
+        fault => tell_form_faults(given, told, fault),
     }
 }
 

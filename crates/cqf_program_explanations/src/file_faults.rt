@@ -9,7 +9,7 @@ use crate::told::ToldLines;
 use crate::toml_faults::known_keys;
 use crate::words::{nearest, shortened};
 use crate::written::{KeyOwner, NetworkFile, WrittenItem};
-use cqf_program_files::{MOST_OCTETS, MOST_PARTS, OWN, TOP};
+use cqf_program_files::{MOST_OCTETS, MOST_PARTS, OWN, TOP, first_long_line};
 use std::alloc::{AllocError, Global};
 use std::collections::BTreeMap;
 use toml::Table;
@@ -212,80 +212,26 @@ pub(crate) fn tell_key_twice(
     Ok(())
 }
 
-/// What was read of a line: an open quote, how many dots are in a row, with nothing but parts of a key between them, and the most in a key.
-#[derive(Clone, Copy, Debug)]
-struct Dots {
-    quote: Option<u8>,
-    here: u64,
-    most: u64,
-}
-
-impl Dots {
-    /// Returns the state after a byte that is in no text.
-    fn behind(self, byte: u8) -> Dots {
-        match byte {
-            b'"' | b'\'' => Dots {
-                quote: Some(byte),
-                ..self
-            },
-            b'.' => Dots {
-                here: self.here.saturating_add(1),
-                ..self
-            },
-            b'=' | b']' => Dots {
-                quote: None,
-                here: 0,
-                most: self.most.max(self.here),
-            },
-            b',' | b'{' | b'}' | b'[' => Dots { here: 0, ..self },
-            _ => self,
-        }
-    }
-}
-
-/// Returns the most parts, with dots between them, that are in a row on a line.
-fn parts_on(line: &[u8]) -> u64 {
-    let mut dots = Dots {
-        quote: None,
-        here: 0,
-        most: 0,
-    };
-    for byte in line {
-        if dots.quote == Some(*byte) {
-            dots.quote = None;
-        } else if dots.quote.is_none() {
-            if *byte == b'#' {
-                break;
-            }
-            dots = dots.behind(*byte);
-        }
-    }
-    dots.most.saturating_add(1)
-}
-
 /// Reports each line of a file that is longer than allowed.
 fn tell_lines(
     given: &CommandInput<'_>,
     told: &mut ToldLines,
     file: &NetworkFile<'_>,
 ) -> Result<(), AllocError> {
+    let counts = is_toml(file.part.file);
     for (number, line) in Lines::of(file.part.text, file.part.before) {
-        let (place, parts) = (file.at(Some(number)), parts_on(line));
-        let is_long = line.len() > MOST_OCTETS && is_toml(file.part.file);
-        if (is_long || parts > u64::from(MOST_PARTS)) && told.is_counted() {
+        if first_long_line(counts, line).is_none() || told.is_counted() {
             continue;
         }
-        if is_long {
+        let place = file.at(Some(number));
+        let words = if counts && line.len() > MOST_OCTETS {
             let (octets, most) = (Grouped(line.len() as u64), Grouped(MOST_OCTETS as u64));
-            told.tell(format!(in given.alloc;
-                "{place}: the line has {octets} octets: a line has at most {most}"
-            )?)?;
-        } else if parts > u64::from(MOST_PARTS) {
+            format!(in given.alloc; "the line has {octets} octets: a line has at most {most}")?
+        } else {
             let most = MOST_PARTS;
-            told.tell(format!(in given.alloc;
-                "{place}: the key has {parts} dotted parts: a key has at most {most}"
-            )?)?;
-        }
+            format!(in given.alloc; "a key has at most {most} dotted parts")?
+        };
+        told.tell(format!(in given.alloc; "{place}: {words}")?)?;
     }
     Ok(())
 }

@@ -66,8 +66,8 @@ impl CommandInput<'_> {
     /// Returns the network of the plan, or of the command that has its own.
     pub(crate) fn network(&self) -> Result<Network<'_>, AllocError> {
         if self.command == "line" {
-            return smallest_network(self.alloc, self.limits);
+            return smallest_network(self.alloc);
         }
-        network_of(self.alloc, &self.written, self.limits)
+        network_of(self.alloc, &self.written)
     }
 }

@@ -2,18 +2,19 @@
 //! what it may have.
 //!
 //! - [`explanation`] makes these lines from the refusal's line and the files that the words name, which are a [`NamedFile`] each.
-//! - [`notes`] returns what is worth mentioning though nothing is refused.
+//! - [`notes`] returns what is worth mentioning though nothing is refused, and [`plan_notes`] which streams of a plan reserve much more than
+//!   they send.
 //!
 //! ```text
 //! cqf: domain: BadValue rate
 //!   plan.toml:12: link 3, a>b: rate = 250: a rate is 10, 100, 1000, 2500, 5000, 10000, 25000, 40000 or 100000 (Mb/s)
 //! ```
 //!
-//! The second line is the explanation. All things with the refusal's fault are listed, at most 20, in the order of the texts. What is wrong
-//! is found anew in the texts by plain code, and the lines of keys by a scan of its own. No result of a command depends on it.
+//! The second line is the explanation. All things with the refusal's fault are listed, at most 20, in the order of the texts. Whether a link
+//! or a stream has the fault is for the readers and the admission to say, which are asked about each by itself. The lines of keys are found by
+//! a scan of the texts. No result of a command depends on it.
 #![tactic(auto)]
 
-mod access;
 mod budgets;
 mod command_faults;
 mod domain_faults;
@@ -33,14 +34,17 @@ mod parts;
 mod places;
 mod plan_faults;
 mod planning;
+mod reading;
 mod refusal;
 mod script_faults;
 mod stream_faults;
 mod table_faults;
 mod told;
 mod toml_faults;
+mod waste;
 mod words;
 mod written;
 
 pub use explaining::{NamedFile, explanation};
 pub use noting::notes;
+pub use waste::plan_notes;

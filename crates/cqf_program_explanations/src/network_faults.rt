@@ -4,11 +4,12 @@ use crate::given::CommandInput;
 use crate::hints::plan_hint;
 use crate::network::{Network, WrittenLink};
 use crate::plan_faults::tell_no_talkers;
-use crate::planning::{has_traffic, is_in_step, nanos_question, talker_of};
+use crate::planning::{nanos_question, talker_of};
 use crate::refusal::Refusal;
 use crate::told::ToldLines;
 use crate::words::shortened;
 use crate::written::{KeyOwner, WrittenItem};
+use cqf_program_files::{lacks_octets, lacks_turns, lacks_way};
 use std::alloc::{AllocError, Global};
 use toml::Value;
 
@@ -153,34 +154,13 @@ pub(crate) fn tell_entering(
     Ok(())
 }
 
-/// Returns whether a stream has its ends and no path between them.
-fn lacks_way(item: &WrittenItem<'_>) -> bool {
-    if item.get("path").is_some() || item.get("paths").is_some() {
-        return false;
-    }
-    item.get("from").is_some() && item.get("to").is_some()
-}
-
-/// Returns whether a stream has traffic, and doesn't say what it reserves.
-fn lacks_octets(item: &WrittenItem<'_>) -> bool {
-    item.get("octets").is_none() && has_traffic(item)
-}
-
-/// Returns whether a stream's talker is in step, and `every` is missing.
-fn lacks_turns(item: &WrittenItem<'_>) -> bool {
-    is_in_step(item) && item.get("every").is_none()
-}
-
 /// Returns what `plan` would add to a stream, in words; an empty text if nothing is open.
 fn open_words(item: &WrittenItem<'_>) -> &'static str {
-    if lacks_way(item) {
-        "has no path"
-    } else if lacks_octets(item) {
-        "has no octets"
-    } else if lacks_turns(item) {
-        "is in step, and has no every and phase"
-    } else {
-        ""
+    match item.value.as_table() {
+        Some(table) if lacks_way(table) => "has no path",
+        Some(table) if lacks_octets(table) => "has no octets",
+        Some(table) if lacks_turns(table) => "is in step, and has no every and phase",
+        _ => "",
     }
 }
 
@@ -282,7 +262,11 @@ fn tell_full(
             continue;
         };
         let (place, number) = (link.item.place(), link.item.number);
-        let (edge, rate, all) = (network.edge_of(link), link.rate, in_tenths(alloc, all)?);
+        let (edge, rate, all) = (
+            network.edge_of(link),
+            link.item.number("rate"),
+            in_tenths(alloc, all)?,
+        );
         told.tell(format!(in alloc;
             "{place}: link {number}, {station}>{edge}: its streams take {all} Mb/s of {rate}: {words}"
         )?)?;

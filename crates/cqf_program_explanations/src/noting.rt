@@ -4,21 +4,17 @@ ghost use Rattle.cqf_program_explanations.specs.Explanations.{AreNotes};
 
 use crate::explaining::NamedFile;
 use crate::given::{CommandInput, given_of};
-use crate::network::delays_of;
 use crate::parts::takes_domain;
-use crate::places::Grouped;
+use crate::places::{Grouped, Place};
 use crate::planning::listeners_of;
 use crate::refusal::refusal_of;
 use crate::stream_faults::{WrittenStream, streams_of};
 use crate::told::ToldLines;
-use crate::words::shortened;
-use crate::written::{FoundKey, KeyOwner, WrittenItem};
+use crate::words::{shortened, some_of};
+use crate::written::{KeyOwner, WrittenItem};
 use cqf_model::Limits;
 use std::alloc::{AllocError, Global};
 use std::collections::BTreeSet;
-
-/// How many bridges a note names.
-const MOST_NAMED: usize = 8;
 
 /// A key whose values in nanoseconds may be meant in microseconds if all of a plan's are below a bound.
 #[derive(Clone, Copy, Debug)]
@@ -56,8 +52,7 @@ const NANOS_KEYS: [NanosKey; 4] = [
 /// Returns the number at a key; of two delays the greatest.
 fn greatest_at(item: &WrittenItem<'_>, key: &str) -> u64 {
     if key == "delay" {
-        let (_, greatest) = delays_of(item);
-        return greatest;
+        return item.times().map_or(0, |times| u64::from(times.delay));
     }
     item.number(key)
 }
@@ -94,22 +89,6 @@ fn note_nanos(
     )?)
 }
 
-/// Returns the names of bridges, followed by `..` if there are more.
-fn names_of(alloc: Global, bridges: &[FoundKey<'_>]) -> Result<String, AllocError> {
-    let mut names = String::new(alloc);
-    for found in bridges.iter().take(MOST_NAMED) {
-        let name = shortened(alloc, found.value.as_str().unwrap_or(""))?;
-        if !names.is_empty() {
-            names.push_str(", ")?;
-        }
-        names.push_str(name.as_str())?;
-    }
-    if bridges.len() > MOST_NAMED {
-        names.push_str(", ..")?;
-    }
-    Ok(names)
-}
-
 /// Notes the bridges that have no link.
 fn note_bridges(given: &CommandInput<'_>, told: &mut ToldLines) -> Result<(), AllocError> {
     let mut linked: BTreeSet<&str> = BTreeSet::new(given.alloc);
@@ -118,17 +97,19 @@ fn note_bridges(given: &CommandInput<'_>, told: &mut ToldLines) -> Result<(), Al
         linked.insert(link.from)?;
         linked.insert(link.to)?;
     }
+    let mut first: Option<Place<'_>> = None;
     let mut apart = Vec::new(given.alloc);
     for found in &given.written.names("bridges")? {
-        if !linked.contains(found.value.as_str().unwrap_or("")) {
-            apart.push(*found)?;
+        let name = found.value.as_str().unwrap_or("");
+        if !linked.contains(name) {
+            first = first.or(Some(found.place));
+            apart.push(name)?;
         }
     }
-    let Some(first) = apart.first() else {
+    let Some(place) = first else {
         return Ok(());
     };
-    let (place, count) = (first.place, apart.len());
-    let names = names_of(given.alloc, apart.as_slice())?;
+    let (count, names) = (apart.len(), some_of(given.alloc, apart.as_slice())?);
     told.tell(if count == 1 {
         format!(in given.alloc; "{place}: the bridge {names} has no link")?
     } else {
@@ -143,8 +124,8 @@ fn hears_itself(
     talker: &str,
 ) -> Result<bool, AllocError> {
     let listeners = listeners_of(alloc, &asked.item)?;
-    let is_end = |path: &Vec<&str>| path.last().copied() == Some(talker);
-    Ok(listeners.contains(&talker) || asked.paths.iter().any(is_end))
+    let is_end = |path: &Vec<String>| path.last().is_some_and(|last| last.as_str() == talker);
+    Ok(listeners.contains(&talker) || asked.request.paths.iter().any(is_end))
 }
 
 /// Notes each stream whose talker is one of its listeners.

@@ -1,11 +1,9 @@
 //! The parts of the input, each with its file.
 
 use crate::explaining::NamedFile;
+use cqf_program_files::MOST_FILES;
 use cqf_text::parts;
 use std::alloc::{AllocError, Global};
-
-/// The most files that are one plan.
-const MOST_FILES: usize = 16;
 
 /// A text that is one part of the input, or a file of a plan of several.
 #[derive(Clone, Copy, Debug)]

@@ -1,6 +1,5 @@
 //! Streams of a network file that aren't placed, or may be late.
 
-use crate::access::edge_promise;
 use crate::domain_faults::{tell_guard_at, tell_link_guards_at};
 use crate::given::CommandInput;
 use crate::network::Network;
@@ -11,14 +10,15 @@ use crate::places::Grouped;
 use crate::planning::{
     candidates_of, is_in_step, listeners_of, longest_frame, nanos_question, time_on,
 };
+use crate::reading::{edge_traffic, read_network};
 use crate::refusal::Refusal;
-use crate::stream_faults::{FormFault, form_fault_of, tell_form_faults};
+use crate::stream_faults::{is_of_form, tell_beyond, tell_form_faults, tell_names_twice};
 use crate::told::ToldLines;
 use crate::words::{question, shortened};
 use crate::written::{KeyOwner, WrittenItem};
 use cqf_model::LARGE;
+use cqf_traffic::Traffic;
 use std::alloc::{AllocError, Global};
-use std::collections::BTreeMap;
 
 /// What a line of the command says about a stream: its name, the fault, and what follows the fault.
 #[derive(Clone, Copy, Debug)]
@@ -149,27 +149,6 @@ fn tell_no_listeners(given: &CommandInput<'_>, told: &mut ToldLines) -> Result<(
     Ok(())
 }
 
-/// Reports each stream whose name an earlier one has.
-fn tell_names_twice(given: &CommandInput<'_>, told: &mut ToldLines) -> Result<(), AllocError> {
-    let mut firsts: BTreeMap<&str, WrittenItem<'_>> = BTreeMap::new(given.alloc);
-    for item in &given.written.items(KeyOwner::Stream)? {
-        let name = item.text("name").unwrap_or("");
-        if let Some(first) = firsts.get(name) {
-            if told.is_counted() {
-                continue;
-            }
-            let (place, label) = (item.place_of("name"), item.counted(given.alloc)?);
-            let (number, first) = (first.number.saturating_add(1), first.place_of("name"));
-            told.tell(format!(in given.alloc;
-                "{place}: {label}: stream {number} at {first} already has this name"
-            )?)?;
-        } else {
-            firsts.insert(name, *item)?;
-        }
-    }
-    Ok(())
-}
-
 /// Reports a deadline that is over before a frame is whole at its edge bridge.
 fn tell_too_soon(
     given: &CommandInput<'_>,
@@ -183,7 +162,10 @@ fn tell_too_soon(
         return Ok(());
     };
     let (from, to) = (ends_of_talker(talker).0, network.edge_of(link));
-    let (taken, deadline) = (time_on(link, longest_frame(item)), item.number("deadline"));
+    let Some(times) = link.times else {
+        return Ok(());
+    };
+    let (taken, deadline) = (time_on(times, longest_frame(item)), item.number("deadline"));
     let waits = if taken < deadline {
         " beside what it waits for there"
     } else {
@@ -336,7 +318,7 @@ fn tell_many_hops(
             return tell_wide(given, told, item);
         }
     }
-    tell_form_faults(given, told, FormFault::TooManyHops)
+    tell_form_faults(given, told, "TooManyHops")
 }
 
 /// Returns the cycle time that was tried, in ns: that of the line, or else the first candidate.
@@ -347,6 +329,18 @@ fn cycle_tried(given: &CommandInput<'_>, refusal: Refusal<'_>) -> Result<u64, Al
     }
     let candidates = candidates_of(given)?;
     Ok(candidates.first().copied().unwrap_or(0))
+}
+
+/// Returns what a stream promises at its edge bridge; `None` if it promises nothing there.
+fn traffic_of(
+    given: &CommandInput<'_>,
+    item: &WrittenItem<'_>,
+) -> Result<Option<Traffic>, AllocError> {
+    let Some(network) = read_network(given)? else {
+        return Ok(None);
+    };
+    let all = edge_traffic(given, &network)?;
+    Ok(all.get(item.number as usize).copied().flatten())
 }
 
 /// Returns what in a stream's traffic prevents its talker from being in step on a cycle time, in ns: the key, and words; `None` if nothing
@@ -365,11 +359,11 @@ fn step_words(
         let words = uneven_words(alloc, item, cycle)?;
         return Ok(Some(("interval", words)));
     }
-    let Some(edge) = edge_promise(given, &given.network()?, item)? else {
+    let Some(traffic) = traffic_of(given, item)? else {
         return Ok(None);
     };
-    let first = edge.in_step.offset.checked_rem(cycle).unwrap_or(0);
-    let latest = first.saturating_add(edge.in_step.jitter);
+    let first = traffic.offset().0.checked_rem(cycle).unwrap_or(0);
+    let latest = first.saturating_add(traffic.jitter().0);
     if first < sync {
         let words = first_words(alloc, first, sync)?;
         return Ok(Some(("offset", words)));
@@ -445,14 +439,7 @@ fn tell_unplaced(
         "BudgetShort" => tell_short(given, told, item, unplaced.value),
         "Full" => tell_full(given, told, item, unplaced.value),
         "Late" => tell_late(given, told, item, unplaced.value),
-        "TooManyStreams" => {
-            let (place, label) = (item.place(), item.counted(given.alloc)?);
-            let most = Grouped(given.limits.streams_within() as u64);
-            let larger = given.larger(LARGE.streams_within() as u64)?;
-            told.tell(format!(in given.alloc;
-                "{place}: {label}: at most {most} streams can be held at once{larger}"
-            )?)
-        }
+        "TooManyStreams" => tell_beyond(given, told, item),
         _ => Ok(()),
     }
 }
@@ -488,8 +475,8 @@ pub(crate) fn tell_plan(
         "TooManyHops" => return tell_many_hops(given, told, unplaced.stream),
         _ => {}
     }
-    if let Some(fault) = form_fault_of(unplaced.fault) {
-        return tell_form_faults(given, told, fault);
+    if is_of_form(unplaced.fault) {
+        return tell_form_faults(given, told, unplaced.fault);
     }
     for item in &given.written.items(KeyOwner::Stream)? {
         if item.text("name") == Some(unplaced.stream) {

@@ -3,6 +3,8 @@
 use crate::given::CommandInput;
 use crate::network::{Network, WrittenLink};
 use crate::written::{WrittenItem, number_of};
+use cqf_topology::LinkTimes;
+use cqf_units::time_of;
 use std::alloc::{AllocError, Global};
 use toml::Value;
 
@@ -63,19 +65,6 @@ pub(crate) fn talker_of<'p>(network: &Network<'_>, link: &WrittenLink<'p>) -> Op
     }
 }
 
-/// The keys of a stream's traffic.
-const TRAFFIC: [&str; 5] = ["interval", "frames", "size", "jitter", "offset"];
-
-/// Returns whether a stream has traffic.
-pub(crate) fn has_traffic(item: &WrittenItem<'_>) -> bool {
-    for key in &TRAFFIC {
-        if item.get(*key).is_some() {
-            return true;
-        }
-    }
-    false
-}
-
 /// Below how many ns an interval or a deadline may be meant in microseconds: the shortest cycle time.
 const SHORTEST_CYCLE: u64 = 10_000;
 
@@ -110,9 +99,9 @@ pub(crate) fn longest_frame(item: &WrittenItem<'_>) -> u64 {
 }
 
 /// Returns how long an access link takes until a frame is whole at the edge bridge, in ns.
-pub(crate) fn time_on(link: &WrittenLink<'_>, octets: u64) -> u64 {
-    let octets = octets.saturating_add(PREAMBLE);
-    link.time_of(octets).saturating_add(link.delay)
+pub(crate) fn time_on(times: LinkTimes, octets: u64) -> u64 {
+    let octets = octets.min(LONGEST_FRAME) + PREAMBLE;
+    time_of(octets, times.rate).saturating_add(u64::from(times.delay))
 }
 
 /// Returns the listeners of a stream that has ends: one name, or an array of them.

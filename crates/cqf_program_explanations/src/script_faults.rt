@@ -8,12 +8,10 @@ use crate::table_faults::place_of_offer;
 use crate::told::ToldLines;
 use crate::words::{question, shown};
 use crate::written::KeyOwner;
+use cqf_admission::{MOST_CALLS, is_order, is_seal_line};
 use cqf_text::read_decimal;
 use std::alloc::{AllocError, Global};
 use std::collections::BTreeSet;
-
-/// The most calls of a script.
-const MOST_CALLS: u64 = 100_000;
 
 /// The last cycle that a line may state.
 const LAST_TOLD: u64 = 4_294_967_295;
@@ -76,11 +74,6 @@ fn cycle_of(line: &ScriptLine<'_>) -> Option<u64> {
     read_decimal(number, 0, LAST_TOLD)
 }
 
-/// Returns whether a line is `seal`.
-fn is_seal(line: &ScriptLine<'_>) -> bool {
-    line.text == b"seal".as_slice()
-}
-
 impl ScriptCounts {
     /// Returns the counts before the first line.
     fn none() -> ScriptCounts {
@@ -93,7 +86,7 @@ impl ScriptCounts {
 
     /// Returns the counts after a line.
     fn behind(self, line: &ScriptLine<'_>) -> ScriptCounts {
-        if is_seal(line) {
+        if is_seal_line(line.text) {
             ScriptCounts {
                 seals: self.seals.saturating_add(1),
                 calls: self.calls,
@@ -173,11 +166,6 @@ fn is_verb(word: &[u8]) -> bool {
     word == b"admit".as_slice() || word == b"withdraw".as_slice()
 }
 
-/// Returns whether a word may name a stream.
-fn is_word(word: &[u8]) -> bool {
-    !word.is_empty() && word.len() <= 64 && word.iter().all(|byte| byte.is_ascii_graphic())
-}
-
 /// Returns what is wrong with a line of three words, in words.
 fn wrong_call(alloc: Global, seat: &[u8], verb: &[u8]) -> Result<String, AllocError> {
     if !is_seat(seat) {
@@ -215,24 +203,11 @@ fn wrong_words(alloc: Global, text: &[u8]) -> Result<String, AllocError> {
     }
 }
 
-/// Returns whether a text is a call: a digit, `admit` or `withdraw`, and a name, with one blank between.
-fn is_call(text: &[u8]) -> bool {
-    match *text {
-        [seat, b' ', ref call @ ..] if is_seat(&[seat]) => {
-            let name = call
-                .strip_prefix(b"admit ")
-                .or(call.strip_prefix(b"withdraw "));
-            name.is_some_and(is_word)
-        }
-        _ => false,
-    }
-}
-
 /// Returns whether a line has a form that a line may have there.
 fn is_good(line: &ScriptLine<'_>, counts: ScriptCounts) -> bool {
     match cycle_of(line) {
         Some(cycle) => cycle >= counts.cycle,
-        None => is_seal(line) || is_call(line.text),
+        None => is_seal_line(line.text) || is_order(line.text),
     }
 }
 
@@ -356,7 +331,7 @@ pub(crate) fn tell_too_many_lines(
     let (mut counts, mut first) = (ScriptCounts::none(), None);
     for line in &lines_of(given, *part)? {
         counts = counts.behind(line);
-        if first.is_none() && (counts.seals > cycles || counts.calls > MOST_CALLS) {
+        if first.is_none() && (counts.seals > cycles || counts.calls > MOST_CALLS as u64) {
             first = Some(line.place);
         }
     }
@@ -368,7 +343,7 @@ pub(crate) fn tell_too_many_lines(
         Grouped(counts.calls),
         Grouped(cycles),
     );
-    let line = if counts.calls > MOST_CALLS {
+    let line = if counts.calls > MOST_CALLS as u64 {
         format!(in given.alloc; "{place}: {calls} calls: a script has at most 100,000")?
     } else {
         format!(in given.alloc; "{place}: {seals} lines are seal, and {cycles} cycles are run")?

@@ -4,102 +4,21 @@ use crate::forms::{EVERY_FORM, NAME_FORM, PHASE_FORM};
 use crate::given::CommandInput;
 use crate::network::Network;
 use crate::places::{Grouped, Place};
+use crate::reading::{read_domain, request_of};
 use crate::told::ToldLines;
 use crate::words::shortened;
 use crate::written::{KeyOwner, WrittenItem, number_of};
-use cqf_model::{LARGE, MOST_OCTETS};
-use cqf_units::Name;
+use cqf_admission::{count_places, find_tree, judge_paced};
+use cqf_model::{LARGE, MOST_EVERY, Node, Refused};
+use cqf_topology::{Domain, PacedRequest};
 use std::alloc::{AllocError, Global};
-use std::collections::BTreeMap;
-use toml::Value;
+use std::collections::{BTreeMap, BTreeSet};
 
-/// In which cycles a stream is offered: in one of `every`, from `phase` on.
-#[derive(Clone, Copy, Debug)]
-pub(crate) struct WrittenPace {
-    pub every: u64,
-    pub phase: u64,
-}
-
-/// A stream as it is written.
+/// A stream as it is written, and its request.
 #[derive(Drop)]
 pub(crate) struct WrittenStream<'p> {
     pub item: WrittenItem<'p>,
-    pub name: &'p str,
-    /// What it reserves, in octets a cycle.
-    pub octets: u64,
-    /// In which cycles it is offered.
-    pub pace: WrittenPace,
-    /// Its paths, each its bridges in order and then a station.
-    pub paths: Vec<Vec<&'p str>>,
-}
-
-/// Why a stream is refused for its own form, in the order of the checks.
-#[derive(Clone, Copy, Debug, PartialEq, Eq)]
-pub(crate) enum FormFault {
-    BadName,
-    BadOctets,
-    BadPace,
-    UnknownNode,
-    BrokenPath,
-    LoopingPath,
-    NotATree,
-    TooManyHops,
-}
-
-/// The first thing that is wrong with a path.
-#[derive(Clone, Copy, Debug)]
-enum WrongPath<'p> {
-    Empty,
-    BeginsAtStation(&'p str),
-    NoLink(&'p str, &'p str),
-    EndsAtBridge(&'p str),
-    TooLong,
-}
-
-/// All streams repeat after this many cycles: each `every` divides them.
-pub(crate) const MOST_EVERY: u64 = 80;
-
-/// Returns the texts of an array.
-fn texts_of<'p>(alloc: Global, value: &'p Value) -> Result<Vec<&'p str>, AllocError> {
-    let mut texts = Vec::new(alloc);
-    if let Some(values) = value.as_array() {
-        for element in values {
-            texts.push(element.as_str().unwrap_or(""))?;
-        }
-    }
-    Ok(texts)
-}
-
-/// Returns the paths of a stream.
-fn paths_of<'p>(alloc: Global, item: &WrittenItem<'p>) -> Result<Vec<Vec<&'p str>>, AllocError> {
-    let mut paths = Vec::new(alloc);
-    if let Some(path) = item.get("path") {
-        paths.push(texts_of(alloc, path)?)?;
-    } else if let Some(values) = item.get("paths").and_then(Value::as_array) {
-        for value in values {
-            paths.push(texts_of(alloc, value)?)?;
-        }
-    }
-    Ok(paths)
-}
-
-/// Returns in which cycles a stream is offered: in each, if nothing is written.
-fn pace_of(item: &WrittenItem<'_>) -> WrittenPace {
-    WrittenPace {
-        every: item.get("every").map_or(1, number_of),
-        phase: item.number("phase"),
-    }
-}
-
-/// Returns a stream as it is written.
-fn asked_of<'p>(alloc: Global, item: &WrittenItem<'p>) -> Result<WrittenStream<'p>, AllocError> {
-    Ok(WrittenStream {
-        item: *item,
-        name: item.text("name").unwrap_or(""),
-        octets: item.number("octets"),
-        pace: pace_of(item),
-        paths: paths_of(alloc, item)?,
-    })
+    pub request: PacedRequest,
 }
 
 /// Returns the streams of the plan.
@@ -108,226 +27,52 @@ pub(crate) fn streams_of<'p>(
 ) -> Result<Vec<WrittenStream<'p>>, AllocError> {
     let mut streams = Vec::new(given.alloc);
     for item in &given.written.items(KeyOwner::Stream)? {
-        streams.push(asked_of(given.alloc, item)?)?;
+        streams.push(WrittenStream {
+            item: *item,
+            request: request_of(given.alloc, item)?,
+        })?;
     }
     Ok(streams)
 }
 
-/// Returns whether a path names no node at some index.
-fn has_unknown(network: &Network<'_>, path: &[&str]) -> bool {
-    path.iter().any(|name| !network.is_node(name))
-}
-
-/// Returns the first step of a path for which there is no link.
-fn first_gap<'p>(network: &Network<'_>, path: &[&'p str]) -> Option<(&'p str, &'p str)> {
-    let behind = path.iter().skip(1);
-    for (from, to) in path.iter().zip(behind) {
-        if !network.leads(from, to) {
-            return Some((*from, *to));
-        }
-    }
-    None
-}
-
-/// Returns the first thing that is wrong with a path whose nodes are there.
-fn broken_of<'p>(network: &Network<'_>, path: &[&'p str]) -> Option<WrongPath<'p>> {
-    let (Some(first), Some(last)) = (path.first(), path.last()) else {
-        return Some(WrongPath::Empty);
-    };
-    if !network.is_bridge(first) {
-        return Some(WrongPath::BeginsAtStation(first));
-    }
-    let most = network.limits.nodes_within();
-    let within = path.get(..most).unwrap_or(path);
-    if let Some((from, to)) = first_gap(network, within) {
-        Some(WrongPath::NoLink(from, to))
-    } else if path.len() > most {
-        Some(WrongPath::TooLong)
-    } else if network.is_bridge(last) {
-        Some(WrongPath::EndsAtBridge(last))
-    } else {
-        None
+/// Returns whether a link leads from one node of a domain to another.
+pub(crate) fn leads(domain: &Domain, from: &str, to: &str) -> bool {
+    match (domain.find(from), domain.find(to)) {
+        (Some(Node::Bridge(from)), Some(to)) => domain.find_link(from, to).is_some(),
+        _ => false,
     }
 }
 
-/// Returns the first node of a path that occurred before, with its position and the earlier one, from 1.
-fn loop_of<'p>(path: &[&'p str]) -> Option<(&'p str, usize, usize)> {
-    for (place, name) in path.iter().enumerate() {
-        let first = path.iter().position(|other| other == name)?;
-        if first < place {
-            return Some((*name, first.saturating_add(1), place.saturating_add(1)));
-        }
-    }
-    None
+/// Returns whether a name is one of a domain's bridges.
+fn is_bridge(domain: &Domain, name: &str) -> bool {
+    matches!(domain.find(name), Some(Node::Bridge(_)))
 }
 
-/// Why a path makes no tree with one before it.
-#[derive(Clone, Copy, Debug)]
-enum Stray<'p> {
-    /// It doesn't begin where the one before does.
-    Begins(&'p str, &'p str),
-    /// It is the same as the one before.
-    Same,
-    /// A node is reached in two ways.
-    Meets(&'p str),
+/// Returns why paths are no tree of a domain.
+fn refusal_of(domain: &Domain, paths: &[Vec<String>]) -> Option<Refused> {
+    if count_places(paths).is_none() {
+        return None;
+    }
+    find_tree(domain, paths).err()
 }
 
-/// How a node is reached: from which node before it, and by which path first, from 0.
-#[derive(Clone, Copy, Debug)]
-struct Reached<'p> {
-    from: &'p str,
-    path: usize,
-}
-
-/// The tree of some good paths, as far as they make one.
-#[derive(Drop)]
-struct PathTree<'p> {
-    root: Option<&'p str>,
-    nodes: BTreeMap<&'p str, Reached<'p>>,
-}
-
-impl<'p> PathTree<'p> {
-    /// Returns the tree of no path.
-    fn new(alloc: Global) -> PathTree<'p> {
-        PathTree {
-            root: None,
-            nodes: BTreeMap::new(alloc),
-        }
-    }
-
-    /// Returns how many links it has.
-    fn hops(&self) -> usize {
-        self.nodes.len()
-    }
-
-    /// Returns the first node of a path that an earlier path reaches in another way, and that path.
-    fn meeting(&self, path: &[&'p str]) -> Option<(Stray<'p>, usize)> {
-        let behind = path.iter().skip(1);
-        for (from, to) in path.iter().zip(behind) {
-            if let Some(reached) = self.nodes.get(*to) {
-                if reached.from != *from {
-                    return Some((Stray::Meets(*to), reached.path));
-                }
-            }
-        }
-        None
-    }
-
-    /// Returns why a path makes no tree with those before it, and the first of them with which it makes none.
-    fn stray_of(&self, path: &[&'p str]) -> Option<(Stray<'p>, usize)> {
-        let (root, first, last) = (self.root?, path.first()?, path.last()?);
-        if root != *first {
-            return Some((Stray::Begins(*first, root), 0));
-        }
-        let met = self.meeting(path);
-        if met.is_some() {
-            return met;
-        }
-        let reached = self.nodes.get(*last)?;
-        Some((Stray::Same, reached.path))
-    }
-
-    /// Adds a path, which makes a tree with those before it.
-    fn put(&mut self, number: usize, path: &[&'p str]) -> Result<(), AllocError> {
-        if self.root.is_none() {
-            self.root = path.first().copied();
-        }
-        let behind = path.iter().skip(1);
-        for (from, to) in path.iter().zip(behind) {
-            if !self.nodes.contains_key(*to) {
-                let reached = Reached {
-                    from: *from,
-                    path: number,
-                };
-                self.nodes.insert(*to, reached)?;
-            }
-        }
-        Ok(())
-    }
-}
-
-/// Returns how many links the tree of some good paths has; `None` if they make none.
-fn hops_of(alloc: Global, paths: &[Vec<&str>]) -> Result<Option<usize>, AllocError> {
-    let mut tree = PathTree::new(alloc);
-    for (number, path) in paths.iter().enumerate() {
-        if tree.stray_of(path.as_slice()).is_some() {
-            return Ok(None);
-        }
-        tree.put(number, path.as_slice())?;
-    }
-    Ok(Some(tree.hops()))
-}
-
-/// Returns whether there are no paths, or one of them is broken.
-fn are_broken(network: &Network<'_>, paths: &[Vec<&str>]) -> bool {
-    paths.is_empty()
-        || paths
-            .iter()
-            .any(|path| broken_of(network, path.as_slice()).is_some())
-}
-
-impl WrittenPace {
-    /// Returns whether `every` divides the number of cycles after which everything repeats.
-    fn divides(self) -> bool {
-        MOST_EVERY.checked_rem(self.every) == Some(0)
-    }
-
-    /// Returns whether the stream's frames are in this cycle on a link to which `depth` links lead: they are on each link a cycle later
-    /// than on the one before.
-    pub(crate) fn is_turn(self, depth: u64, cycle: u64) -> bool {
-        let offered = self.phase.saturating_add(depth);
-        offered.checked_rem(self.every) == cycle.checked_rem(self.every)
-    }
-
-    /// Returns whether there are such cycles.
-    fn is_good(self) -> bool {
-        self.divides() && self.phase < self.every
-    }
+/// Returns why a path by itself is none of a domain.
+fn refusal_of_path(domain: &Domain, paths: &[Vec<String>], number: usize) -> Option<Refused> {
+    refusal_of(domain, paths.get(number..number.saturating_add(1))?)
 }
 
 impl WrittenStream<'_> {
-    /// Returns why the stream is refused for its own form.
-    pub(crate) fn form_fault(
-        &self,
-        alloc: Global,
-        network: &Network<'_>,
-    ) -> Result<Option<FormFault>, AllocError> {
-        let fault = self.plain_fault(network);
-        if fault.is_some() || !self.has_paths() {
-            return Ok(fault);
+    /// Returns why the stream is refused for its own form. If it has only its ends, its paths aren't judged.
+    fn refusal(&self, domain: &Domain) -> Option<Refused> {
+        if count_places(self.request.paths.as_slice()).is_none() {
+            return None;
         }
-        let most = network.limits.hops_within();
-        Ok(match hops_of(alloc, self.paths.as_slice())? {
-            None => Some(FormFault::NotATree),
-            Some(hops) if hops > most => Some(FormFault::TooManyHops),
-            Some(_) => None,
-        })
-    }
-
-    /// Returns the same, except for the tree of its paths.
-    fn plain_fault(&self, network: &Network<'_>) -> Option<FormFault> {
-        let paths = self.paths.as_slice();
-        if Name::new(self.name.as_bytes()).is_none() {
-            Some(FormFault::BadName)
-        } else if self.item.get("octets").is_some()
-            && (self.octets < 64 || self.octets > u64::from(MOST_OCTETS))
-        {
-            Some(FormFault::BadOctets)
-        } else if !self.pace.is_good() {
-            Some(FormFault::BadPace)
-        } else if !self.has_paths() {
-            None
-        } else if paths
-            .iter()
-            .any(|path| has_unknown(network, path.as_slice()))
-        {
-            Some(FormFault::UnknownNode)
-        } else if are_broken(network, paths) {
-            Some(FormFault::BrokenPath)
-        } else if paths.iter().any(|path| loop_of(path.as_slice()).is_some()) {
-            Some(FormFault::LoopingPath)
-        } else {
-            None
+        match judge_paced(domain, &self.request) {
+            Err(refused @ (Refused::BadName | Refused::BadOctets | Refused::BadPace)) => Some(
+                refused,
+            ),
+            Err(refused) if self.has_paths() => Some(refused),
+            _ => None,
         }
     }
 
@@ -336,18 +81,25 @@ impl WrittenStream<'_> {
         self.item.get("path").is_some() || self.item.get("paths").is_some()
     }
 
-    /// Returns the key of its paths.
-    fn paths_key(&self) -> &'static str {
-        if self.item.get("path").is_some() {
+    /// Returns the place of its paths.
+    fn paths_place(&self) -> Place<'_> {
+        let key = if self.item.get("path").is_some() {
             "path"
         } else {
             "paths"
-        }
+        };
+        self.item.place_of(key)
     }
 
-    /// Returns the place of its paths.
-    fn paths_place(&self) -> Place<'_> {
-        self.item.place_of(self.paths_key())
+    /// Reports something about its paths.
+    fn tell_of_paths(
+        &self,
+        alloc: Global,
+        told: &mut ToldLines,
+        words: &str,
+    ) -> Result<(), AllocError> {
+        let (place, label) = (self.paths_place(), self.item.counted(alloc)?);
+        told.tell(format!(in alloc; "{place}: {label}: {words}")?)
     }
 }
 
@@ -357,8 +109,9 @@ fn tell_pace(
     told: &mut ToldLines,
     asked: &WrittenStream<'_>,
 ) -> Result<(), AllocError> {
-    let (label, WrittenPace { every, phase }) = (asked.item.counted(given.alloc)?, asked.pace);
-    if !asked.pace.divides() {
+    let label = asked.item.counted(given.alloc)?;
+    let (every, phase) = (asked.request.every, asked.request.phase);
+    if MOST_EVERY.checked_rem(every) != Some(0) {
         let place = asked.item.place_of("every");
         return told.tell(format!(in given.alloc;
             "{place}: {label}: every = {every}: {EVERY_FORM}"
@@ -385,66 +138,73 @@ fn tell_unknown_nodes(
     network: &Network<'_>,
     asked: &WrittenStream<'_>,
 ) -> Result<(), AllocError> {
-    let (place, label) = (asked.paths_place(), asked.item.counted(given.alloc)?);
-    for path in &asked.paths {
+    for path in &asked.request.paths {
         for name in path {
-            if !network.is_node(name) && !told.is_counted() {
-                let shown = shortened(given.alloc, name)?;
-                let question = network.node_question(given.alloc, name)?;
-                told.tell(format!(in given.alloc;
-                    "{place}: {label}: no bridge or station {shown}{question}"
-                )?)?;
+            if !network.is_node(name.as_str()) && !told.is_counted() {
+                let shown = shortened(given.alloc, name.as_str())?;
+                let question = network.node_question(given.alloc, name.as_str())?;
+                let words = format!(in given.alloc; "no bridge or station {shown}{question}")?;
+                asked.tell_of_paths(given.alloc, told, words.as_str())?;
             }
         }
     }
     Ok(())
 }
 
-/// Returns what is wrong with a path, in words.
+/// Returns the name at an index of a path; an empty one if there is none.
+fn name_at(path: &[String], place: usize) -> &str {
+    match path.get(place) {
+        Some(name) => name.as_str(),
+        None => "",
+    }
+}
+
+/// Returns why a path is broken at an index, in words.
 fn broken_words(
     given: &CommandInput<'_>,
-    network: &Network<'_>,
-    broken: WrongPath<'_>,
+    domain: &Domain,
+    path: &[String],
+    place: usize,
 ) -> Result<String, AllocError> {
-    let alloc = given.alloc;
-    let larger = given.larger(LARGE.nodes_within().saturating_sub(1) as u64)?;
-    match broken {
-        WrongPath::Empty => String::from_str(
+    let (alloc, most) = (given.alloc, domain.limits().nodes_within());
+    let (from, name) = (name_at(path, place.saturating_sub(1)), name_at(path, place));
+    if path.is_empty() {
+        return String::from_str(
             alloc,
             "the path is empty: it names bridges in order and then a station",
-        ),
-        WrongPath::BeginsAtStation(name) => {
-            format!(in alloc; "the path begins at the station {name}: it begins at a bridge")
-        }
-        WrongPath::NoLink(from, to) => format!(in alloc; "no link {from}>{to}"),
-        WrongPath::EndsAtBridge(name) => {
-            format!(in alloc; "the path ends at the bridge {name}: a path ends at a station")
-        }
-        WrongPath::TooLong => {
-            let most = network.limits.nodes_within().saturating_sub(1);
-            format!(in alloc; "the path has more than {most} bridges{larger}")
-        }
+        );
     }
+    if place >= most {
+        let most = most.saturating_sub(1);
+        let larger = given.larger(LARGE.nodes_within().saturating_sub(1) as u64)?;
+        return format!(in alloc; "the path has more than {most} bridges{larger}");
+    }
+    if place == 0 && !is_bridge(domain, name) {
+        return format!(in alloc; "the path begins at the station {name}: it begins at a bridge");
+    }
+    if place > 0 && !leads(domain, from, name) {
+        return format!(in alloc; "no link {from}>{name}");
+    }
+    format!(in alloc; "the path ends at the bridge {name}: a path ends at a station")
 }
 
 /// Reports each broken path of a stream.
 fn tell_broken_paths(
     given: &CommandInput<'_>,
     told: &mut ToldLines,
-    network: &Network<'_>,
+    domain: &Domain,
     asked: &WrittenStream<'_>,
 ) -> Result<(), AllocError> {
-    let (place, label) = (asked.paths_place(), asked.item.counted(given.alloc)?);
-    if asked.paths.is_empty() {
-        return told.tell(format!(in given.alloc; "{place}: {label}: there is no path")?);
+    let paths = asked.request.paths.as_slice();
+    if paths.is_empty() {
+        return asked.tell_of_paths(given.alloc, told, "there is no path");
     }
-    for path in &asked.paths {
-        let Some(broken) = broken_of(network, path.as_slice()) else {
-            continue;
-        };
-        if !told.is_counted() {
-            let words = broken_words(given, network, broken)?;
-            told.tell(format!(in given.alloc; "{place}: {label}: {words}")?)?;
+    for (number, path) in paths.iter().enumerate() {
+        if let Some(Refused::BrokenPath(place)) = refusal_of_path(domain, paths, number) {
+            if !told.is_counted() {
+                let words = broken_words(given, domain, path.as_slice(), place)?;
+                asked.tell_of_paths(given.alloc, told, words.as_str())?;
+            }
         }
     }
     Ok(())
@@ -454,57 +214,125 @@ fn tell_broken_paths(
 fn tell_loops(
     given: &CommandInput<'_>,
     told: &mut ToldLines,
+    domain: &Domain,
     asked: &WrittenStream<'_>,
 ) -> Result<(), AllocError> {
-    let (place, label) = (asked.paths_place(), asked.item.counted(given.alloc)?);
-    for path in &asked.paths {
-        let Some((name, first, second)) = loop_of(path.as_slice()) else {
+    let paths = asked.request.paths.as_slice();
+    for (number, path) in paths.iter().enumerate() {
+        let Some(Refused::LoopingPath(place)) = refusal_of_path(domain, paths, number) else {
             continue;
         };
-        if !told.is_counted() {
-            told.tell(format!(in given.alloc;
-                "{place}: {label}: {name} is node {second} of the path, and was node {first} before"
-            )?)?;
+        if told.is_counted() {
+            continue;
         }
+        let name = name_at(path.as_slice(), place);
+        let first = path.iter().position(|other| other.as_str() == name);
+        let (first, second) = (
+            first.unwrap_or(0).saturating_add(1),
+            place.saturating_add(1),
+        );
+        let words = format!(in given.alloc;
+            "{name} is node {second} of the path, and was node {first} before"
+        )?;
+        asked.tell_of_paths(given.alloc, told, words.as_str())?;
     }
     Ok(())
+}
+
+/// Returns whether two paths make no tree in a domain.
+fn are_apart(
+    alloc: Global,
+    domain: &Domain,
+    first: &[String],
+    second: &[String],
+) -> Result<bool, AllocError> {
+    let mut pair = Vec::new(alloc);
+    for path in [first, second] {
+        let mut copy = Vec::new(alloc);
+        for name in path {
+            copy.push(String::from_str(alloc, name.as_str())?)?;
+        }
+        pair.push(copy)?;
+    }
+    Ok(matches!(
+        refusal_of(domain, pair.as_slice()),
+        Some(Refused::NotATree(_))
+    ))
+}
+
+/// Returns the first node of a path after its common beginning with another path that is in this one too.
+fn meeting<'p>(first: &[String], second: &'p [String]) -> Option<&'p str> {
+    let same = first
+        .iter()
+        .zip(second)
+        .take_while(|(a, b)| a.as_str() == b.as_str());
+    let after = same.count();
+    let rest = first.get(after..)?;
+    let met = second.get(after..)?.iter().find(|name| {
+        rest.iter().any(|other| other.as_str() == name.as_str())
+    })?;
+    Some(met.as_str())
 }
 
 /// Returns why two paths make no tree, in words; paths are numbered from 1.
 fn stray_words(
     alloc: Global,
-    stray: Stray<'_>,
+    paths: &[Vec<String>],
     first: usize,
     second: usize,
 ) -> Result<String, AllocError> {
+    let (one, other): (&[String], &[String]) = match (paths.get(first), paths.get(second)) {
+        (Some(one), Some(other)) => (one.as_slice(), other.as_slice()),
+        _ => (&[], &[]),
+    };
     let (first, second) = (first.saturating_add(1), second.saturating_add(1));
-    match stray {
-        Stray::Begins(name, other) => format!(in alloc;
-            "path {second} begins at {name} and path {first} at {other}: give each a stream of its own"
-        ),
-        Stray::Same => format!(in alloc; "path {second} repeats path {first}"),
-        Stray::Meets(name) => format!(in alloc;
+    let (from, name) = (name_at(one, 0), name_at(other, 0));
+    if from != name {
+        return format!(in alloc;
+            "path {second} begins at {name} and path {first} at {from}: give each a stream of its own"
+        );
+    }
+    match meeting(one, other) {
+        Some(name) => format!(in alloc;
             "{name} is reached by two paths, {first} and {second}: give each a stream of its own"
         ),
+        None => format!(in alloc; "path {second} repeats path {first}"),
     }
+}
+
+/// Returns the first of the paths before one with which it makes no tree.
+fn first_apart(
+    alloc: Global,
+    domain: &Domain,
+    paths: &[Vec<String>],
+    second: usize,
+) -> Result<Option<usize>, AllocError> {
+    let Some(path) = paths.get(second) else {
+        return Ok(None);
+    };
+    for (first, other) in paths.iter().take(second).enumerate() {
+        if are_apart(alloc, domain, other.as_slice(), path.as_slice())? {
+            return Ok(Some(first));
+        }
+    }
+    Ok(None)
 }
 
 /// Reports each path of a stream that makes no tree with those before it, with the first of these with which it makes none.
 fn tell_strays(
     given: &CommandInput<'_>,
     told: &mut ToldLines,
+    domain: &Domain,
     asked: &WrittenStream<'_>,
 ) -> Result<(), AllocError> {
-    let (place, label) = (asked.paths_place(), asked.item.counted(given.alloc)?);
-    let mut tree = PathTree::new(given.alloc);
-    for (second, path) in asked.paths.iter().enumerate() {
-        let Some((stray, first)) = tree.stray_of(path.as_slice()) else {
-            tree.put(second, path.as_slice())?;
+    let paths = asked.request.paths.as_slice();
+    for second in 0..paths.len() {
+        let Some(first) = first_apart(given.alloc, domain, paths, second)? else {
             continue;
         };
         if !told.is_counted() {
-            let words = stray_words(given.alloc, stray, first, second)?;
-            told.tell(format!(in given.alloc; "{place}: {label}: {words}")?)?;
+            let words = stray_words(given.alloc, paths, first, second)?;
+            asked.tell_of_paths(given.alloc, told, words.as_str())?;
         }
     }
     Ok(())
@@ -516,55 +344,49 @@ fn tell_hops(
     told: &mut ToldLines,
     asked: &WrittenStream<'_>,
 ) -> Result<(), AllocError> {
-    let (place, label) = (asked.paths_place(), asked.item.counted(given.alloc)?);
-    let hops = hops_of(given.alloc, asked.paths.as_slice())?.unwrap_or(0);
-    let hops = Grouped(hops as u64);
+    let mut nodes = BTreeSet::new(given.alloc);
+    for path in &asked.request.paths {
+        for name in path {
+            nodes.insert(name.as_str())?;
+        }
+    }
+    let hops = Grouped((nodes.len() as u64).saturating_sub(1));
     let most = Grouped(given.limits.hops_within() as u64);
     let larger = given.larger(LARGE.hops_within() as u64)?;
-    told.tell(format!(in given.alloc;
-        "{place}: {label}: its paths have {hops} links together: a tree has at most {most}{larger}"
-    )?)
+    let words = format!(in given.alloc;
+        "its paths have {hops} links together: a tree has at most {most}{larger}"
+    )?;
+    asked.tell_of_paths(given.alloc, told, words.as_str())
 }
 
-impl FormFault {
-    /// Returns whether one line reports a stream with it.
-    fn is_one_line(self) -> bool {
-        matches!(
-            self,
-            FormFault::BadName | FormFault::BadOctets | FormFault::BadPace | FormFault::TooManyHops
-        )
-    }
-}
-
-/// Reports what is wrong with the form of a stream.
+/// Reports what is wrong with the form of a stream, for which it is refused.
 fn tell_form(
     given: &CommandInput<'_>,
     told: &mut ToldLines,
-    network: &Network<'_>,
+    domain: &Domain,
     asked: &WrittenStream<'_>,
-    fault: FormFault,
+    refused: Refused,
 ) -> Result<(), AllocError> {
-    if fault.is_one_line() && told.is_counted() {
-        return Ok(());
-    }
-    let label = asked.item.counted(given.alloc)?;
-    match fault {
-        FormFault::BadName => {
-            let place = asked.item.place_of("name");
+    let item = &asked.item;
+    match refused {
+        Refused::UnknownNode(_) => tell_unknown_nodes(given, told, &given.network()?, asked),
+        Refused::BrokenPath(_) => tell_broken_paths(given, told, domain, asked),
+        Refused::LoopingPath(_) => tell_loops(given, told, domain, asked),
+        Refused::NotATree(_) => tell_strays(given, told, domain, asked),
+        _ if told.is_counted() => Ok(()),
+        Refused::BadName => {
+            let (place, label) = (item.place_of("name"), item.counted(given.alloc)?);
             told.tell(format!(in given.alloc; "{place}: {label}: {NAME_FORM}")?)
         }
-        FormFault::BadOctets => {
-            let (place, octets) = (asked.item.place_of("octets"), asked.octets);
+        Refused::BadOctets => {
+            let (place, label) = (item.place_of("octets"), item.counted(given.alloc)?);
+            let octets = asked.request.octets;
             told.tell(format!(in given.alloc;
                 "{place}: {label}: octets = {octets}: a reservation is 64 to 1,000,000 octets a cycle"
             )?)
         }
-        FormFault::BadPace => tell_pace(given, told, asked),
-        FormFault::UnknownNode => tell_unknown_nodes(given, told, network, asked),
-        FormFault::BrokenPath => tell_broken_paths(given, told, network, asked),
-        FormFault::LoopingPath => tell_loops(given, told, asked),
-        FormFault::NotATree => tell_strays(given, told, asked),
-        FormFault::TooManyHops => tell_hops(given, told, asked),
+        Refused::BadPace => tell_pace(given, told, asked),
+        _ => tell_hops(given, told, asked),
     }
 }
 
@@ -617,31 +439,89 @@ pub(crate) fn tell_gates_twice(
     Ok(())
 }
 
-/// Returns the fault of a stream's own form that a line names.
-pub(crate) fn form_fault_of(fault: &str) -> Option<FormFault> {
-    match fault {
-        "BadName" => Some(FormFault::BadName),
-        "BadOctets" => Some(FormFault::BadOctets),
-        "BadPace" => Some(FormFault::BadPace),
-        "UnknownNode" => Some(FormFault::UnknownNode),
-        "BrokenPath" => Some(FormFault::BrokenPath),
-        "LoopingPath" => Some(FormFault::LoopingPath),
-        "NotATree" => Some(FormFault::NotATree),
-        "TooManyHops" => Some(FormFault::TooManyHops),
-        _ => None,
-    }
+/// Returns whether a fault is one of a stream's own form.
+pub(crate) fn is_of_form(fault: &str) -> bool {
+    matches!(
+        fault,
+        "BadName"
+            | "BadOctets"
+            | "BadPace"
+            | "UnknownNode"
+            | "BrokenPath"
+            | "LoopingPath"
+            | "NotATree"
+            | "TooManyHops"
+    )
 }
 
 /// Reports each stream that is refused for a fault of its own form.
 pub(crate) fn tell_form_faults(
     given: &CommandInput<'_>,
     told: &mut ToldLines,
-    fault: FormFault,
+    fault: &str,
 ) -> Result<(), AllocError> {
-    let network = given.network()?;
+    let Some(domain) = read_domain(given)? else {
+        return Ok(());
+    };
     for asked in &streams_of(given)? {
-        if asked.form_fault(given.alloc, &network)? == Some(fault) {
-            tell_form(given, told, &network, asked, fault)?;
+        let Some(refused) = asked.refusal(&domain) else {
+            continue;
+        };
+        let line = format!(in given.alloc; "{refused}")?;
+        if line.as_str().split(' ').next() == Some(fault) {
+            tell_form(given, told, &domain, asked, refused)?;
+        }
+    }
+    Ok(())
+}
+
+/// Reports each stream whose name an earlier one has.
+pub(crate) fn tell_names_twice(
+    given: &CommandInput<'_>,
+    told: &mut ToldLines,
+) -> Result<(), AllocError> {
+    let mut firsts: BTreeMap<&str, WrittenItem<'_>> = BTreeMap::new(given.alloc);
+    for item in &given.written.items(KeyOwner::Stream)? {
+        let name = item.text("name").unwrap_or("");
+        let Some(first) = firsts.get(name) else {
+            firsts.insert(name, *item)?;
+            continue;
+        };
+        if told.is_counted() {
+            continue;
+        }
+        let (place, label) = (item.place_of("name"), item.counted(given.alloc)?);
+        let (number, first) = (first.number.saturating_add(1), first.place_of("name"));
+        told.tell(format!(in given.alloc;
+            "{place}: {label}: stream {number} at {first} already has this name"
+        )?)?;
+    }
+    Ok(())
+}
+
+/// Reports a stream beyond the most that are held at once.
+pub(crate) fn tell_beyond(
+    given: &CommandInput<'_>,
+    told: &mut ToldLines,
+    item: &WrittenItem<'_>,
+) -> Result<(), AllocError> {
+    let (place, label) = (item.place(), item.counted(given.alloc)?);
+    let most = Grouped(given.limits.streams_within() as u64);
+    let larger = given.larger(LARGE.streams_within() as u64)?;
+    told.tell(format!(in given.alloc;
+        "{place}: {label}: at most {most} streams can be held at once{larger}"
+    )?)
+}
+
+/// Reports each stream beyond the most that are held at once.
+pub(crate) fn tell_streams_beyond(
+    given: &CommandInput<'_>,
+    told: &mut ToldLines,
+) -> Result<(), AllocError> {
+    let items = given.written.items(KeyOwner::Stream)?;
+    for item in items.iter().skip(given.limits.streams_within()) {
+        if !told.is_counted() {
+            tell_beyond(given, told, item)?;
         }
     }
     Ok(())

@@ -6,11 +6,14 @@ use crate::lines::Lines;
 use crate::network::Network;
 use crate::parts::InputPart;
 use crate::places::{Grouped, Place};
+use crate::reading::read_domain;
+use crate::stream_faults::leads;
 use crate::told::ToldLines;
 use crate::words::shown;
 use cqf_model::LARGE;
 use cqf_program_files::begins_as_offers;
 use cqf_text::read_decimal;
+use cqf_topology::Domain;
 use cqf_units::Name;
 use std::alloc::{AllocError, Global};
 
@@ -247,8 +250,13 @@ fn wrong_field<'r>(
 }
 
 /// Returns what is wrong with the ends of a link.
-fn wrong_link<'r>(network: &Network<'_>, from: &'r [u8], to: &'r [u8]) -> Option<Wrong<'r>> {
-    if network.leads(name_of(from), name_of(to)) {
+fn wrong_link<'r>(
+    network: &Network<'_>,
+    domain: Option<&Domain>,
+    from: &'r [u8],
+    to: &'r [u8],
+) -> Option<Wrong<'r>> {
+    if leads(domain?, name_of(from), name_of(to)) {
         None
     } else if !network.is_bridge(name_of(from)) {
         Some(Wrong::Bridge(from))
@@ -262,6 +270,7 @@ fn wrong_link<'r>(network: &Network<'_>, from: &'r [u8], to: &'r [u8]) -> Option
 /// Returns the first thing that is wrong with a row.
 fn wrong_row<'r>(
     network: &Network<'_>,
+    domain: Option<&Domain>,
     table: InputTable,
     fields: &[&'r [u8]],
 ) -> Option<Wrong<'r>> {
@@ -276,7 +285,7 @@ fn wrong_row<'r>(
         }
     }
     match *fields {
-        [_, from, to, _, _] => wrong_link(network, from, to),
+        [_, from, to, _, _] => wrong_link(network, domain, from, to),
         _ => None,
     }
 }
@@ -338,10 +347,11 @@ fn tell_rows(
     table: InputTable,
     part: InputPart<'_>,
 ) -> Result<(), AllocError> {
-    let network = given.network()?;
+    let (network, domain) = (given.network()?, read_domain(given)?);
     for record in records_of(given.alloc, part)?.iter().skip(1) {
         let fields = fields_of(given.alloc, record.text)?;
-        let Some(wrong) = wrong_row(&network, table, fields.as_slice()) else {
+        let wrong = wrong_row(&network, domain.as_ref(), table, fields.as_slice());
+        let Some(wrong) = wrong else {
             continue;
         };
         if !told.is_counted() {

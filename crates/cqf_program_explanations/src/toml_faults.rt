@@ -1,14 +1,14 @@
 //! Texts that aren't TOML, keys that are missing, and values of another form.
 
 use crate::forms::{
-    CYCLES_FORM, DELAYS_FORM, Form, NAME_FORM, fits, form_of, form_of_gate, is_name, told_value,
-    written,
+    CYCLES_FORM, NAME_FORM, form_of_top, form_within, is_name, told_value, written,
 };
 use crate::given::CommandInput;
 use crate::hints::{is_open, plan_hint};
 use crate::outline::{Element, KeyLine, Outline};
 use crate::places::Place;
-use crate::planning::{has_traffic, is_in_step, is_planning};
+use crate::planning::is_planning;
+use crate::reading::{has_bad_value, is_bad_at_top, lacks};
 use crate::told::ToldLines;
 use crate::words::{nearest, shown};
 use crate::written::{KeyOwner, NetworkFile, WrittenItem};
@@ -210,10 +210,7 @@ fn tell_missing_top(
     if in_links || in_streams || near {
         return Ok(());
     }
-    let words = match form_of(KeyOwner::Top, key) {
-        Some((_, words)) => words,
-        None => "",
-    };
+    let words = form_of_top(key).unwrap_or("");
     if let Some(file) = given.written.files_of(key).first() {
         let place = file.at(None);
         told.tell(format!(in given.alloc; "{place}: no {key} at the top: {words}")?)?;
@@ -239,24 +236,6 @@ fn near_key<'p>(
     Ok(None)
 }
 
-/// Returns whether a stream may lack a key, because of other keys. `plan` chooses octets for traffic, and takes ends from a path; a key of
-/// traffic is owed by streams with traffic.
-fn may_lack(given: &CommandInput<'_>, item: &WrittenItem<'_>, key: &str) -> bool {
-    let has_path = item.get("path").is_some() || item.get("paths").is_some();
-    match key {
-        "path" => has_path,
-        "octets" => is_planning(given) && has_traffic(item),
-        "from" | "to" => item.kind == KeyOwner::Stream && has_path,
-        "interval" | "size" => !has_traffic(item),
-        _ => false,
-    }
-}
-
-/// Returns whether a link or a stream is a table that lacks a key which it has to have.
-fn lacks(given: &CommandInput<'_>, item: &WrittenItem<'_>, key: &str) -> bool {
-    item.value.is_table() && item.get(key).is_none() && !may_lack(given, item, key)
-}
-
 /// Returns the words about a stream that lacks a key, if `plan` chooses its value.
 fn hint_of_missing(given: &CommandInput<'_>, key: &str) -> Result<String, AllocError> {
     if matches!(key, "path" | "octets") && is_open(given)? {
@@ -279,7 +258,7 @@ fn tell_missing_within(
         key
     };
     for item in &given.written.items(kind)? {
-        if !lacks(given, item, key) || told.is_counted() {
+        if !lacks(given, item, key)? || told.is_counted() {
             continue;
         }
         let label = item.label(given.alloc)?;
@@ -312,11 +291,19 @@ pub(crate) fn tell_missing(
 }
 
 /// Returns the form of a value of the top level, for the command: a network file may have several cycle times.
-fn form_at_top(given: &CommandInput<'_>, key: &str) -> Option<(Form, &'static str)> {
+fn form_at_top(given: &CommandInput<'_>, key: &str) -> &'static str {
     if key == "cycle" && is_planning(given) {
-        Some((Form::Cycles, CYCLES_FORM))
+        CYCLES_FORM
     } else {
-        form_of(KeyOwner::Top, key)
+        form_of_top(key).unwrap_or("")
+    }
+}
+
+/// Returns whether the value at a key of the top level is refused, and not only an element of it.
+fn is_bad(given: &CommandInput<'_>, key: &str, value: &Value) -> Result<bool, AllocError> {
+    match key {
+        "bridges" | "stations" | "links" | "streams" => Ok(!value.is_array()),
+        _ => is_bad_at_top(given, key, value),
     }
 }
 
@@ -339,15 +326,12 @@ fn tell_bad_top(
     told: &mut ToldLines,
     key: &str,
 ) -> Result<(), AllocError> {
-    let Some((form, words)) = form_at_top(given, key) else {
-        return Ok(());
-    };
+    let words = form_at_top(given, key);
     for file in given.written.files_of(key) {
         let Some(found) = file.found(key) else {
             continue;
         };
-        let is_array = matches!(form, Form::Names | Form::Tables) && found.value.is_array();
-        if is_array || fits(form, found.value) {
+        if !is_bad(given, key, found.value)? {
             continue;
         }
         let (place, question) = (found.place, unit_question(given, key, found.value)?);
@@ -404,41 +388,6 @@ fn tell_bad_tables(
     Ok(())
 }
 
-/// Returns the form of a value of a link or a stream, within the limits of the plan.
-fn form_within(
-    given: &CommandInput<'_>,
-    kind: KeyOwner,
-    key: &str,
-) -> Option<(Form, &'static str)> {
-    if kind == KeyOwner::Stream && key == "x-gate" {
-        Some(form_of_gate(given.limits))
-    } else {
-        form_of(kind, key)
-    }
-}
-
-/// Returns what is wrong with the value at a key of a link or a stream, if it doesn't have the form that it must have.
-fn bad_form(given: &CommandInput<'_>, item: &WrittenItem<'_>, key: &str) -> Option<&'static str> {
-    let value = item.get(key)?;
-    let (form, words) = form_within(given, item.kind, key)?;
-    if key == "paths" && item.get("path").is_some() {
-        Some("give path or paths, not both")
-    } else if key == "phase" && is_in_step(item) && item.get("every").is_none() {
-        Some("a phase goes with every: give both, or in-step alone")
-    } else if key == "least-size"
-        && item.get("size").is_some()
-        && item.number(key) > item.number("size")
-    {
-        Some("least-size is no more than the stream's size")
-    } else if fits(form, value) {
-        None
-    } else if key == "delay" && value.is_array() {
-        Some(DELAYS_FORM)
-    } else {
-        Some(words)
-    }
-}
-
 /// Reports each link or stream in which the value at a key doesn't have its form.
 fn tell_bad_within(
     given: &CommandInput<'_>,
@@ -447,12 +396,10 @@ fn tell_bad_within(
     key: &str,
 ) -> Result<(), AllocError> {
     for item in &given.written.items(kind)? {
-        let Some(words) = bad_form(given, item, key) else {
-            continue;
-        };
-        if told.is_counted() {
+        if !has_bad_value(given, item, key)? || told.is_counted() {
             continue;
         }
+        let words = form_within(given.limits, item, key).unwrap_or("");
         if let Some(found) = item.found(key) {
             let (place, label): (Place<'_>, String) = (found.place, item.label(given.alloc)?);
             let written = written(given.alloc, &found)?;

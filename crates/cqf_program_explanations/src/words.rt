@@ -6,6 +6,9 @@ use strsim::levenshtein;
 /// How many characters of a text are shown.
 const MOST_SHOWN: usize = 60;
 
+/// How many names a line has.
+const MOST_NAMED: usize = 8;
+
 /// The greatest distance between a word and the one that was meant.
 const FARTHEST: usize = 2;
 
@@ -54,6 +57,22 @@ pub(crate) fn nearest<'a>(
         }
     }
     Ok(found)
+}
+
+/// Returns names with commas between them, followed by `..` if there are more.
+pub(crate) fn some_of(alloc: Global, names: &[&str]) -> Result<String, AllocError> {
+    let mut words = String::new(alloc);
+    for name in names.iter().take(MOST_NAMED) {
+        let name = shortened(alloc, name)?;
+        if !words.is_empty() {
+            words.push_str(", ")?;
+        }
+        words.push_str(name.as_str())?;
+    }
+    if names.len() > MOST_NAMED {
+        words.push_str(", ..")?;
+    }
+    Ok(words)
 }
 
 /// Returns the question whether the nearest of the words was meant; an empty text if none is near.

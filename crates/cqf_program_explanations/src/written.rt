@@ -4,6 +4,7 @@ use crate::outline::{Element, KeyLine, Outline, outline_of};
 use crate::parts::InputPart;
 use crate::places::Place;
 use crate::words::shortened;
+use cqf_topology::{LinkTimes, times_at};
 use std::alloc::{AllocError, Global};
 use toml::{Table, Value};
 
@@ -260,6 +261,11 @@ impl<'a> WrittenNetwork<'a> {
         }
     }
 
+    /// Returns the same as a number of 32 bits, at most the greatest.
+    pub(crate) fn short(&self, key: &str) -> u32 {
+        u32::try_from(self.number(key)).unwrap_or(u32::MAX)
+    }
+
     /// Returns the links or the streams that are read.
     pub(crate) fn items(&self, kind: KeyOwner) -> Result<Vec<WrittenItem<'_>>, AllocError> {
         self.items_of(self.files_of(key_of(kind)), kind)
@@ -348,6 +354,11 @@ impl<'p> WrittenItem<'p> {
             Some(value) => number_of(value),
             None => 0,
         }
+    }
+
+    /// Returns what a link says besides its ends, if that is accepted.
+    pub(crate) fn times(&self) -> Option<LinkTimes> {
+        times_at(self.value.as_table()?).ok()
     }
 
     /// Returns its name as printed: a link by its number and its ends, a stream by its name, or by its number from 1 if it has none.

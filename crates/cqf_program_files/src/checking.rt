@@ -40,7 +40,7 @@ fn table_of(alloc: Global, text: &[u8]) -> Result<Option<Table>, Memory>
 }
 
 /// Returns the tables of some texts; `None` if one isn't TOML. Returns `Memory` if an allocation fails.
-fn tables_of(alloc: Global, texts: &[&[u8]]) -> Result<Option<Vec<Table>>, Memory>
+pub fn tables_of(alloc: Global, texts: &[&[u8]]) -> Result<Option<Vec<Table>>, Memory>
     ensures { IfOk result (λ tables. option_map (λ tables. map table_view tables.items) tables ≡ tables_of (map (λ text. text.now) texts.now)) }
 {
     let mut tables = Vec::new(alloc);

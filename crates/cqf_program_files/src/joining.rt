@@ -149,7 +149,7 @@ fn put_each(alloc: Global, keys: &[&str], tables: &[Table]) -> Result<Table, Mem
 
 /// Returns the table of a plan of several tables: at each key that commands know, copies of the values of all tables, with arrays
 /// concatenated. Returns `Memory` if an allocation fails.
-pub(crate) fn joint_of(alloc: Global, tables: &[Table]) -> Result<Table, Memory>
+pub fn joint_of(alloc: Global, tables: &[Table]) -> Result<Table, Memory>
     ensures { IfOk result (λ joint. table_view joint ≡ joint_of (map table_view tables.now)) }
 {
     put_each(alloc, &TOP, tables)

@@ -27,7 +27,10 @@ mod lines;
 mod numbers;
 mod open;
 
+pub use checking::tables_of;
 pub use front::{Front, begins_as_offers, cycles_of, front_of};
+pub use joining::{MOST_FILES, joint_of};
 pub use keys::{LINK, OWN, STREAM, TOP};
-pub use lines::{MOST_OCTETS, MOST_PARTS};
+pub use lines::{MOST_OCTETS, MOST_PARTS, first_long_line};
 pub use numbers::renumbered;
+pub use open::{lacks_octets, lacks_turns, lacks_way};

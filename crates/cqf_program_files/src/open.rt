@@ -53,8 +53,8 @@ pub(crate) fn has_open_cycle(tables: &[Table]) -> bool
     false
 }
 
-/// Whether a stream's table has its ends and no way between them.
-fn lacks_way(table: &Table) -> bool
+/// Returns whether a stream's table has its ends and no path between them.
+pub fn lacks_way(table: &Table) -> bool
     ensures { result ≡ lacks_way (table_view table.now) }
 {
     if has(table, "path") || has(table, "paths") {
@@ -63,8 +63,8 @@ fn lacks_way(table: &Table) -> bool
     has(table, "from") && has(table, "to")
 }
 
-/// Whether it has traffic, and doesn't say what it reserves.
-fn lacks_octets(table: &Table) -> bool
+/// Returns whether a stream's table has traffic, and doesn't say what it reserves.
+pub fn lacks_octets(table: &Table) -> bool
     ensures { result ≡ lacks_octets (table_view table.now) }
 {
     if has(table, "octets") {
@@ -73,8 +73,8 @@ fn lacks_octets(table: &Table) -> bool
     has_any(table, &TRAFFIC)
 }
 
-/// Whether its talker is in step, and nothing says of how many cycles it is offered in one.
-fn lacks_turns(table: &Table) -> bool
+/// Returns whether the talker of a stream's table is in step, and nothing says of how many cycles it is offered in one.
+pub fn lacks_turns(table: &Table) -> bool
     ensures { result ≡ lacks_turns (table_view table.now) }
 {
     match value_at(table, "in-step").and_then(Value::as_bool) {

@@ -3,13 +3,14 @@ ghost use Rattle.std.specs.Prelude.{◌≡◌, Ok, IfOk, IfErr, map};
 ghost use Rattle.cqf_admission.specs.Asking.{asked_paced};
 ghost use Rattle.cqf_admission.specs.Turns.{AreOfGoodPaces};
 ghost use Rattle.cqf_output.specs.Stops.{IsRefused};
+ghost use Rattle.cqf_program_plans.specs.Compile.Gated.{gated_rows};
 ghost use Rattle.cqf_program_json.specs.Output.{addressing_of, json_of, json_of_input, text_of_json};
 
 use crate::outputs::JsonOutput;
 use cqf_addressing::{LinkInterfaces, StreamAddress, addresses_part, interfaces_part};
 use cqf_model::{Limits, Row};
 use cqf_output::{Buffer, Stop};
-use cqf_program_plans::{read_plan, rows_of_cycle_0};
+use cqf_program_plans::{gated_rows, read_plan, rows_of_cycle_0};
 use cqf_program_scenario::two_parts;
 use cqf_program_tc::places_by_bridge;
 use cqf_topology::{Domain, PacedRequest};
@@ -31,22 +32,25 @@ fn read_addressing(
     Ok((links, addresses))
 }
 
-/// Returns the object of a domain with the streams of these rows, ready to be written.
+/// Returns the object of a domain with the streams of these rows, ready to be written. With `edge_gates`, streams have gates at their edge bridges
+/// alone.
 fn object_ready(
     alloc: Global,
+    edge_gates: bool,
     domain: Domain,
     rows: Vec<Row>,
     links: Vec<LinkInterfaces>,
     addresses: Vec<StreamAddress>,
 ) -> Result<JsonOutput, Memory>
     requires { AreOfGoodPaces rows.items }
-    ensures { IfOk result (λ output. output ≡ record { domain = domain; rows = rows.items; addresses = addresses.items; links = links.items }) }
+    ensures { IfOk result (λ output. output ≡ record { domain = domain; rows = gated_rows edge_gates rows.items; addresses = addresses.items; links = links.items }) }
 {
-    let places = places_by_bridge(alloc, &domain, rows.as_slice())?;
+    let gated = gated_rows(alloc, edge_gates, rows)?;
+    let places = places_by_bridge(alloc, &domain, gated.as_slice())?;
     let buffer = Buffer::new(alloc)?;
     Ok(JsonOutput {
         domain,
-        rows,
+        rows: gated,
         places,
         addresses,
         links,
@@ -58,39 +62,46 @@ fn object_ready(
 fn object_of(
     alloc: Global,
     limits: Limits,
+    edge_gates: bool,
     domain: Domain,
     requests: &[PacedRequest],
     domain_text: &[u8],
     streams_text: &[u8],
 ) -> Result<JsonOutput, Stop>
     ensures ok { IfOk result (λ output.
-        json_of limits domain (map asked_paced requests.now) domain_text.now streams_text.now ≡ Ok (text_of_json output)) }
-    ensures err { IfErr result (IsRefused (json_of limits domain (map asked_paced requests.now) domain_text.now streams_text.now)) }
+        json_of limits edge_gates domain (map asked_paced requests.now) domain_text.now streams_text.now ≡ Ok (text_of_json output)) }
+    ensures err { IfErr result (IsRefused (json_of limits edge_gates domain (map asked_paced requests.now) domain_text.now streams_text.now)) }
 {
     let rows = rows_of_cycle_0(alloc, &domain, requests)?;
     let (links, addresses) = read_addressing(alloc, limits, domain_text, streams_text)?;
-    match object_ready(alloc, domain, rows, links, addresses) {
+    match object_ready(alloc, edge_gates, domain, rows, links, addresses) {
         Ok(output) => Ok(output),
         Err(_) => Err(Stop::memory(alloc)),
     }
 }
 
 /// Returns the output of `compile --format json` for an input that is read within some limits, ready to be written: the object for the
-/// domain and its streams.
+/// domain and its streams. With `edge_gates`, streams have gates at their edge bridges alone.
 ///
 /// # Errors
 /// With status 1 and the line of the first fault: first the faults of `cqf_program_plans::compile_output`, then those of the interfaces of the
 /// domain's links (`cqf_addressing::read_link_interfaces`), then those of the addresses of the streams
 /// (`cqf_addressing::read_stream_addresses`). With status 3 if an allocation fails.
-pub fn json_output(alloc: Global, limits: Limits, input: &[u8]) -> Result<JsonOutput, Stop>
-    ensures ok { IfOk result (λ output. json_of_input limits input.now ≡ Ok (text_of_json output)) }
-    ensures err { IfErr result (IsRefused (json_of_input limits input.now)) }
+pub fn json_output(
+    alloc: Global,
+    limits: Limits,
+    edge_gates: bool,
+    input: &[u8],
+) -> Result<JsonOutput, Stop>
+    ensures ok { IfOk result (λ output. json_of_input limits edge_gates input.now ≡ Ok (text_of_json output)) }
+    ensures err { IfErr result (IsRefused (json_of_input limits edge_gates input.now)) }
 {
     let (domain_text, streams_text) = two_parts(alloc, input)?;
     let (domain, requests) = read_plan(alloc, limits, input)?;
     object_of(
         alloc,
         limits,
+        edge_gates,
         domain,
         requests.as_slice(),
         domain_text,

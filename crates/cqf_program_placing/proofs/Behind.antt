@@ -13,7 +13,7 @@ use Rattle.cqf_program_plans.specs.Compile.Output.{with_asked}
 use Rattle.cqf_program_placing.specs.declared.faults.PlanFault.{PlanFault}
 use Rattle.cqf_admission.specs.Asking.{asked_with}
 use Rattle.cqf_program_placing.specs.declared.turns.Turns.{Turns}
-use Rattle.cqf_program_placing.specs.Placing.{IsAnswered, IsPlacedBy, IsPlacing, PlacedOr, reserved_on, turns_on}
+use Rattle.cqf_program_placing.specs.Placing.{IsAnswered, IsPlacedBy, IsPlacing, PlacedOr, reserved_on}
 use Rattle.cqf_program_placing.specs.Turns.{every_in}
 use Rattle.cqf_program_placing.specs.Settled.{SettledStream}
 
@@ -118,4 +118,4 @@ module _ (goes_on : HistoryGoesOn) (counted : SealsAreCounted) (grants : Granted
 
       by_reserved : (reserved : Result ℕ PlanFault) → IsPlacedBy d entries stream reserved become after → IsBehind d (names ++ stream.name ∷ []) after
       by_reserved (Err found) is = unchanged is.1
-      by_reserved (Ok octets) is = by_routed octets (turns_on d.cycle_time stream) is.routed is.is_answered
+      by_reserved (Ok octets) is = by_routed octets is.taken is.is_placed.routed is.is_placed.is_answered

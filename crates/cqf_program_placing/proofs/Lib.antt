@@ -7,11 +7,15 @@ pub mod Loads
 pub mod HopLemmas
 pub mod AskLemmas
 pub mod PlaceLemmas
+pub mod Chosen
 pub mod WayNames
 pub mod HopWays
+pub mod SameHops
+pub mod EmptiestMost
 pub mod FirstBranches
 pub mod ReadyStreams
 pub mod StreamsRead
 pub mod Behind
 pub mod Known
 pub mod RoomLemmas
+pub mod InOrder

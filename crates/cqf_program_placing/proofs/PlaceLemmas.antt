@@ -21,10 +21,14 @@ use Rattle.cqf_laws_timing.specs.Traffic.{intervals_in, needed}
 use Rattle.cqf_traffic.specs.TrafficText.{IsTrafficText, TrafficText, promise_of}
 use Rattle.cqf_program_placing.specs.declared.faults.PlanFault.{PlanFault}
 use Rattle.cqf_program_placing.specs.declared.faults.PlanFault.TheVariants as fault
-use Rattle.cqf_program_placing.specs.Placing.{ArePlacedFrom, IsAnswered, IsAskedFor, IsPlacedBy, IsPlacing, IsRouted, IsRoutedAndAnswered, PlacedOr, Unplaced, answered, if_enough, outcome_value}
+use Rattle.cqf_program_placing.specs.Placing.{ArePlacedFrom, AreTaken, IsAnswered, IsAskedFor, IsPlacedBy, IsPlacedInTurns, IsPlacing, IsRouted, PlacedOr, Unplaced, answered, if_enough, outcome_value}
 use Rattle.cqf_program_placing.specs.Placing.{reserved_by, reserved_on, turns_on}
 use Rattle.cqf_program_placing.specs.Settled.{IsPlaceable, SettledStream, are_reservable, settled_value}
+use Rattle.cqf_program_placing.specs.declared.choosing.Route.{Route}
+use Rattle.cqf_program_placing.specs.declared.routes.Unrouted.TheVariants as unrouted
 use Rattle.cqf_program_placing.specs.declared.turns.Turns.{Turns}
+use Rattle.cqf_program_placing.specs.Routes.{IsTakenRoute, IsUntaken}
+use Rattle.cqf_admission.specs.Branches.{branches_of}
 use Rattle.cqf_program_placing.specs.Turns.{IsPhaseAlong, can_step, every_in}
 
 -- one more stream is placed after the others
@@ -143,7 +147,7 @@ few_placed d entries stream become after counted none placed = by_reserved (rese
 
     by_reserved : (reserved : Result ℕ PlanFault) → IsPlacedBy d entries stream reserved become after → AreFew entries after
     by_reserved (Err found) is = few_same entries after none is.1
-    by_reserved (Ok octets) is = by_routed octets (turns_on d.cycle_time stream) is.routed is.is_answered
+    by_reserved (Ok octets) is = by_routed octets is.taken is.is_placed.routed is.is_placed.is_answered
 
 -- the streams so far are placed, and no call but theirs was made
 pub record ArePlacedSoFar (d : Domain) (streams : List Settled) (k : ℕ) (a : Administration) (outcomes : List PlacingOutcome) : Type 0 where
@@ -183,21 +187,27 @@ unreserved d entries stream found is =
 
 -- the outcome with this reservation is the outcome of the stream
 pub reserved_so : (d : Domain) (entries : List Recorded) (stream : SettledStream) (octets : ℕ) (turns : Turns) (become : PlacedOr) (after : List Recorded) →
-    Ok octets ≡ reserved_on d.cycle_time d.sync stream → turns ≡ turns_on d.cycle_time stream → IsRoutedAndAnswered d entries stream octets turns become after →
+    Ok octets ≡ reserved_on d.cycle_time d.sync stream → turns ≡ turns_on d.cycle_time stream → IsPlacedInTurns d entries stream octets turns become after →
     IsPlacing d entries stream become after
 reserved_so d entries stream octets turns become after is same placed =
     let P : Result ℕ PlanFault → Type 0 = λ reserved. IsPlacedBy d entries stream reserved become after in
-    subst P is (subst (λ (t : Turns). IsRoutedAndAnswered d entries stream octets t become after) same placed)
+    subst P is (subst (λ (t : Turns). IsPlacedInTurns d entries stream octets t become after) same placed)
 
 -- a stream without branches isn't placed
 pub unrouted_so : (d : Domain) (entries : List Recorded) (stream : SettledStream) (octets cost : ℕ) (turns : Turns) (found : PlanFault) →
-    cost ≡ cost_of octets → IsRouted d (held_in d entries (seals entries)) turns cost stream.way (Err found) →
-    IsRoutedAndAnswered d entries stream octets turns (Unplaced found) entries
-unrouted_so d entries stream octets cost turns found is routed = record {
-  routed = Err found;
-  is_routed = subst (λ (c : ℕ). IsRouted d (held_in d entries (seals entries)) turns c stream.way (Err found)) is routed;
-  is_answered = (refl, refl);
-}
+    cost ≡ cost_of octets → IsUntaken d (held_in d entries (seals entries)) turns cost stream.way (unrouted.Fault found) →
+    IsPlacedInTurns d entries stream octets turns (Unplaced found) entries
+unrouted_so d entries stream octets cost turns found is without =
+    let rows : List Row = held_in d entries (seals entries) in
+    record {
+      taken = without.0;
+      are_taken = subst (λ (c : ℕ). AreTaken d rows turns c stream.way without.0) is without.1;
+      is_placed = record {
+        routed = Err found;
+        is_routed = subst (λ (c : ℕ). IsRouted d rows without.0 c stream.way (Err found)) is without.2;
+        is_answered = (refl, refl);
+      };
+    }
 
 -- the outcome of a stream that is requested along its branches
 pub asked_so : (d : Domain) (entries : List Recorded) (called : List ℕ) (octets every phase cost : ℕ) (turns : Turns) (name : List ℕ) (paths : List Branch)
@@ -215,16 +225,23 @@ asked_so d entries called octets every phase cost turns name paths become after 
       entered = entered ∙ ap (with_asked d entries) asked;
     }
 
--- one with branches is
-pub routed_so : (d : Domain) (entries : List Recorded) (stream : SettledStream) (octets cost : ℕ) (turns : Turns) (paths : List Branch)
-    (become : PlacedOr) (after : List Recorded) → cost ≡ cost_of octets →
-    IsRouted d (held_in d entries (seals entries)) turns cost stream.way (Ok paths) → IsAskedFor d entries stream.name octets turns paths become after →
-    IsRoutedAndAnswered d entries stream octets turns become after
-routed_so d entries stream octets cost turns paths become after is routed so = record {
-  routed = Ok paths;
-  is_routed = subst (λ (c : ℕ). IsRouted d (held_in d entries (seals entries)) turns c stream.way (Ok paths)) is routed;
-  is_answered = so;
-}
+-- one with a route is
+pub routed_so : (d : Domain) (entries : List Recorded) (stream : SettledStream) (octets cost : ℕ) (turns : Turns) (route : Route) (become : PlacedOr)
+    (after : List Recorded) → cost ≡ cost_of octets → IsTakenRoute d (held_in d entries (seals entries)) turns cost stream.way route →
+    IsAskedFor d entries stream.name octets route.turns (branches_of route.branched.paths.items) become after →
+    IsPlacedInTurns d entries stream octets turns become after
+routed_so d entries stream octets cost turns route become after is takes so =
+    let rows : List Row = held_in d entries (seals entries) in
+    let paths : List Branch = branches_of route.branched.paths.items in
+    record {
+      taken = takes.taken;
+      are_taken = subst (λ (c : ℕ). AreTaken d rows turns c stream.way takes.taken) is takes.are_taken;
+      is_placed = record {
+        routed = Ok paths;
+        is_routed = subst (λ (c : ℕ). IsRouted d rows takes.taken c stream.way (Ok paths)) is takes.is_route.routed;
+        is_answered = subst (λ (t : Turns). IsAskedFor d entries stream.name octets t paths become after) takes.is_route.same_turns so;
+      };
+    }
 
 -- a stream of a slice can be placed as all can
 pub placeable_there : (d : Domain) (streams : List Settled) (k : ℕ) (stream : Settled) → k < length streams → stream ≡ get_or streams k stream →

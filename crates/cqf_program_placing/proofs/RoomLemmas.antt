@@ -1,14 +1,14 @@
 -- Streams are placed if there is room.
-use Rattle.std.proofs.Common.{◌≡◌, ◌∙◌, ◌+◌, ◌-◌, ◌*◌, ◌<◌, ◌≤◌, ◌++◌, ℕ, suc, true, false, ◌&&◌, List, [], ◌∷◌, Option, Some, None, Result, Ok, Err}
+use Rattle.std.proofs.Common.{◌≡◌, ◌∙◌, ◌+◌, ◌-◌, ◌*◌, ◌<◌, ◌≤◌, ◌++◌, ℕ, suc, Bool, true, false, ◌&&◌, List, [], ◌∷◌, Option, Some, None, Result, Ok, Err}
 use Rattle.std.proofs.Common.{All, Contains, ext_get_or, get_or, length, map, not, option_map, ap, arith, inl, inr, mul-le-mul_right, refl, subst, subst₂, sym}
 use Rattle.std.specs.Prelude.{nat_le, nat_lt}
 use Rattle.std.specs.List.{list_any}
 use Rattle.std.proofs.Math.Nat.{le_of_mul-le-mul_right}
-use Rattle.std.proofs.lemmas.Bool.{both_ways, false_from_ne_true, le-leb, le-ltb, lt-leb, lt-ltb}
+use Rattle.std.proofs.lemmas.Bool.{both_ways, cases_lt, false_from_ne_true, false≢true, le-leb, le-ltb, lt-leb, lt-ltb}
 use Rattle.std.proofs.lemmas.List.Elements.{All-contains}
 use Rattle.std.proofs.lemmas.Option.{slice_get-get_or, slice_get_within}
 use Rattle.cqf_lists.specs.Lists.{or_else}
-use Rattle.cqf_lists.proofs.Members.{any_member, contains_from_map, contains_here, contains_map, member_any}
+use Rattle.cqf_lists.proofs.Members.{any_member, contains_from_map, contains_here, contains_map, find_some, member_any}
 use Rattle.cqf_units.specs.Name.{is_name}
 use Rattle.cqf_units.specs.Timing.{cost_of}
 use Rattle.cqf_laws_timing.specs.Traffic.{needed}
@@ -24,6 +24,7 @@ use Rattle.cqf_model.specs.Domain.{Domain, bridge_of, budget, is_text}
 use Rattle.cqf_model.specs.History.{Branch, Recorded, held_in, is_pace, left_on, refusal_of, refused_at, refused_if, seals, short_link, tree_of}
 use Rattle.cqf_model.specs.Limits.{hops_within, most_reserved, streams_within}
 use Rattle.cqf_model.specs.Paces.{each_cycle}
+use Rattle.cqf_model.specs.Table.{links_in}
 use Rattle.cqf_topology.specs.DomainText.{IsDomain, is_among}
 use Rattle.cqf_admission.specs.Asking.{asked_with}
 use Rattle.cqf_admission.specs.Costs.{left_in_turns, most_in_turns}
@@ -39,12 +40,13 @@ use Rattle.cqf_program_placing.specs.declared.faults.PlanFault.{PlanFault}
 use Rattle.cqf_program_placing.specs.declared.faults.PlanFault.TheVariants as fault
 use Rattle.cqf_program_placing.specs.declared.turns.Turns.{Turns}
 use Rattle.cqf_program_placing.specs.declared.turns.Turns.TheVariants.{Given, Chosen}
-use Rattle.cqf_program_placing.specs.Placing.{AreFound, ArePlacedFrom, IsAnswered, IsAskedFor, IsFull, IsPlacedBy, IsPlacing, IsRouted, Placed, PlacedOr, Unplaced, answered}
-use Rattle.cqf_program_placing.specs.Placing.{names_along, reserved_on, turns_on}
-use Rattle.cqf_program_placing.specs.Hops.{AreLeft, AreLeftBehind}
-use Rattle.cqf_program_placing.specs.Turns.{AreGoodTurns, IsChosenBy, IsLeastLoaded, IsPhaseAlong, IsPhaseOnTree, MayBeFirst, every_in, loads_with, pace_by, shares_with}
-use Rattle.cqf_program_placing.specs.Room.{ArePlacedByRoomFrom, HasNoRoom, HasRoomIn, HaveRoom, IsPlacedAlong, IsPlacedBetween, IsPlacedByRoom, IsPlacedOnWay, IsPlacedWith}
-use Rattle.cqf_program_placing.specs.Room.{IsReadStream, MayBeWays, PlacedWhereThereIsRoom}
+use Rattle.cqf_program_placing.specs.Placing.{AreChosenFor, AreFound, ArePlacedFrom, AreRoomy, AreTaken, AreTakenBetween, AreTakenBy, AreTakenFor, FindsRoom, IsAnswered, IsAskedFor, IsFirstPhase}
+use Rattle.cqf_program_placing.specs.Placing.{IsFirstRoomy, IsFull, IsPlacedBy, IsPlacing, IsRouted, Placed, PlacedOr, Unplaced, answered, given_or_chosen, is_roomy, names_along, reserved_on}
+use Rattle.cqf_program_placing.specs.Placing.{turns_on}
+use Rattle.cqf_program_placing.specs.Hops.{AreLeftBehind}
+use Rattle.cqf_program_placing.specs.Turns.{AreGoodTurns, IsChosenBy, IsGoodEvery, IsLeastLoaded, IsPhaseAlong, IsPhaseOnTree, MayBeFirst, every_in, lefts_on, loads_with, pace_by, shares_with}
+use Rattle.cqf_program_placing.specs.Room.{ArePlacedByRoomFrom, HasEmptiestRoom, HasNoRoom, HasRoomIn, HasRoomInPhase, HaveRoom, IsEmptiestFault, IsPlacedAlong, IsPlacedBetween, IsPlacedByRoom}
+use Rattle.cqf_program_placing.specs.Room.{IsPlacedInPhase, IsPlacedInSomePhase, IsPlacedOnWay, IsPlacedWith, IsReadStream, MayBeWays, PlacedWhereThereIsRoom, hops_on_ways}
 use Rattle.cqf_program_placing.specs.Settled.{Along, Between, SettledStream, SettledWay, settled_behind, settled_next}
 use Rattle.cqf_program_placing.proofs.Behind.{IsBehind, none_behind, one_behind}
 use Rattle.cqf_program_placing.proofs.FirstBranches.{AreBranches, AreFew, first_branches, first_enough, first_given, none_short, way_there}
@@ -53,7 +55,10 @@ use Rattle.cqf_program_placing.proofs.Emptiest.{left_of_hop}
 use Rattle.cqf_program_placing.proofs.PlaceLemmas.{reserved_few, reserved_there}
 use Rattle.cqf_program_placing.proofs.ReadyStreams.{IsGoodWay, IsReady, IsToStations, next_ready, reserved_least}
 use Rattle.cqf_program_placing.proofs.SettledLemmas.{next_stands}
-use Rattle.cqf_program_placing.proofs.Stepping.{is_good_pace, pace_is_good, turns_good}
+use Rattle.cqf_program_placing.proofs.Chosen.{few_if_roomy, room_if_roomy, roomy_if_room}
+use Rattle.cqf_program_placing.proofs.EmptiestMost.{full_in_each}
+use Rattle.cqf_program_placing.proofs.SameHops.{left_is_one}
+use Rattle.cqf_program_placing.proofs.Stepping.{first_along, is_good_pace, pace_is_good, paced_so, turns_good}
 
 -- ---- what admission answers
 
@@ -146,21 +151,6 @@ first_on_tree : (d : Domain) (rows : List Row) (cost : ℕ) (paths : List Branch
     IsPhaseOnTree d rows cost paths turns first → MayBeFirst turns first
 first_on_tree d rows cost paths (Given every phase) first is = is
 first_on_tree d rows cost paths (Chosen every) first is = is.within
-
--- and so is the phase of branches that are refused
-first_along : (d : Domain) (rows : List Row) (cost : ℕ) (paths : List Branch) (turns : Turns) (first : ℕ) → AreGoodTurns turns →
-    IsPhaseAlong d rows cost paths turns first → MayBeFirst turns first
-first_along d rows cost paths (Given every phase) first good is = is
-first_along d rows cost paths (Chosen every) first good is = by (tree_refusal d paths) is
-  where
-    by : (o : Option Refused) → IsChosenBy d rows cost paths every o first → first < every
-    by None chosen = chosen.within
-    by (Some refusal) none = omega (arith, none, good.some)
-
--- and so it makes a pace
-paced_so : (turns : Turns) (first : ℕ) → AreGoodTurns turns → MayBeFirst turns first → is_pace (every_in turns) first ≡ true
-paced_so (Given every phase) first good is = ap (is_pace every) is ∙ good
-paced_so (Chosen every) first good is = is_good_pace every first good is
 
 -- by numbers: if a link has no greater share held than another that has room, it has room
 fits : (budget left cost other there : ℕ) → 1 ≤ cost → left ≤ budget → there ≤ other → cost ≤ there →
@@ -270,98 +260,378 @@ module _ (one_way : FirstWayIsOne) (no_loop : FirstWaysHaveNoLoop) (parts : Firs
       is.placed is.phase may_be there ∙ (λ i. Placed (asked_with name octets (each i) (none i) paths))
 
   -- and so is a stream whose phase is given
-  given_so : (name : List ℕ) (octets every phase : ℕ) (turns : Turns) (paths : List Branch) (become : PlacedOr) → turns ≡ Given every phase →
-      IsPlacedAlong d rows name octets turns paths become → HasRoomIn d rows (cost_of octets) (tree_of d paths) (pace_by every phase) →
+  given_so : (name : List ℕ) (octets every phase : ℕ) (paths : List Branch) (become : PlacedOr) →
+      IsPlacedAlong d rows name octets (Given every phase) paths become → HasRoomIn d rows (cost_of octets) (tree_of d paths) (pace_by every phase) →
       become ≡ Placed (asked_with name octets every phase paths)
-  given_so name octets every phase turns paths become same is room =
-      let given = subst (λ (t : Turns). IsPlacedAlong d rows name octets t paths become) same is in
-      given.placed phase refl room ∙ ap (λ (n : ℕ). Placed (asked_with name octets every n paths)) given.is_phase
+  given_so name octets every phase paths become is room =
+      is.placed phase refl room ∙ ap (λ (n : ℕ). Placed (asked_with name octets every n paths)) is.is_phase
 
-  module _ (cost bridge : ℕ) (stations : List ℕ) (to : IsToStations d bridge stations) (left : List ℕ) (ways : List (List ℕ))
-      (first : HaveRoom d left cost bridge stations ways) where
-    abbrev tree : List Hop
-    tree = tree_of d (map (names_along d bridge) ways)
+  -- ---- a stream between a bridge and stations
 
-    -- in the given cycles each link of the tree has room
-    given_room : (every phase : ℕ) (turns : Turns) → turns ≡ Given every phase → AreLeft d rows turns cost bridge left →
-        HasRoomIn d rows cost tree (pace_by every phase)
-    given_room every phase turns same are =
-        let behind : AreLeftBehind d rows (pace_by every phase) cost bridge left = subst (λ (t : Turns). AreLeft d rows t cost bridge left) same are in
-        first_given d good left cost bridge to.inside stations ways first rows (pace_by every phase) behind
+  module _ (bridge : ℕ) (stations : List ℕ) (to : IsToStations d bridge stations) where
+    -- the branches of the first paths with room are those of a tree
+    ways_make : (left : List ℕ) (cost : ℕ) (ways : List (List ℕ)) → HaveRoom d left cost bridge stations ways → AreBranches d (map (names_along d bridge) ways)
+    ways_make left cost ways roomy = first_branches d good left cost bridge to.inside stations ways roomy to.some to.apart room no_loop parts
 
-    -- and in each cycle
-    each_room : (turns : Turns) → AreGoodTurns turns → every_in turns ≡ 1 → AreLeft d rows turns cost bridge left → HasRoomIn d rows cost tree each_cycle
-    each_room (Given every phase) good_turns each are =
-        let low : phase < every = (pace_is_good every phase good_turns).1 in
-        let none : phase ≡ 0 = omega (arith, low, each) in
-        subst₂ (λ (e p : ℕ). HasRoomIn d rows cost tree (pace_by e p)) each none
-        (first_given d good left cost bridge to.inside stations ways first rows (pace_by every phase) are)
-    each_room (Chosen every) good_turns each are = first_enough d good left cost bridge to.inside stations ways first rows every are each
+    -- and there are no others
+    found_are : (left : List ℕ) (cost : ℕ) (paths : List Branch) (ways : List (List ℕ)) → AreFound d left cost bridge stations paths →
+        HaveRoom d left cost bridge stations ways → paths ≡ map (names_along d bridge) ways
+    found_are left cost paths ways found roomy =
+        found.are ∙ ap (map (names_along d bridge)) (same_ways left cost bridge stations found.ways ways to.inside found.first roomy)
 
-  -- a stream between a bridge and stations
-  between_so : (name : List ℕ) (octets : ℕ) (turns : Turns) (bridge : ℕ) (stations : List ℕ) (routed : Result (List Branch) PlanFault) (become : PlacedOr)
-      (after : List Recorded) → MayAsk d rows name octets → AreGoodTurns turns → IsToStations d bridge stations →
-      IsRouted d rows turns (cost_of octets) (Between bridge stations) routed → IsAnswered d entries name octets turns routed become after →
-      IsPlacedBetween d rows name octets turns bridge stations become
-  between_so name octets turns bridge stations (Ok paths) become after may good_turns to routed is =
-      let cost : ℕ = cost_of octets in
-      let left : List ℕ = routed.left in
-      let found : AreFound d left cost bridge stations paths = routed.found in
-      let first : HaveRoom d left cost bridge stations found.ways = found.first in
-      let branches : AreBranches d paths = subst (AreBranches d) (sym found.are)
-      (first_branches d good left cost bridge to.inside stations found.ways first to.some to.apart room no_loop parts) in
-      let by_ways : (ways : List (List ℕ)) → HaveRoom d left cost bridge stations ways → paths ≡ map (names_along d bridge) ways =
-      λ ways also. found.are ∙ ap (map (names_along d bridge)) (same_ways left cost bridge stations found.ways ways to.inside first also) in
-      let along : AreFew d paths → IsPlacedAlong d rows name octets turns paths become = λ few.
-      along_so name octets turns paths become after may good_turns branches few is in
-      record {
-        left = left;
-        are_left = routed.are_left;
-        placed = λ ways also few.
-            subst (λ (ps : List Branch). IsPlacedAlong d rows name octets turns ps become) (by_ways ways also)
-            (along (subst (AreFew d) (sym (by_ways ways also)) few));
-        given = λ every phase turns_are ways also few.
-            let same : paths ≡ map (names_along d bridge) ways = by_ways ways also in
-            let enough : HasRoomIn d rows cost (tree_of d paths) (pace_by every phase) =
-            subst (λ (ps : List Branch). HasRoomIn d rows cost (tree_of d ps) (pace_by every phase)) (sym found.are)
-            (given_room cost bridge stations to left found.ways first every phase turns turns_are routed.are_left) in
-            given_so name octets every phase turns paths become turns_are (along (subst (AreFew d) (sym same) few)) enough
-            ∙ ap (λ (ps : List Branch). Placed (asked_with name octets every phase ps)) same;
-        each_cycle = λ each ways also few.
-            let same : paths ≡ map (names_along d bridge) ways = by_ways ways also in
-            let enough : HasRoomIn d rows cost (tree_of d paths) each_cycle = subst (λ (ps : List Branch). HasRoomIn d rows cost (tree_of d ps) each_cycle)
-            (sym found.are) (each_room cost bridge stations to left found.ways first turns good_turns each routed.are_left) in
-            each_so name octets turns paths become good_turns each (along (subst (AreFew d) (sym same) few)) enough
-            ∙ ap (λ (ps : List Branch). Placed (asked_with name octets 1 0 ps)) same;
-        wide = λ ways also many.
-            too_wide name octets turns paths become after may good_turns branches
-            (subst (λ (ps : List Branch). hops_within d.limits < length (tree_of d ps)) (sym (by_ways ways also)) many) is;
-        unplaced = λ place without. absurd (not_both left cost bridge stations found.ways place first without);
-        either = inl (found.ways, first);
+    found_make : (left : List ℕ) (cost : ℕ) (paths : List Branch) → AreFound d left cost bridge stations paths → AreBranches d paths
+    found_make left cost paths found = subst (AreBranches d) (sym found.are) (ways_make left cost found.ways found.first)
+
+    -- a station that is full has none
+    full_has_none : (left : List ℕ) (cost : ℕ) (found : PlanFault) (ways : List (List ℕ)) → IsFull d left cost bridge stations found →
+        HaveRoom d left cost bridge stations ways → ⊥
+    full_has_none left cost found ways full roomy = not_both left cost bridge stations ways full.place roomy full.without
+
+    -- ---- in a given phase
+
+    module _ (every phase : ℕ) where
+      -- each link of the tree has room in it
+      given_room : (left : List ℕ) (cost : ℕ) (paths : List Branch) → AreLeftBehind d rows (pace_by every phase) cost bridge left →
+          AreFound d left cost bridge stations paths → HasRoomIn d rows cost (tree_of d paths) (pace_by every phase)
+      given_room left cost paths are found =
+          subst (λ (ps : List Branch). HasRoomIn d rows cost (tree_of d ps) (pace_by every phase)) (sym found.are)
+          (first_given d good left cost bridge to.inside stations found.ways found.first rows (pace_by every phase) are)
+
+      in_phase_so : (name : List ℕ) (octets : ℕ) (routed : Result (List Branch) PlanFault) (become : PlacedOr) (after : List Recorded) →
+          MayAsk d rows name octets → AreGoodTurns (Given every phase) → IsRouted d rows (Given every phase) (cost_of octets) (Between bridge stations) routed →
+          IsAnswered d entries name octets (Given every phase) routed become after → IsPlacedInPhase d rows name octets every phase bridge stations become
+      in_phase_so name octets (Ok paths) become after may good_turns routed is =
+          let cost : ℕ = cost_of octets in
+          let left : List ℕ = routed.left in
+          let found : AreFound d left cost bridge stations paths = routed.found in
+          let branches : AreBranches d paths = found_make left cost paths found in
+          record {
+            left = left;
+            are_left = routed.are_left;
+            placed = λ ways roomy few.
+                let same : paths ≡ map (names_along d bridge) ways = found_are left cost paths ways found roomy in
+                let along = along_so name octets (Given every phase) paths become after may good_turns branches (subst (AreFew d) (sym same) few) is in
+                given_so name octets every phase paths become along (given_room left cost paths routed.are_left found)
+                ∙ ap (λ (ps : List Branch). Placed (asked_with name octets every phase ps)) same;
+            wide = λ ways roomy many.
+                too_wide name octets (Given every phase) paths become after may good_turns branches
+                (subst (λ (ps : List Branch). hops_within d.limits < length (tree_of d ps)) (sym (found_are left cost paths ways found roomy)) many) is;
+            unplaced = λ place without. absurd (not_both left cost bridge stations found.ways place found.first without);
+            either = inl (found.ways, found.first);
+          }
+      in_phase_so name octets (Err found) become after may good_turns routed is =
+          let cost : ℕ = cost_of octets in
+          let full : IsFull d routed.left cost bridge stations found = routed.found in
+          record {
+            left = routed.left;
+            are_left = routed.are_left;
+            placed = λ ways roomy few. absurd (full_has_none routed.left cost found ways full roomy);
+            wide = λ ways roomy many. absurd (full_has_none routed.left cost found ways full roomy);
+            unplaced = λ place without. (found, is.0, full);
+            either = inr (full.place, full.without);
+          }
+
+    -- ---- in some phase
+
+    module _ (every : ℕ) (good_every : IsGoodEvery every) (cost : ℕ) (some : 1 ≤ cost) where
+      abbrev own : SettledWay
+      own = Between bridge stations
+
+      -- a stream that has room in a phase finds it
+      phase_finds : (phase : ℕ) → HasRoomInPhase d rows every cost bridge stations phase → FindsRoom d rows (Given every phase) cost own false → ⊥
+      phase_finds phase has finds = by finds.routed finds.is_routed finds.are_roomy
+        where
+          at : (left : List ℕ) → AreLeftBehind d rows (pace_by every phase) cost bridge left → HaveRoom d left cost bridge stations has.ways
+          at left are =
+              subst (λ (xs : List ℕ). HaveRoom d xs cost bridge stations has.ways) (left_is_one d rows (pace_by every phase) cost bridge has.left left has.are_left are) has.roomy
+
+          by : (routed : Result (List Branch) PlanFault) → IsRouted d rows (Given every phase) cost own routed →
+              AreRoomy d rows (Given every phase) cost routed false → ⊥
+          by (Err found) is roomy = full_has_none is.left cost found has.ways is.found (at is.left is.are_left)
+          by (Ok paths) is roomy =
+              let found : AreFound d is.left cost bridge stations paths = is.found in
+              let same : paths ≡ map (names_along d bridge) has.ways = found_are is.left cost paths has.ways found (at is.left is.are_left) in
+              let few : AreFew d paths = subst (AreFew d) (sym same) has.few in
+              let tree : tree_refusal d paths ≡ None = tree_is_good d paths (found_make is.left cost paths found) few in
+              let fits : is_roomy d rows cost (pace_by every phase) paths ≡ true =
+              roomy_if_room d rows cost (pace_by every phase) paths tree (given_room every phase is.left cost paths is.are_left found) in
+              let first : roomy.0 ≡ phase = roomy.1 in
+              let lacks : false ≡ is_roomy d rows cost (pace_by every phase) paths =
+              roomy.2 ∙ ap (λ (n : ℕ). is_roomy d rows cost (pace_by every n) paths) first in
+              false≢true (lacks ∙ fits)
+
+      -- and one that finds room has it
+      phase_has : (phase : ℕ) → FindsRoom d rows (Given every phase) cost own true → HasRoomInPhase d rows every cost bridge stations phase
+      phase_has phase finds = by finds.routed finds.is_routed finds.are_roomy
+        where
+          by : (routed : Result (List Branch) PlanFault) → IsRouted d rows (Given every phase) cost own routed →
+              AreRoomy d rows (Given every phase) cost routed true → HasRoomInPhase d rows every cost bridge stations phase
+          by (Err found) is roomy = absurd (false≢true (sym roomy))
+          by (Ok paths) is roomy =
+              let found : AreFound d is.left cost bridge stations paths = is.found in
+              let few : AreFew d paths = few_if_roomy d rows cost (pace_by every roomy.0) paths (sym roomy.2) in
+              record { left = is.left; are_left = is.are_left; ways = found.ways; roomy = found.first; few = subst (AreFew d) found.are few }
+
+      -- so it is by the emptiest phases
+      emptiest_finds : HasEmptiestRoom d rows every cost bridge stations → FindsRoom d rows (Chosen every) cost own false → ⊥
+      emptiest_finds has finds = by finds.routed finds.is_routed finds.are_roomy
+        where
+          at : (left : List ℕ) → left ≡ lefts_on d rows every → HaveRoom d left cost bridge stations has.ways
+          at left are = subst (λ (xs : List ℕ). HaveRoom d xs cost bridge stations has.ways) (sym are) has.roomy
+
+          by : (routed : Result (List Branch) PlanFault) → IsRouted d rows (Chosen every) cost own routed →
+              AreRoomy d rows (Chosen every) cost routed false → ⊥
+          by (Err found) is roomy = full_has_none is.left cost found has.ways is.found (at is.left is.are_left)
+          by (Ok paths) is roomy =
+              let found : AreFound d is.left cost bridge stations paths = is.found in
+              let same : paths ≡ map (names_along d bridge) has.ways = found_are is.left cost paths has.ways found (at is.left is.are_left) in
+              let few : AreFew d paths = subst (AreFew d) (sym same) has.few in
+              let tree : tree_refusal d paths ≡ None = tree_is_good d paths (found_make is.left cost paths found) few in
+              let least : IsLeastLoaded (loads_with d rows cost every (tree_of d paths)) every roomy.0 =
+              subst (λ (o : Option Refused). IsChosenBy d rows cost paths every o roomy.0) tree roomy.1 in
+              let there : HasRoomIn d rows cost (tree_of d paths) (pace_by every has.phase) =
+              subst (λ (ps : List Branch). HasRoomIn d rows cost (tree_of d ps) (pace_by every has.phase)) (sym same) has.room in
+              let fits : is_roomy d rows cost (pace_by every roomy.0) paths ≡ true =
+              roomy_if_room d rows cost (pace_by every roomy.0) paths tree (room_in_first d rows cost every paths roomy.0 has.phase some least has.within there) in
+              false≢true (roomy.2 ∙ fits)
+
+      emptiest_has : FindsRoom d rows (Chosen every) cost own true → HasEmptiestRoom d rows every cost bridge stations
+      emptiest_has finds = by finds.routed finds.is_routed finds.are_roomy
+        where
+          by : (routed : Result (List Branch) PlanFault) → IsRouted d rows (Chosen every) cost own routed →
+              AreRoomy d rows (Chosen every) cost routed true → HasEmptiestRoom d rows every cost bridge stations
+          by (Err found) is roomy = absurd (false≢true (sym roomy))
+          by (Ok paths) is roomy =
+              let found : AreFound d is.left cost bridge stations paths = is.found in
+              let pace : Pace = pace_by every roomy.0 in
+              let fits : is_roomy d rows cost pace paths ≡ true = sym roomy.2 in
+              record {
+                ways = found.ways;
+                roomy = subst (λ (xs : List ℕ). HaveRoom d xs cost bridge stations found.ways) is.are_left found.first;
+                few = subst (AreFew d) found.are (few_if_roomy d rows cost pace paths fits);
+                phase = roomy.0;
+                within = first_along d rows cost paths (Chosen every) roomy.0 good_every roomy.1;
+                room = subst (λ (ps : List Branch). HasRoomIn d rows cost (tree_of d ps) pace) found.are (room_if_roomy d rows cost pace paths fits);
+              }
+
+      -- a stream that is offered in each cycle has room in each link's only phase
+      each_has : every ≡ 1 → (ways : List (List ℕ)) → HaveRoom d (lefts_on d rows every) cost bridge stations ways →
+          hops_on_ways d bridge ways ≤ hops_within d.limits → HasEmptiestRoom d rows every cost bridge stations
+      each_has each ways roomy few = record {
+        ways = ways;
+        roomy = roomy;
+        few = few;
+        phase = 0;
+        within = omega (arith, each);
+        room = subst (λ (e : ℕ). HasRoomIn d rows cost (tree_of d (map (names_along d bridge) ways)) (pace_by e 0)) (sym each)
+            (first_enough d good (lefts_on d rows every) cost bridge to.inside stations ways roomy rows every refl each);
       }
-  between_so name octets turns bridge stations (Err found) become after may good_turns to routed is =
-      let cost : ℕ = cost_of octets in
-      let full : IsFull d routed.left cost bridge stations found = routed.found in
-      record {
-        left = routed.left;
-        are_left = routed.are_left;
-        placed = λ ways first few. absurd (not_both routed.left cost bridge stations ways full.place first full.without);
-        given = λ every phase turns_are ways first few. absurd (not_both routed.left cost bridge stations ways full.place first full.without);
-        each_cycle = λ each ways first few. absurd (not_both routed.left cost bridge stations ways full.place first full.without);
-        wide = λ ways first many. absurd (not_both routed.left cost bridge stations ways full.place first full.without);
-        unplaced = λ place without. (found, is.0, full);
-        either = inr (full.place, full.without);
+
+    module _ (every : ℕ) (good_every : IsGoodEvery every) (name : List ℕ) (octets : ℕ) (may : MayAsk d rows name octets) (become : PlacedOr)
+        (after : List Recorded) where
+      abbrev price : ℕ
+      price = cost_of octets
+
+      some_price : 1 ≤ price
+      some_price = omega (arith, may.least_octets)
+
+      -- it finds room by the emptiest phases
+      by_emptiest : (routed : Result (List Branch) PlanFault) → FindsRoom d rows (Chosen every) price (Between bridge stations) true →
+          IsRouted d rows (Chosen every) price (Between bridge stations) routed → IsAnswered d entries name octets (Chosen every) routed become after →
+          IsPlacedInSomePhase d rows name octets every bridge stations become
+      by_emptiest (Err found) finds is answer =
+          let has = emptiest_has every good_every price some_price finds in
+          absurd (full_has_none is.left price found has.ways is.found
+          (subst (λ (xs : List ℕ). HaveRoom d xs price bridge stations has.ways) (sym is.are_left) has.roomy))
+      by_emptiest (Ok paths) finds is answer =
+          let has = emptiest_has every good_every price some_price finds in
+          let found : AreFound d is.left price bridge stations paths = is.found in
+          let at : (ways : List (List ℕ)) → HaveRoom d (lefts_on d rows every) price bridge stations ways → paths ≡ map (names_along d bridge) ways =
+          λ ways roomy. found_are is.left price paths ways found (subst (λ (xs : List ℕ). HaveRoom d xs price bridge stations ways) (sym is.are_left) roomy) in
+          let along : (ways : List (List ℕ)) → HaveRoom d (lefts_on d rows every) price bridge stations ways → hops_on_ways d bridge ways ≤ hops_within d.limits →
+          IsPlacedAlong d rows name octets (Chosen every) (map (names_along d bridge) ways) become = λ ways roomy few.
+          subst (λ (ps : List Branch). IsPlacedAlong d rows name octets (Chosen every) ps become) (at ways roomy)
+          (along_so name octets (Chosen every) paths become after may good_every (found_make is.left price paths found)
+          (subst (AreFew d) (sym (at ways roomy)) few) answer) in
+          let here = along has.ways has.roomy has.few in
+          record {
+            placed = λ phase low room. record {
+              phase = here.phase;
+              within = here.is_phase.within;
+              paths = map (names_along d bridge) has.ways;
+              is = here.placed has.phase has.within has.room;
+            };
+            emptiest = λ ways roomy few phase low room. along ways roomy few;
+            each_cycle = λ each ways roomy few.
+                each_so name octets (Chosen every) (map (names_along d bridge) ways) become good_every each (along ways roomy few)
+                (first_enough d good (lefts_on d rows every) price bridge to.inside stations ways roomy rows every refl each);
+            first = λ lacks phase low room before. absurd (lacks has);
+            unplaced = λ lacks none. absurd (lacks has);
+          }
+
+      -- or else in a phase
+      by_phase : (phase : ℕ) (routed : Result (List Branch) PlanFault) → FindsRoom d rows (Chosen every) price (Between bridge stations) false →
+          IsFirstPhase d rows every price (Between bridge stations) phase → IsRouted d rows (Given every phase) price (Between bridge stations) routed →
+          IsAnswered d entries name octets (Given every phase) routed become after → IsPlacedInSomePhase d rows name octets every bridge stations become
+      by_phase phase routed lacks_first first is answer =
+          let has = phase_has every good_every price some_price phase first.roomy in
+          let here = in_phase_so every phase name octets routed become after may (is_good_pace every phase good_every first.within) is answer in
+          let at : (xs : HasRoomInPhase d rows every price bridge stations phase) → become ≡ Placed (asked_with name octets every phase (map (names_along d bridge) xs.ways)) =
+          λ xs. here.placed xs.ways (subst (λ (left : List ℕ). HaveRoom d left price bridge stations xs.ways)
+          (left_is_one d rows (pace_by every phase) price bridge xs.left here.left xs.are_left here.are_left) xs.roomy) xs.few in
+          let no_emptiest : ¬ HasEmptiestRoom d rows every price bridge stations = λ room. emptiest_finds every good_every price some_price room lacks_first in
+          record {
+            placed = λ other low room. record { phase = phase; within = first.within; paths = map (names_along d bridge) has.ways; is = at has };
+            emptiest = λ ways roomy few other low room.
+                absurd (no_emptiest (record { ways = ways; roomy = roomy; few = few; phase = other; within = low; room = room }));
+            each_cycle = λ each ways roomy few. absurd (no_emptiest (each_has every good_every price some_price each ways roomy few));
+            first = λ lacks other low room before. elim (cases_lt other phase) [
+              | inl less ↦ absurd (phase_finds every good_every price some_price other room (first.first other less))
+              | inr more ↦ elim (cases_lt phase other) [
+                | inl less ↦ absurd (before phase less has)
+                | inr rest ↦
+                    let same : phase ≡ other = omega (arith, more, rest) in
+                    subst (λ (n : ℕ). (xs : HasRoomInPhase d rows every price bridge stations n) →
+                    become ≡ Placed (asked_with name octets every n (map (names_along d bridge) xs.ways))) same at room
+              ]
+            ];
+            unplaced = λ lacks none. absurd (none phase first.within has);
+          }
+
+      -- the fault of a stream that lacks room by the emptiest phases
+      short_or_room : (paths : List Branch) (pace : Pace) → short_link d rows price pace (tree_of d paths) ≡ None →
+          HasRoomIn d rows price (tree_of d paths) pace
+      short_or_room paths pace none l c = elim (cases_lt (left_on d rows (tree_of d paths) pace l) price) [
+        | inl less ↦
+            let lacks : ℕ → Bool = λ k. nat_lt (left_on d rows (tree_of d paths) pace k) price in
+            let some = find_some lacks (links_in (tree_of d paths)) l c (lt-ltb (left_on d rows (tree_of d paths) pace l) price less) in
+            let both : None ≡ Some some.0 = sym none ∙ some.1 in absurd cc
+        | inr enough ↦ enough
+      ]
+
+      fault_so : (routed : Result (List Branch) PlanFault) → ¬ HasEmptiestRoom d rows every price bridge stations →
+          IsRouted d rows (Chosen every) price (Between bridge stations) routed → IsAnswered d entries name octets (Chosen every) routed become after →
+          (found : PlanFault) × (become ≡ Unplaced found) × IsEmptiestFault d rows every price bridge stations found
+      fault_so (Err found) lacks is answer =
+          (found, answer.0, inl (subst (λ (xs : List ℕ). IsFull d xs price bridge stations found) is.are_left is.found))
+      fault_so (Ok paths) lacks is answer =
+          subst (λ (ps : List Branch). IsAnswered d entries name octets (Chosen every) (Ok ps) become after →
+          (found : PlanFault) × (become ≡ Unplaced found) × IsEmptiestFault d rows every price bridge stations found) (sym is.found.are) on answer
+        where
+          ways : List (List ℕ)
+          ways = is.found.ways
+
+          names : List Branch
+          names = map (names_along d bridge) ways
+
+          roomy : HaveRoom d (lefts_on d rows every) price bridge stations ways
+          roomy = subst (λ (xs : List ℕ). HaveRoom d xs price bridge stations ways) is.are_left is.found.first
+
+          branches : AreBranches d names
+          branches = ways_make (lefts_on d rows every) price ways roomy
+
+          few_so : AreFew d names → IsPlacedAlong d rows name octets (Chosen every) names become →
+              (found : PlanFault) × (become ≡ Unplaced found) × IsEmptiestFault d rows every price bridge stations found
+          few_so few along = by (short_link d rows price (pace_by every along.phase) (tree_of d names)) refl
+            where
+              by : (o : Option ℕ) → short_link d rows price (pace_by every along.phase) (tree_of d names) ≡ o →
+                  (found : PlanFault) × (become ≡ Unplaced found) × IsEmptiestFault d rows every price bridge stations found
+              by None e = absurd (lacks (record {
+                ways = ways;
+                roomy = roomy;
+                few = few;
+                phase = along.phase;
+                within = along.is_phase.within;
+                room = short_or_room names (pace_by every along.phase) e;
+              }))
+              by (Some l) e = (
+                fault.Short (name_of_bridge d (bridge_of d l)) (name_of_end d l) (left_on d rows (tree_of d names) (pace_by every along.phase) l),
+                along.unplaced l e,
+                inr (ways, roomy, inr (record { phase = along.phase; least = along.is_phase; link = l; short = e; is = refl })),
+              )
+
+          on : IsAnswered d entries name octets (Chosen every) (Ok names) become after →
+              (found : PlanFault) × (become ≡ Unplaced found) × IsEmptiestFault d rows every price bridge stations found
+          on said = elim (cases_lt (hops_within d.limits) (length (tree_of d names))) [
+            | inl many ↦ (
+              fault.Refused refused.TooManyHops,
+              too_wide name octets (Chosen every) names become after may good_every branches many said,
+              inr (ways, roomy, inl (many, refl)),
+            )
+            | inr few ↦ few_so few (along_so name octets (Chosen every) names become after may good_every branches few said)
+          ]
+
+      -- or in none
+      by_none : (routed : Result (List Branch) PlanFault) → ¬ HasEmptiestRoom d rows every price bridge stations →
+          ((phase : ℕ) → phase < every → ¬ HasRoomInPhase d rows every price bridge stations phase) →
+          IsRouted d rows (Chosen every) price (Between bridge stations) routed → IsAnswered d entries name octets (Chosen every) routed become after →
+          IsPlacedInSomePhase d rows name octets every bridge stations become
+      by_none routed no_emptiest no_phase is answer = record {
+        placed = λ phase low room. absurd (no_phase phase low room);
+        emptiest = λ ways roomy few other low room.
+            absurd (no_emptiest (record { ways = ways; roomy = roomy; few = few; phase = other; within = low; room = room }));
+        each_cycle = λ each ways roomy few. absurd (no_emptiest (each_has every good_every price some_price each ways roomy few));
+        first = λ lacks phase low room before. absurd (no_phase phase low room);
+        unplaced = λ lacks others. fault_so routed lacks is answer;
       }
 
-  on_way_so : (name : List ℕ) (octets : ℕ) (turns : Turns) (way : SettledWay) (routed : Result (List Branch) PlanFault) (become : PlacedOr)
-      (after : List Recorded) → MayAsk d rows name octets → AreGoodTurns turns → IsGoodWay d way →
-      IsRouted d rows turns (cost_of octets) way routed → IsAnswered d entries name octets turns routed become after →
+      -- by the cycles that it takes
+      chosen_so : (taken : Turns) (routed : Result (List Branch) PlanFault) → AreChosenFor d rows every price (Between bridge stations) taken →
+          IsRouted d rows taken price (Between bridge stations) routed → IsAnswered d entries name octets taken routed become after →
+          IsPlacedInSomePhase d rows name octets every bridge stations become
+      chosen_so taken routed are is answer = by_routed are.routed are.is_routed are.are_taken
+        where
+          routed_in : (turns : Turns) → taken ≡ turns → IsRouted d rows turns price (Between bridge stations) routed
+          routed_in turns same = subst (λ (t : Turns). IsRouted d rows t price (Between bridge stations) routed) same is
+
+          answer_in : (turns : Turns) → taken ≡ turns → IsAnswered d entries name octets turns routed become after
+          answer_in turns same = subst (λ (t : Turns). IsAnswered d entries name octets t routed become after) same answer
+
+          by_first : FindsRoom d rows (Chosen every) price (Between bridge stations) false → (first : Option ℕ) →
+              IsFirstRoomy d rows every price (Between bridge stations) first → taken ≡ given_or_chosen every first →
+              IsPlacedInSomePhase d rows name octets every bridge stations become
+          by_first lacks None none same =
+              by_none routed (λ room. emptiest_finds every good_every price some_price room lacks)
+              (λ phase low room. phase_finds every good_every price some_price phase room (none phase low)) (routed_in (Chosen every) same)
+              (answer_in (Chosen every) same)
+          by_first lacks (Some phase) first same = by_phase phase routed lacks first (routed_in (Given every phase) same) (answer_in (Given every phase) same)
+
+          by : (roomy : Bool) → FindsRoom d rows (Chosen every) price (Between bridge stations) roomy →
+              AreTakenBy d rows every price (Between bridge stations) roomy taken → IsPlacedInSomePhase d rows name octets every bridge stations become
+          by true finds same = by_emptiest routed finds (routed_in (Chosen every) same) (answer_in (Chosen every) same)
+          by false lacks some = by_first lacks some.0 some.1 some.2
+
+          by_routed : (by_choice : Result (List Branch) PlanFault) → IsRouted d rows (Chosen every) price (Between bridge stations) by_choice →
+              AreTakenFor d rows every price (Between bridge stations) by_choice taken → IsPlacedInSomePhase d rows name octets every bridge stations become
+          by_routed (Err found) full same =
+              let full_by_emptiest : IsFull d (lefts_on d rows every) price bridge stations found =
+              subst (λ (xs : List ℕ). IsFull d xs price bridge stations found) full.are_left full.found in
+              by_none routed (λ room. full_has_none (lefts_on d rows every) price found room.ways full_by_emptiest room.roomy)
+              (λ phase low room. full_in_each d rows every phase price bridge stations found good_every.some full_by_emptiest room)
+              (routed_in (Chosen every) same) (answer_in (Chosen every) same)
+          by_routed (Ok paths) found some = by some.0 (record { routed = Ok paths; is_routed = found; are_roomy = some.1 }) some.2
+
+    between_so : (name : List ℕ) (octets : ℕ) (turns taken : Turns) (routed : Result (List Branch) PlanFault) (become : PlacedOr) (after : List Recorded) →
+        MayAsk d rows name octets → AreGoodTurns turns → AreTakenBetween d rows turns (cost_of octets) (Between bridge stations) taken →
+        IsRouted d rows taken (cost_of octets) (Between bridge stations) routed → IsAnswered d entries name octets taken routed become after →
+        IsPlacedBetween d rows name octets turns bridge stations become
+    between_so name octets (Given every phase) taken routed become after may good_turns are is answer =
+        in_phase_so every phase name octets routed become after may good_turns
+        (subst (λ (t : Turns). IsRouted d rows t (cost_of octets) (Between bridge stations) routed) are is)
+        (subst (λ (t : Turns). IsAnswered d entries name octets t routed become after) are answer)
+    between_so name octets (Chosen every) taken routed become after may good_turns are is answer =
+        chosen_so every good_turns name octets may become after taken routed are is answer
+
+  on_way_so : (name : List ℕ) (octets : ℕ) (turns taken : Turns) (way : SettledWay) (routed : Result (List Branch) PlanFault) (become : PlacedOr)
+      (after : List Recorded) → MayAsk d rows name octets → AreGoodTurns turns → IsGoodWay d way → AreTaken d rows turns (cost_of octets) way taken →
+      IsRouted d rows taken (cost_of octets) way routed → IsAnswered d entries name octets taken routed become after →
       IsPlacedOnWay d rows name octets turns way become
-  on_way_so name octets turns (Along paths) routed become after may good_turns branches given is =
+  on_way_so name octets turns taken (Along paths) routed become after may good_turns branches are given is =
       along_so name octets turns paths become after may good_turns branches.0 branches.1
-      (subst (λ (r : Result (List Branch) PlanFault). IsAnswered d entries name octets turns r become after) given is)
-  on_way_so name octets turns (Between bridge stations) routed become after may good_turns to found is =
-      between_so name octets turns bridge stations routed become after may good_turns to found is
+      (subst (λ (t : Turns). IsAskedFor d entries name octets t paths become after) are
+      (subst (λ (r : Result (List Branch) PlanFault). IsAnswered d entries name octets taken r become after) given is))
+  on_way_so name octets turns taken (Between bridge stations) routed become after may good_turns to are found is =
+      between_so bridge stations to name octets turns taken routed become after may good_turns are found is
 
   -- a stream that is ready, under a name that isn't held, while few rows are held
   pub placed_so : (stream : SettledStream) (become : PlacedOr) (after : List Recorded) → IsReady d stream →
@@ -385,8 +655,8 @@ module _ (one_way : FirstWayIsOne) (no_loop : FirstWaysHaveNoLoop) (parts : Firs
             name_free = free;
             few = few;
           } in
-          on_way_so stream.name octets (turns_on d.cycle_time stream) stream.way is.routed become after may
-          (turns_good d.cycle_time stream.pacing stream.traffic ready.paced) ready.good_way is.is_routed is.is_answered
+          on_way_so stream.name octets (turns_on d.cycle_time stream) is.taken stream.way is.is_placed.routed become after may
+          (turns_good d.cycle_time stream.pacing stream.traffic ready.paced) ready.good_way is.are_taken is.is_placed.is_routed is.is_placed.is_answered
 
 -- ---- streams one after the other
 

@@ -160,6 +160,21 @@ may_be_first d rows cost paths cycle_time pacing.InStep (Some t) first is = by_t
     by_tree None chosen = chosen.within
     by_tree (Some refusal) none = omega (arith, none, (every_is_good (t.interval / cycle_time)).some)
 
+-- and so may the phase along any branches, also if they are refused
+pub first_along : (d : Domain) (rows : List Row) (cost : ℕ) (paths : List Branch) (turns : Turns) (first : ℕ) → AreGoodTurns turns →
+    IsPhaseAlong d rows cost paths turns first → MayBeFirst turns first
+first_along d rows cost paths (Given every phase) first good is = is
+first_along d rows cost paths (Chosen every) first good is = by (tree_refusal d paths) is
+  where
+    by : (o : Option Refused) → IsChosenBy d rows cost paths every o first → first < every
+    by None chosen = chosen.within
+    by (Some refusal) none = omega (arith, none, good.some)
+
+-- it makes a pace
+pub paced_so : (turns : Turns) (first : ℕ) → AreGoodTurns turns → MayBeFirst turns first → is_pace (every_in turns) first ≡ true
+paced_so (Given every phase) first good is = ap (is_pace every) is ∙ good
+paced_so (Chosen every) first good is = is_good_pace every first good is
+
 -- and is a cycle before all paces repeat
 pub first_is_early : (cycle_time : ℕ) (given : Pacing) (traffic : Option TrafficText) (first : ℕ) → is_paced given ≡ true →
     MayBeFirst (turns_by cycle_time given traffic) first → first < most_every

@@ -6,3 +6,4 @@ pub mod Placing
 pub mod Known
 pub mod Routes
 pub mod Room
+pub mod Orders

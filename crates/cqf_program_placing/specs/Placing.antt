@@ -1,18 +1,23 @@
 -- Settled streams, placed on a cycle time one after the other.
-use Rattle.std.specs.Prelude.{ℕ, ◌≡◌, ◌<◌, ⊤, Bool, List, [], ◌∷◌, if◌then◌else◌, false, map, nat_lt, option_map, Option, Some, None, Result, Ok, Err, slice_get, slice_index, true}
+use Rattle.std.specs.Prelude.{ℕ, ◌≡◌, ◌<◌, ◌&&◌, ⊤, Bool, List, [], ◌∷◌, if◌then◌else◌, false, is_none, map, nat_le, nat_lt, option_map, Option, Some, None, Result, Ok, Err, slice_get, slice_index, true}
+use Rattle.std.specs.List.{list_all}
 use Rattle.std.specs.Option.{option_map_or}
 use Rattle.cqf_units.specs.Timing.{cost_of}
 use Rattle.cqf_model.specs.declared.history.Refused.{Refused}
 use Rattle.cqf_model.specs.declared.history.Refused.TheVariants as refused
 use Rattle.cqf_model.specs.declared.topology.Node.TheVariants.{Bridge, Station}
+use Rattle.cqf_model.specs.declared.topology.Hop.{Hop}
+use Rattle.cqf_model.specs.declared.topology.Pace.{Pace}
 use Rattle.cqf_model.specs.declared.topology.Row.{Row}
 use Rattle.cqf_model.specs.Domain.{Domain, bridge_of}
-use Rattle.cqf_model.specs.History.{Asked, Branch, Recorded, held_in, refusal_of, seals}
+use Rattle.cqf_model.specs.History.{Asked, Branch, Recorded, held_in, refusal_of, seals, tree_of}
 use Rattle.cqf_model.specs.Limits.{most_every, most_reserved}
 use Rattle.cqf_laws_timing.specs.Traffic.{needed}
 use Rattle.cqf_network.specs.Listeners.{AreFirstWays, IsFirstWithout}
 use Rattle.cqf_network.specs.Ways.{IsFirstWay, has_room, short_link}
 use Rattle.cqf_admission.specs.Asking.{asked_paced, asked_with}
+use Rattle.cqf_admission.specs.Branches.{tree_refusal}
+use Rattle.cqf_admission.specs.Costs.{left_in_turns}
 use Rattle.cqf_topology.specs.NodeNames.{name_of_bridge, name_of_node}
 use Rattle.cqf_traffic.specs.TrafficText.{TrafficText, promise_of}
 use Rattle.cqf_program_plans.specs.Compile.Output.{with_asked}
@@ -22,9 +27,10 @@ use Rattle.cqf_program_placing.specs.declared.faults.PlanFault.TheVariants as fa
 use Rattle.cqf_program_placing.specs.declared.outcomes.PlacingOutcome.{PlacingOutcome}
 use Rattle.cqf_program_placing.specs.declared.outcomes.PlacingOutcome.TheVariants as outcome
 use Rattle.cqf_program_placing.specs.declared.turns.Turns.{Turns}
+use Rattle.cqf_program_placing.specs.declared.turns.Turns.TheVariants.{Given, Chosen}
 use Rattle.cqf_program_placing.specs.Settled.{SettledStream, SettledWay, Along, Between}
 use Rattle.cqf_program_placing.specs.Hops.{AreLeft}
-use Rattle.cqf_program_placing.specs.Turns.{IsPhaseAlong, can_step, every_in, is_in_step, turns_by}
+use Rattle.cqf_program_placing.specs.Turns.{IsPhaseAlong, can_step, every_in, is_in_step, pace_by, turns_by}
 
 -- the outcome for a stream: it is placed, with its octets, cycles and branches; or it isn't, for a fault
 pub data PlacedOr : Type 0 where
@@ -102,6 +108,70 @@ abbrev pub IsRouted : Domain → List Row → Turns → ℕ → SettledWay → R
 IsRouted d rows turns cost (Along given) routed = routed ≡ Ok given
 IsRouted d rows turns cost (Between bridge stations) routed = IsRoutedBetween d rows turns cost bridge stations routed
 
+-- ---- in which cycles
+
+-- a hop's link has left what a stream costs, in the cycles of a pace in which the stream's frames pass it
+abbrev pub has_room_at : Domain → List Row → ℕ → Pace → Hop → Bool
+has_room_at d rows cost pace hop = nat_le cost (left_in_turns d rows pace hop)
+
+-- branches make a tree, and each of its links has room so
+abbrev pub is_roomy : Domain → List Row → ℕ → Pace → List Branch → Bool
+is_roomy d rows cost pace paths = is_none (tree_refusal d paths) && list_all (has_room_at d rows cost pace) (tree_of d paths)
+
+-- whether a stream finds room in these cycles: there are branches for it, and these have room in its phase
+abbrev pub AreRoomy : Domain → List Row → Turns → ℕ → Result (List Branch) PlanFault → Bool → Type 0
+AreRoomy d rows turns cost (Err found) roomy = roomy ≡ false
+AreRoomy d rows turns cost (Ok paths) roomy =
+    (phase : ℕ) × IsPhaseAlong d rows cost paths turns phase × (roomy ≡ is_roomy d rows cost (pace_by (every_in turns) phase) paths)
+
+pub record FindsRoom (d : Domain) (rows : List Row) (turns : Turns) (cost : ℕ) (way : SettledWay) (roomy : Bool) : Type 0 where
+  pub routed : Result (List Branch) PlanFault
+  pub is_routed : IsRouted d rows turns cost way routed
+  pub are_roomy : AreRoomy d rows turns cost routed roomy
+
+-- a phase is the first of those in which a stream finds room if the phase is given
+pub record IsFirstPhase (d : Domain) (rows : List Row) (every cost : ℕ) (way : SettledWay) (phase : ℕ) : Type 0 where
+  pub within : phase < every
+  pub roomy : FindsRoom d rows (Given every phase) cost way true
+  pub first : (other : ℕ) → other < phase → FindsRoom d rows (Given every other) cost way false
+
+-- the first such phase; or none, if the stream finds room in none
+abbrev pub IsFirstRoomy : Domain → List Row → ℕ → ℕ → SettledWay → Option ℕ → Type 0
+IsFirstRoomy d rows every cost way None = (phase : ℕ) → phase < every → FindsRoom d rows (Given every phase) cost way false
+IsFirstRoomy d rows every cost way (Some phase) = IsFirstPhase d rows every cost way phase
+
+abbrev pub given_or_chosen : ℕ → Option ℕ → Turns
+given_or_chosen every None = Chosen every
+given_or_chosen every (Some phase) = Given every phase
+
+-- the cycles of a stream whose phase is to be chosen, by its branches by the emptiest phase of each link. If these have room, its phase is
+-- chosen along them. Else the first phase in which it finds room is given. If there is none, or there are no branches, it is refused by the
+-- emptiest phases
+abbrev pub AreTakenBy : Domain → List Row → ℕ → ℕ → SettledWay → Bool → Turns → Type 0
+AreTakenBy d rows every cost way true taken = taken ≡ Chosen every
+AreTakenBy d rows every cost way false taken =
+    (first : Option ℕ) × IsFirstRoomy d rows every cost way first × (taken ≡ given_or_chosen every first)
+
+abbrev pub AreTakenFor : Domain → List Row → ℕ → ℕ → SettledWay → Result (List Branch) PlanFault → Turns → Type 0
+AreTakenFor d rows every cost way (Err found) taken = taken ≡ Chosen every
+AreTakenFor d rows every cost way (Ok paths) taken =
+    (roomy : Bool) × AreRoomy d rows (Chosen every) cost (Ok paths) roomy × AreTakenBy d rows every cost way roomy taken
+
+pub record AreChosenFor (d : Domain) (rows : List Row) (every cost : ℕ) (way : SettledWay) (taken : Turns) : Type 0 where
+  pub routed : Result (List Branch) PlanFault
+  pub is_routed : IsRouted d rows (Chosen every) cost way routed
+  pub are_taken : AreTakenFor d rows every cost way routed taken
+
+-- the cycles in which a stream is requested between a bridge and stations
+abbrev pub AreTakenBetween : Domain → List Row → Turns → ℕ → SettledWay → Turns → Type 0
+AreTakenBetween d rows (Given every phase) cost way taken = taken ≡ Given every phase
+AreTakenBetween d rows (Chosen every) cost way taken = AreChosenFor d rows every cost way taken
+
+-- and along given branches, for which nothing is searched
+abbrev pub AreTaken : Domain → List Row → Turns → ℕ → SettledWay → Turns → Type 0
+AreTaken d rows turns cost (Along given) taken = taken ≡ turns
+AreTaken d rows turns cost (Between bridge stations) taken = AreTakenBetween d rows turns cost (Between bridge stations) taken
+
 -- the fault of a stream that admission refuses; it names the ends of a link that lacks room
 abbrev pub fault_of_refusal : Domain → Refused → PlanFault
 fault_of_refusal d (refused.BudgetShort link left) = fault.Short (name_of_bridge d (bridge_of d link)) (name_of_end d link) left
@@ -132,9 +202,16 @@ pub record IsRoutedAndAnswered (d : Domain) (entries : List Recorded) (stream : 
   pub is_routed : IsRouted d (held_in d entries (seals entries)) turns (cost_of octets) stream.way routed
   pub is_answered : IsAnswered d entries stream.name octets turns routed become after
 
+-- the same for a stream with this reservation that is offered in these cycles, given or to be chosen
+pub record IsPlacedInTurns (d : Domain) (entries : List Recorded) (stream : SettledStream) (octets : ℕ) (turns : Turns) (become : PlacedOr)
+    (after : List Recorded) : Type 0 where
+  pub taken : Turns
+  pub are_taken : AreTaken d (held_in d entries (seals entries)) turns (cost_of octets) stream.way taken
+  pub is_placed : IsRoutedAndAnswered d entries stream octets taken become after
+
 abbrev pub IsPlacedBy : Domain → List Recorded → SettledStream → Result ℕ PlanFault → PlacedOr → List Recorded → Type 0
 IsPlacedBy d entries stream (Err found) become after = (become ≡ Unplaced found) × (after ≡ entries)
-IsPlacedBy d entries stream (Ok octets) become after = IsRoutedAndAnswered d entries stream octets (turns_on d.cycle_time stream) become after
+IsPlacedBy d entries stream (Ok octets) become after = IsPlacedInTurns d entries stream octets (turns_on d.cycle_time stream) become after
 
 -- the outcome for a stream after these entries, and the entries afterwards
 abbrev pub IsPlacing : Domain → List Recorded → SettledStream → PlacedOr → List Recorded → Type 0

@@ -24,9 +24,9 @@ use Rattle.cqf_program_placing.specs.declared.faults.PlanFault.TheVariants as fa
 use Rattle.cqf_program_placing.specs.declared.turns.Turns.{Turns}
 use Rattle.cqf_program_placing.specs.Placing.{ArePlaced, IsFull, IsPlacing, Placed, PlacedOr, PlacedStreams, Unplaced, names_along, reserved_on, turns_on}
 use Rattle.cqf_program_placing.specs.Settled.{Along, Between, SettledStream, SettledWay, settled_of}
-use Rattle.cqf_program_placing.specs.declared.turns.Turns.TheVariants.{Given}
-use Rattle.cqf_program_placing.specs.Hops.{AreLeft}
-use Rattle.cqf_program_placing.specs.Turns.{IsPhaseOnTree, MayBeFirst, every_in, pace_by}
+use Rattle.cqf_program_placing.specs.declared.turns.Turns.TheVariants.{Given, Chosen}
+use Rattle.cqf_program_placing.specs.Hops.{AreLeftBehind}
+use Rattle.cqf_program_placing.specs.Turns.{IsLeastLoaded, IsPhaseOnTree, MayBeFirst, every_in, lefts_on, loads_with, pace_by}
 
 -- in the cycles of a pace each link of a tree has left what a stream costs
 abbrev pub HasRoomIn : Domain → List Row → ℕ → List Hop → Pace → Type 0
@@ -60,29 +60,90 @@ MayBeWays limits = most_links < nodes_within limits
 abbrev pub hops_on_ways : Domain → ℕ → List (List ℕ) → ℕ
 hops_on_ways d bridge ways = length (tree_of d (map (names_along d bridge) ways))
 
--- a stream between a bridge and stations, by what links have left for it. If there are paths with room and their tree has no more hops than
--- are allowed, the stream takes the first such paths, and its outcome is as above; if moreover its phase is given, or it is offered in each
--- cycle, it is placed. If their tree has more hops, the stream isn't placed: the fault is `TooManyHops`. If there is no path with room to
--- some station, it isn't placed: the fault is `Full`, for the first such station. Either there are paths with room to all stations, or
--- there is a first station without one. So such a stream is never refused for its name, its octets, its cycles, its branches or the number
--- of streams, and unless its phase is chosen, not for a link that lacks room. With the limits of `profile`, a tree may have as many hops as
--- there are links, so it isn't refused for its hops
-pub record IsPlacedBetween (d : Domain) (rows : List Row) (name : List ℕ) (octets : ℕ) (turns : Turns) (bridge : ℕ) (stations : List ℕ)
-    (become : PlacedOr) : Type 0 where
+-- a stream between a bridge and stations in a given phase, by what links have left for it then. If there are paths with room and their tree
+-- has no more hops than are allowed, it is placed by the first such paths. If their tree has more hops, it isn't placed: the fault is
+-- `TooManyHops`. If there is no path with room to some station, it isn't placed: the fault is `Full`, for the first such station. Either
+-- there are paths with room to all stations, or there is a first station without one. So such a stream is never refused for its name, its
+-- octets, its cycles, its branches, the number of streams or a link that lacks room. With the limits of `profile`, a tree may have as many
+-- hops as there are links, so it isn't refused for its hops
+pub record IsPlacedInPhase (d : Domain) (rows : List Row) (name : List ℕ) (octets every phase bridge : ℕ) (stations : List ℕ) (become : PlacedOr) : Type 0 where
   pub left : List ℕ
-  pub are_left : AreLeft d rows turns (cost_of octets) bridge left
+  pub are_left : AreLeftBehind d rows (pace_by every phase) (cost_of octets) bridge left
   pub placed : (ways : List (List ℕ)) → HaveRoom d left (cost_of octets) bridge stations ways →
-      hops_on_ways d bridge ways ≤ hops_within d.limits → IsPlacedAlong d rows name octets turns (map (names_along d bridge) ways) become
-  pub given : (every phase : ℕ) → turns ≡ Given every phase → (ways : List (List ℕ)) → HaveRoom d left (cost_of octets) bridge stations ways →
       hops_on_ways d bridge ways ≤ hops_within d.limits → become ≡ Placed (asked_with name octets every phase (map (names_along d bridge) ways))
-  pub each_cycle : every_in turns ≡ 1 → (ways : List (List ℕ)) → HaveRoom d left (cost_of octets) bridge stations ways →
-      hops_on_ways d bridge ways ≤ hops_within d.limits → become ≡ Placed (asked_with name octets 1 0 (map (names_along d bridge) ways))
   pub wide : (ways : List (List ℕ)) → HaveRoom d left (cost_of octets) bridge stations ways →
       hops_within d.limits < hops_on_ways d bridge ways → become ≡ Unplaced (fault.Refused refused.TooManyHops)
   pub unplaced : (place : ℕ) → HasNoRoom d left (cost_of octets) bridge stations place →
       (found : PlanFault) × (become ≡ Unplaced found) × IsFull d left (cost_of octets) bridge stations found
   pub either : ((ways : List (List ℕ)) × HaveRoom d left (cost_of octets) bridge stations ways)
       ⊎ ((place : ℕ) × HasNoRoom d left (cost_of octets) bridge stations place)
+
+-- in a phase, a stream has room: there are paths with room then, and their tree has no more hops than are allowed
+pub record HasRoomInPhase (d : Domain) (rows : List Row) (every cost bridge : ℕ) (stations : List ℕ) (phase : ℕ) : Type 0 where
+  pub left : List ℕ
+  pub are_left : AreLeftBehind d rows (pace_by every phase) cost bridge left
+  pub ways : List (List ℕ)
+  pub roomy : HaveRoom d left cost bridge stations ways
+  pub few : hops_on_ways d bridge ways ≤ hops_within d.limits
+
+-- by the emptiest phase of each link, a stream has room: there are paths with room so, their tree has no more hops than are allowed, and in
+-- some phase each of its links has room
+pub record HasEmptiestRoom (d : Domain) (rows : List Row) (every cost bridge : ℕ) (stations : List ℕ) : Type 0 where
+  pub ways : List (List ℕ)
+  pub roomy : HaveRoom d (lefts_on d rows every) cost bridge stations ways
+  pub few : hops_on_ways d bridge ways ≤ hops_within d.limits
+  pub phase : ℕ
+  pub within : phase < every
+  pub room : HasRoomIn d rows cost (tree_of d (map (names_along d bridge) ways)) (pace_by every phase)
+
+-- the faults of a stream that lacks room by the emptiest phases: `Short`, for the first link that lacks room in the phase in which the loads
+-- are the least; `TooManyHops`; or `Full`
+pub record IsShortOn (d : Domain) (rows : List Row) (every cost bridge : ℕ) (ways : List (List ℕ)) (found : PlanFault) : Type 0 where
+  pub phase : ℕ
+  pub least : IsLeastLoaded (loads_with d rows cost every (tree_of d (map (names_along d bridge) ways))) every phase
+  pub link : ℕ
+  pub short : short_link d rows cost (pace_by every phase) (tree_of d (map (names_along d bridge) ways)) ≡ Some link
+  pub is : found ≡ fault.Short (name_of_bridge d (bridge_of d link)) (name_of_end d link)
+      (left_on d rows (tree_of d (map (names_along d bridge) ways)) (pace_by every phase) link)
+
+abbrev pub IsFaultOn : Domain → List Row → ℕ → ℕ → ℕ → List (List ℕ) → PlanFault → Type 0
+IsFaultOn d rows every cost bridge ways found =
+    ((hops_within d.limits < hops_on_ways d bridge ways) × (found ≡ fault.Refused refused.TooManyHops)) ⊎ IsShortOn d rows every cost bridge ways found
+
+abbrev pub IsEmptiestFault : Domain → List Row → ℕ → ℕ → ℕ → List ℕ → PlanFault → Type 0
+IsEmptiestFault d rows every cost bridge stations found = IsFull d (lefts_on d rows every) cost bridge stations found
+    ⊎ ((ways : List (List ℕ)) × HaveRoom d (lefts_on d rows every) cost bridge stations ways × IsFaultOn d rows every cost bridge ways found)
+
+-- a stream is placed with its octets in some phase
+pub record IsPlacedSomehow (name : List ℕ) (octets every : ℕ) (become : PlacedOr) : Type 0 where
+  pub phase : ℕ
+  pub within : phase < every
+  pub paths : List Branch
+  pub is : become ≡ Placed (asked_with name octets every phase paths)
+
+-- a stream between a bridge and stations whose phase is to be chosen. If it has room in some phase, it is placed: so it isn't placed only if
+-- it has room in no phase. If it has room by the emptiest phases, it is placed along their first paths, in the phase in which the loads are
+-- the least; if it is offered in each cycle, paths with room are enough. Else it is placed by the first paths of the first phase in which it
+-- has room. If there is none, it isn't placed, for its fault by the emptiest phases
+pub record IsPlacedInSomePhase (d : Domain) (rows : List Row) (name : List ℕ) (octets every bridge : ℕ) (stations : List ℕ) (become : PlacedOr) : Type 0 where
+  pub placed : (phase : ℕ) → phase < every → HasRoomInPhase d rows every (cost_of octets) bridge stations phase → IsPlacedSomehow name octets every become
+  pub emptiest : (ways : List (List ℕ)) → HaveRoom d (lefts_on d rows every) (cost_of octets) bridge stations ways →
+      hops_on_ways d bridge ways ≤ hops_within d.limits → (phase : ℕ) → phase < every →
+      HasRoomIn d rows (cost_of octets) (tree_of d (map (names_along d bridge) ways)) (pace_by every phase) →
+      IsPlacedAlong d rows name octets (Chosen every) (map (names_along d bridge) ways) become
+  pub each_cycle : every ≡ 1 → (ways : List (List ℕ)) → HaveRoom d (lefts_on d rows every) (cost_of octets) bridge stations ways →
+      hops_on_ways d bridge ways ≤ hops_within d.limits → become ≡ Placed (asked_with name octets 1 0 (map (names_along d bridge) ways))
+  pub first : ¬ HasEmptiestRoom d rows every (cost_of octets) bridge stations → (phase : ℕ) → phase < every →
+      (has : HasRoomInPhase d rows every (cost_of octets) bridge stations phase) →
+      ((other : ℕ) → other < phase → ¬ HasRoomInPhase d rows every (cost_of octets) bridge stations other) →
+      become ≡ Placed (asked_with name octets every phase (map (names_along d bridge) has.ways))
+  pub unplaced : ¬ HasEmptiestRoom d rows every (cost_of octets) bridge stations →
+      ((phase : ℕ) → phase < every → ¬ HasRoomInPhase d rows every (cost_of octets) bridge stations phase) →
+      (found : PlanFault) × (become ≡ Unplaced found) × IsEmptiestFault d rows every (cost_of octets) bridge stations found
+
+abbrev pub IsPlacedBetween : Domain → List Row → List ℕ → ℕ → Turns → ℕ → List ℕ → PlacedOr → Type 0
+IsPlacedBetween d rows name octets (Given every phase) bridge stations become = IsPlacedInPhase d rows name octets every phase bridge stations become
+IsPlacedBetween d rows name octets (Chosen every) bridge stations become = IsPlacedInSomePhase d rows name octets every bridge stations become
 
 abbrev pub IsPlacedOnWay : Domain → List Row → List ℕ → ℕ → Turns → SettledWay → PlacedOr → Type 0
 IsPlacedOnWay d rows name octets turns (Along paths) become = IsPlacedAlong d rows name octets turns paths become

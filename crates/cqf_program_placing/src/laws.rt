@@ -9,13 +9,16 @@ use cqf_network::first_ways_are_a_tree;
 ///
 /// A stream between a bridge and stations takes the first paths on which each link has left what it costs, if there is such a path to each
 /// of its stations and their tree has no more hops than are allowed. Else it isn't placed, for the first station without such a path, or
-/// for its hops. For a stream with given cycles, what a link has left is what it has when the stream's frames pass it, and these leave each
-/// bridge after as few links as room permits. For a stream whose phase is chosen, it is what the link has left in its emptiest phase.
+/// for its hops. What a link has left is what it has when the stream's frames pass it, and these leave each bridge after as few links as
+/// room permits. So admission refuses no stream for which such paths were found, except for the hops of their tree, and with the limits of
+/// `profile` not for these.
 ///
-/// A stream whose phase isn't chosen is placed by these paths. So admission refuses no stream for which they were found, except for the
-/// hops of their tree, and with the limits of `profile` not for these. A stream whose phase is chosen is placed if and only if there is a
-/// phase in which each link of the tree has left what it costs. It gets the first phase in which the tree's loads, in descending order, are
-/// the least. Else it isn't placed, for the first link that lacks room. The same holds along given branches.
+/// A stream whose phase is to be chosen isn't placed only if there are no such paths in any phase. It takes the first paths by what each
+/// link has left in its emptiest phase, if their tree has a phase in which each link has left what the stream costs. Then it gets the first
+/// phase in which the tree's loads, in descending order, are the least. Else it takes the first phase in which it has such paths.
+///
+/// A stream along given branches whose phase is to be chosen is placed if and only if there is a phase in which each link of the tree has
+/// left what it costs. It gets the first phase in which the loads are the least. Else it isn't placed, for the first link that lacks room.
 pub fn placed_where_there_is_room()
     ensures { PlacedWhereThereIsRoom }
 {

@@ -4,7 +4,8 @@
 //!   number and deadlines from the edge bridge; or [`Unsettled`], the first fault.
 //! - [`place`] admits settled streams on a cycle time in their order, each with what its traffic needs in a cycle. Streams that have no
 //!   branches take the first paths with room. Those of talkers in step take the first of the phases in which their links, from the fullest
-//!   down, are least full. It returns a [`Placing`], with the [`PlacingOutcome`] of each stream.
+//!   down, are least full; if these have no phase in common, the first phase in which some paths have room. It returns a [`Placing`], with
+//!   the [`PlacingOutcome`] of each stream. [`place_in_order`] does so in another order.
 //! - A [`PlanFault`] is why a stream isn't settled, or isn't placed.
 //!
 //! `specs/` defines both (`Settled`, `Placing`), in which cycles streams are offered (`Turns`), after how many links their frames leave
@@ -22,6 +23,7 @@
 mod asking;
 mod branched;
 mod branches;
+mod choosing;
 mod deadlines;
 mod entrances;
 mod faults;
@@ -42,7 +44,8 @@ mod ways_there;
 pub use faults::PlanFault;
 pub use laws::placed_where_there_is_room;
 pub use outcomes::PlacingOutcome;
-pub use placing::{Placing, place};
+pub use placing::{Placing, place, place_in_order};
 pub(crate) use settled::StreamWay;
 pub use settled::{Settled, Unsettled};
 pub use settling::settle;
+pub use turns::Turns;

@@ -1,5 +1,5 @@
 //! Settled streams, placed on a cycle time one after the other.
-ghost use Rattle.std.specs.Prelude.{ℕ, ◌≡◌, ◌<◌, ◌≤◌, All, Err, IfErr, IfOk, Ok, length, map};
+ghost use Rattle.std.specs.Prelude.{ℕ, ◌≡◌, ◌<◌, ◌≤◌, All, IfOk, length, map};
 ghost use Rattle.cqf_admission.specs.Admission.{calls};
 ghost use Rattle.cqf_admission.specs.Tables.{AreAlongLinks};
 ghost use Rattle.cqf_admission.specs.Turns.{AreOfGoodPaces};
@@ -7,27 +7,26 @@ ghost use Rattle.cqf_admission.specs.Branches.{branches_of};
 ghost use Rattle.cqf_laws_history.specs.StateLaws.{AreHeld};
 ghost use Rattle.cqf_model.specs.History.{held_in, seals};
 ghost use Rattle.cqf_model.specs.Limits.{most_calls, most_reserved, most_streams};
+ghost use Rattle.cqf_units.specs.Timing.{cost_of};
 ghost use Rattle.cqf_network.specs.NetworkDomain.{IsOpenCycle, domain_at};
 ghost use Rattle.cqf_program_placing.specs.Known.{AreKnown};
-ghost use Rattle.cqf_program_placing.specs.Placing.{AreFound, ArePlaced, IsAskedFor, IsPlacing, IsRouted, IsRoutedAndAnswered, outcome_value};
-ghost use Rattle.cqf_program_placing.specs.Routes.{AreReached, IsFullFor, IsUnrouted};
-ghost use Rattle.cqf_program_placing.specs.Settled.{Between, IsOnWay, IsPlaceable, open_domain, settled_value, way_value};
-ghost use Rattle.cqf_program_placing.specs.Turns.{AreGoodTurns, CostsSome, IsGoodEvery, lefts_on};
+ghost use Rattle.cqf_program_placing.specs.Orders.{in_order};
+ghost use Rattle.cqf_program_placing.specs.Placing.{ArePlaced, IsAskedFor, IsPlacedInTurns, IsPlacing, outcome_value};
+ghost use Rattle.cqf_program_placing.specs.Routes.{IsGoodRoute};
+ghost use Rattle.cqf_program_placing.specs.Settled.{IsOnWay, IsPlaceable, open_domain, settled_value, way_value};
+ghost use Rattle.cqf_program_placing.specs.Turns.{AreGoodTurns, CostsSome};
 
 use crate::asking::ask;
-use crate::branched::branched_by;
-use crate::branches::copied_branches;
-use crate::hops::PacedRoom;
-use crate::phases::phase_along;
+use crate::choosing::{Route, find_route};
 use crate::reserving::reservation;
-use crate::rooms::{Rooms, pace_by};
-use crate::routes::{Unrouted, branches_between};
+use crate::rooms::Rooms;
+use crate::routes::Unrouted;
 use crate::turns::{Turns, turns_on};
-use crate::{PlacingOutcome, Settled, StreamWay};
+use crate::{PlacingOutcome, Settled};
 use cqf_admission::{Admission, SealFault, Table};
 use cqf_laws_history::state_follows_history;
 use cqf_model::{Link, Row};
-use cqf_network::{NetworkDomain, Room};
+use cqf_network::NetworkDomain;
 use cqf_topology::{Domain, PacedRequest};
 use cqf_units::{Memory, Name, Octets, cost};
 use std::alloc::{AllocError, Global};
@@ -53,166 +52,7 @@ impl Model for Placing {
     ghost invariant = { λ p. seals p.admission.entries ≡ 0 };
 }
 
-/// Returns the branches of the first paths from a bridge to stations on which each link has room, with the streams that are placed, for a
-/// stream of this cost in the given cycles.
-///
-/// # Errors
-/// The fault of the first station to which no path has room; `Memory` if an allocation fails.
-fn given_branches(
-    alloc: Global,
-    domain: &Domain,
-    links: &[Link],
-    admission: &Admission,
-    bridge: u16,
-    stations: &[u16],
-    every: u8,
-    phase: u8,
-    cost: u32,
-) -> Result<Vec<Vec<String>>, Unrouted>
-    requires domain { admission.now.domain ≡ domain.now }
-    requires links { links.now ≡ domain.now.links }
-    requires inside { bridge < length domain.now.bridges }
-    requires reached { AreReached domain.now bridge stations.now }
-    requires good { AreGoodTurns (Turns.Given every phase) }
-    ensures ok { let entries = admission.now.entries in IfOk result (λ paths. IsRouted domain.now (held_in domain.now entries (seals entries))
-        (Turns.Given every phase) cost (Between bridge stations.now) (Ok (branches_of paths.items))) }
-    ensures err { let entries = admission.now.entries in IfErr result (IsUnrouted domain.now (held_in domain.now entries (seals entries))
-        (Turns.Given every phase) cost (Between bridge stations.now)) }
-{
-    let paced = PacedRoom {
-        domain,
-        admission,
-        pace: pace_by(every, phase),
-        cost,
-    };
-    let left = paced.lefts(alloc, bridge)?;
-    let room = Room {
-        links,
-        left: left.as_slice(),
-        cost,
-    };
-    branches_between(alloc, domain, room, bridge, stations)
-}
-
-/// Returns the branches of the first paths from a bridge to stations on which each link has room, with the streams that are placed, for a
-/// stream of this cost in its emptiest phase of `every`.
-///
-/// # Errors
-/// As [`given_branches`].
-fn chosen_branches(
-    alloc: Global,
-    domain: &Domain,
-    links: &[Link],
-    admission: &Admission,
-    rooms: &mut Rooms,
-    bridge: u16,
-    stations: &[u16],
-    every: u8,
-    cost: u32,
-) -> Result<Vec<Vec<String>>, Unrouted>
-    requires domain { admission.now.domain ≡ domain.now }
-    requires links { links.now ≡ domain.now.links }
-    requires reached { AreReached domain.now bridge stations.now }
-    requires good { IsGoodEvery every }
-    requires known { AreKnown domain.now (held_in domain.now admission.now.entries (seals admission.now.entries)) rooms.old }
-    ensures known { AreKnown domain.now (held_in domain.now admission.now.entries (seals admission.now.entries)) rooms.new }
-    ensures ok { let d = domain.now in let entries = admission.now.entries in IfOk result (λ paths.
-        AreFound d (lefts_on d (held_in d entries (seals entries)) every) cost bridge stations.now (branches_of paths.items)) }
-    ensures err { let d = domain.now in let entries = admission.now.entries in IfErr result
-        (IsFullFor d (lefts_on d (held_in d entries (seals entries)) every) cost bridge stations.now) }
-{
-    let place = rooms.find(alloc, domain, admission, every)?;
-    let room = Room {
-        links,
-        left: rooms.lefts_at(place, every),
-        cost,
-    };
-    branches_between(alloc, domain, room, bridge, stations)
-}
-
-/// Returns the branches of the first paths with room from a bridge to stations for a stream of this cost in these cycles, with the streams
-/// that are placed.
-///
-/// # Errors
-/// As [`given_branches`].
-fn found_branches(
-    alloc: Global,
-    domain: &Domain,
-    links: &[Link],
-    admission: &Admission,
-    rooms: &mut Rooms,
-    bridge: u16,
-    stations: &[u16],
-    turns: Turns,
-    cost: u32,
-) -> Result<Vec<Vec<String>>, Unrouted>
-    requires domain { admission.now.domain ≡ domain.now }
-    requires links { links.now ≡ domain.now.links }
-    requires on_way { IsOnWay domain.now (Between bridge stations.now) }
-    requires good { AreGoodTurns turns }
-    requires known { AreKnown domain.now (held_in domain.now admission.now.entries (seals admission.now.entries)) rooms.old }
-    ensures known { AreKnown domain.now (held_in domain.now admission.now.entries (seals admission.now.entries)) rooms.new }
-    ensures ok { let entries = admission.now.entries in IfOk result (λ paths.
-        IsRouted domain.now (held_in domain.now entries (seals entries)) turns cost (Between bridge stations.now) (Ok (branches_of paths.items))) }
-    ensures err { let entries = admission.now.entries in IfErr result
-        (IsUnrouted domain.now (held_in domain.now entries (seals entries)) turns cost (Between bridge stations.now)) }
-{
-    match turns {
-        Turns::Given { every, phase } => given_branches(
-            alloc, domain, links, admission, bridge, stations, every, phase, cost,
-        ),
-        Turns::Chosen { every } => chosen_branches(
-            alloc, domain, links, admission, rooms, bridge, stations, every, cost,
-        ),
-    }
-}
-
-/// Returns the branches of a stream of this cost in these cycles: the given ones, or those of the first paths with room with the streams
-/// that are placed.
-///
-/// # Errors
-/// The fault of the first listener to which no path has room; `Memory` if an allocation fails.
-fn branches_by(
-    alloc: Global,
-    domain: &Domain,
-    links: &[Link],
-    admission: &Admission,
-    rooms: &mut Rooms,
-    way: &StreamWay,
-    turns: Turns,
-    cost: u32,
-) -> Result<Vec<Vec<String>>, Unrouted>
-    requires domain { admission.now.domain ≡ domain.now }
-    requires links { links.now ≡ domain.now.links }
-    requires on_way { IsOnWay domain.now (way_value way.now) }
-    requires good { AreGoodTurns turns }
-    requires known { AreKnown domain.now (held_in domain.now admission.now.entries (seals admission.now.entries)) rooms.old }
-    ensures known { AreKnown domain.now (held_in domain.now admission.now.entries (seals admission.now.entries)) rooms.new }
-    ensures ok { let entries = admission.now.entries in IfOk result (λ paths.
-        IsRouted domain.now (held_in domain.now entries (seals entries)) turns cost (way_value way.now) (Ok (branches_of paths.items))) }
-    ensures err { let entries = admission.now.entries in IfErr result
-        (IsUnrouted domain.now (held_in domain.now entries (seals entries)) turns cost (way_value way.now)) }
-{
-    match way {
-        StreamWay::Along(paths) => {
-            let given = copied_branches(alloc, paths.as_slice())?;
-            Ok(given)
-        }
-        StreamWay::Between(bridge, stations) => found_branches(
-            alloc,
-            domain,
-            links,
-            admission,
-            rooms,
-            *bridge,
-            stations.as_slice(),
-            turns,
-            cost,
-        ),
-    }
-}
-
-/// Requests a stream with this reservation in these cycles along some branches, after those that are placed.
+/// Requests a stream with this reservation along a route, after those that are placed.
 fn place_along(
     alloc: Global,
     domain: &Domain,
@@ -220,24 +60,24 @@ fn place_along(
     rooms: &mut Rooms,
     name: &Name,
     octets: u32,
-    turns: Turns,
-    paths: Vec<Vec<String>>,
+    route: Route,
 ) -> Result<PlacingOutcome, Memory>
     requires domain { admission.old.domain ≡ domain.now }
     requires free { calls admission.old.entries < most_calls }
-    requires few { octets ≤ most_reserved }
-    requires good { AreGoodTurns turns }
-    requires some { CostsSome turns octets }
+    requires good { let entries = admission.old.entries in IsGoodRoute domain.now (held_in domain.now entries (seals entries)) (cost_of octets) route }
     requires known { AreKnown domain.now (held_in domain.now admission.old.entries (seals admission.old.entries)) rooms.old }
     ensures domain { admission.new.domain ≡ domain.now }
-    ensures placed { IfOk result (λ outcome. IsAskedFor domain.now admission.old.entries name.now octets turns (branches_of paths.items)
-        (outcome_value outcome) admission.new.entries) }
+    ensures placed { IfOk result (λ outcome. IsAskedFor domain.now admission.old.entries name.now octets route.turns
+        (branches_of route.branched.paths.items) (outcome_value outcome) admission.new.entries) }
     ensures known { IfOk result (λ _. AreKnown domain.now (held_in domain.now admission.new.entries (seals admission.new.entries)) rooms.new) }
 {
     state_follows_history();
     admission.know();
-    let branched = branched_by(domain, paths)?;
-    let phase = phase_along(domain, admission, cost(Octets(octets)).0, turns, &branched);
+    let Route {
+        branched,
+        turns,
+        phase,
+    } = route;
     let name = String::from_str(alloc, name.as_str())?;
     let request = PacedRequest {
         name,
@@ -275,10 +115,10 @@ fn place_with(
     requires known { AreKnown domain.now (held_in domain.now admission.old.entries (seals admission.old.entries)) rooms.old }
     ensures domain { admission.new.domain ≡ domain.now }
     ensures placed { IfOk result (λ outcome.
-        IsRoutedAndAnswered domain.now admission.old.entries (settled_value stream.now) octets turns (outcome_value outcome) admission.new.entries) }
+        IsPlacedInTurns domain.now admission.old.entries (settled_value stream.now) octets turns (outcome_value outcome) admission.new.entries) }
     ensures known { IfOk result (λ _. AreKnown domain.now (held_in domain.now admission.new.entries (seals admission.new.entries)) rooms.new) }
 {
-    let paths = match branches_by(
+    let route = match find_route(
         alloc,
         domain,
         links,
@@ -288,22 +128,13 @@ fn place_with(
         turns,
         cost(Octets(octets)).0,
     ) {
-        Ok(paths) => paths,
+        Ok(route) => route,
         Err(unrouted) => match unrouted {
             Unrouted::Fault(found) => return Ok(PlacingOutcome::Unplaced(found)),
             Unrouted::Memory => return Err(AllocError),
         },
     };
-    let outcome = place_along(
-        alloc,
-        domain,
-        admission,
-        rooms,
-        &stream.name,
-        octets,
-        turns,
-        paths,
-    )?;
+    let outcome = place_along(alloc, domain, admission, rooms, &stream.name, octets, route)?;
     Ok(outcome)
 }
 
@@ -368,8 +199,8 @@ fn place_all(
 /// A stream reserves what its traffic needs in a cycle, or the octets that it requests if these are enough. A stream without branches takes
 /// the first paths to its listeners on which each link has room. If its cycles are given, a link needs room in the cycles in which the
 /// stream's frames pass it. If its talker is in step, a link needs room in its own emptiest phase; the stream then takes the first of the
-/// phases in which its links, from the fullest down, are least full. The stream is then requested as any other. A stream that isn't placed
-/// holds nothing.
+/// phases in which its links, from the fullest down, are least full. If it finds no room so, it takes the first phase in which it would find
+/// room if that phase were given. The stream is then requested as any other. A stream that isn't placed holds nothing.
 ///
 /// # Errors
 /// `Memory` if an allocation fails.
@@ -387,6 +218,59 @@ pub fn place(
 {
     let domain = network.at(alloc, cycle_time)?;
     place_all(alloc, &domain, network.links(), streams)
+}
+
+/// Places streams on a domain, which has these links, in an order of their indices.
+fn place_each(
+    alloc: Global,
+    domain: &Domain,
+    links: &[Link],
+    streams: &[Settled],
+    order: &[usize],
+) -> Result<Placing, Memory>
+    requires links { links.now ≡ domain.now.links }
+    requires inside { All (λ index. index < length streams.now) order.now }
+    requires few { length order.now ≤ most_streams }
+    requires placeable { All (IsPlaceable domain.now) (map settled_value streams.now) }
+    ensures domain { IfOk result (λ placing. placing.domain ≡ domain.now) }
+    ensures placed { IfOk result (λ placing. ArePlaced (in_order (map settled_value streams.now) order.now) placing) }
+{
+    state_follows_history();
+    let mut admission = Admission::new(alloc, domain)?;
+    let mut rooms = Rooms::new(alloc);
+    let mut outcomes = Vec::new(alloc);
+    for index in order {
+        let stream = &streams[*index];
+        let outcome = place_one(alloc, domain, links, &mut admission, &mut rooms, stream)?;
+        outcomes.push(outcome)?;
+    }
+    Ok(Placing {
+        admission,
+        outcomes,
+    })
+}
+
+/// Places settled streams of a network file on an open cycle time, in nanoseconds, as [`place`] does, but in an order of their indices. The
+/// outcomes are in that order too.
+///
+/// # Errors
+/// `Memory` if an allocation fails.
+pub fn place_in_order(
+    alloc: Global,
+    network: &NetworkDomain,
+    cycle_time: u32,
+    streams: &[Settled],
+    order: &[usize],
+) -> Result<Placing, Memory>
+    requires open { IsOpenCycle network.now cycle_time }
+    requires inside { All (λ index. index < length streams.now) order.now }
+    requires few { length order.now ≤ most_streams }
+    requires on_way { All (IsPlaceable (open_domain network.now)) (map settled_value streams.now) }
+    ensures domain { IfOk result (λ placing. placing.domain ≡ domain_at network.now cycle_time) }
+    ensures placed { IfOk result (λ placing. ArePlaced (in_order (map settled_value streams.now) order.now) placing) }
+{
+    let domain = network.at(alloc, cycle_time)?;
+    place_each(alloc, &domain, network.links(), streams, order)
 }
 
 /// Returns the rows of a table, by number.

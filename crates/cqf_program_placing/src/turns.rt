@@ -1,10 +1,11 @@
 //! The cycles in which a stream is offered on a cycle time.
 ghost use Rattle.std.specs.Prelude.{◌≡◌, ◌<◌, ◌^◌, IsTrue};
+ghost use Rattle.cqf_program_placing.specs.Orders.{is_open};
 ghost use Rattle.cqf_program_placing.specs.Placing.{is_chosen_on, turns_on};
 ghost use Rattle.cqf_program_placing.specs.Settled.{is_paced, settled_value};
 ghost use Rattle.cqf_program_placing.specs.Turns.{AreGoodTurns, IsGoodEvery, can_step, every_in, every_of, keeps_step, stays_in_step, turns_in_step};
 
-use crate::Settled;
+use crate::{Settled, StreamWay};
 use cqf_model::MOST_EVERY;
 use cqf_network::Pacing;
 use cqf_traffic::Traffic;
@@ -12,7 +13,7 @@ use cqf_units::Nanos;
 
 /// The cycles in which a stream is offered on a cycle time.
 #[derive(Clone, Copy, Debug)]
-pub(crate) enum Turns {
+pub enum Turns {
     /// One of `every` cycles from `phase` on.
     Given { every: u8, phase: u8 },
     /// One of `every` cycles; the first is to be chosen.
@@ -127,6 +128,15 @@ impl Settled {
         match (self.pacing, self.traffic) {
             (Pacing::InStep, Some(traffic)) => keeps_step(traffic, cycle_time),
             _ => false,
+        }
+    }
+    /// Returns whether the path of the stream is to be found, not given.
+    pub fn is_open(&self) -> bool
+        ensures { result ≡ is_open (settled_value self.now).way }
+    {
+        match &self.way {
+            StreamWay::Along(_) => false,
+            StreamWay::Between(..) => true,
         }
     }
 }

@@ -34,7 +34,8 @@ use Rattle.cqf_program_offers.specs.OffersOutput.{asked_in}
 use Rattle.cqf_program_placing.specs.declared.faults.PlanFault.{PlanFault}
 use Rattle.cqf_program_placing.specs.declared.faults.PlanFault.TheVariants as plan_fault
 use Rattle.cqf_program_placing.specs.declared.settled.Unsettled.TheVariants as unsettled
-use Rattle.cqf_program_placing.specs.Placing.{ArePlaced, ArePlacedFrom, IsAnswered, IsAskedFor, IsPlacedBy, IsPlacing, PlacedOr, PlacedStreams, Placed, answered, reserved_on, turns_on}
+use Rattle.cqf_program_placing.specs.declared.turns.Turns.{Turns}
+use Rattle.cqf_program_placing.specs.Placing.{ArePlaced, ArePlacedFrom, IsAnswered, IsAskedFor, IsPlacedBy, IsPlacing, IsRoutedAndAnswered, PlacedOr, PlacedStreams, Placed, answered, reserved_on, turns_on}
 use Rattle.cqf_program_placing.specs.Settled.{Along, SettledStream, SettledWay, are_reservable, deadline_behind, deadline_of_stream, is_paced, longest_of, or_unsettled, refusal_behind}
 use Rattle.cqf_program_placing.specs.Settled.{settled_next, settled_stream, settled_way, taken_on, talker_of_stream, with_deadline}
 use Rattle.cqf_program_planning.specs.Judging.{candidate_of, deadlines_placed, first_late, first_unplaced, flows_placed, late_fault, latencies_placed, traffic_by}
@@ -196,8 +197,9 @@ one_again d entries flow become after enough granted h =
     let allowed = allowed_by d (held_in d entries (seals entries)) flow.0.0 granted in
     let reserved = reserved_again d.cycle_time d.sync flow.0.0 flow.0.1 flow.1 allowed.reservable enough in
     let routed = subst (λ x. IsPlacedBy d entries (settled_flow flow) x become after) reserved h in
-    let answers = subst (λ x. IsAnswered d entries flow.0.0.name flow.0.0.octets (turns_on d.cycle_time (settled_flow flow)) x become after) routed.is_routed
-    routed.is_answered in
+    let here = subst (λ (t : Turns). IsRoutedAndAnswered d entries (settled_flow flow) flow.0.0.octets t become after) routed.are_taken routed.is_placed in
+    let answers = subst (λ x. IsAnswered d entries flow.0.0.name flow.0.0.octets (turns_on d.cycle_time (settled_flow flow)) x become after) here.is_routed
+    here.is_answered in
     asked_again d entries flow become after granted answers
 
 abbrev pub placed_all : List FlowText → List PlacedOr

@@ -11,6 +11,7 @@ use Rattle.cqf_laws_history.specs.StateLaws.{SealsAreCounted}
 use Rattle.cqf_laws_timing.specs.Streams.{AreGranted}
 use Rattle.cqf_laws_timing.specs.Traffic.{Traffic, needed}
 use Rattle.cqf_model.specs.declared.history.Refused.{Refused}
+use Rattle.cqf_model.specs.declared.topology.Row.{Row}
 use Rattle.cqf_model.specs.Domain.{Domain}
 use Rattle.cqf_model.specs.History.{Admits, Asked, Branch, Recorded, held_in, refusal_of, reply_to, seals}
 use Rattle.cqf_units.specs.Timing.{cost_of}
@@ -24,10 +25,12 @@ use Rattle.cqf_program_offers.specs.OffersOutput.{asked_in}
 use Rattle.cqf_program_placing.specs.declared.faults.PlanFault.{PlanFault}
 use Rattle.cqf_network.specs.declared.pacing.Pacing.{Pacing}
 use Rattle.cqf_network.specs.declared.pacing.Pacing.TheVariants as pacing
-use Rattle.cqf_program_placing.specs.Placing.{ArePlacedFrom, IsAnswered, IsAskedFor, IsPlacedBy, PlacedOr, Placed, Unplaced, answered}
+use Rattle.cqf_program_placing.specs.declared.turns.Turns.{Turns}
+use Rattle.cqf_program_placing.specs.Placing.{ArePlacedFrom, AreTaken, IsAnswered, IsAskedFor, IsPlacedBy, PlacedOr, Placed, Unplaced, answered}
 use Rattle.cqf_program_placing.specs.Placing.{reserved_by, reserved_on, turns_on}
 use Rattle.cqf_program_placing.specs.Settled.{SettledStream}
 use Rattle.cqf_program_placing.specs.Turns.{MayBeFirst, can_step, every_in, is_in_step, keeps_step}
+use Rattle.cqf_program_placing.proofs.Chosen.{taken_every, taken_first}
 use Rattle.cqf_program_placing.proofs.PlaceLemmas.{reserved_enough, reserved_there}
 use Rattle.cqf_program_placing.proofs.Stepping.{may_be_first}
 use Rattle.cqf_program_planning.specs.Judging.{first_late, first_unplaced, flow_of, flows_placed, late_fault, traffic_by}
@@ -47,19 +50,24 @@ pub record IsGranted (d : Domain) (entries : List Recorded) (stream : SettledStr
   pub granted : refusal_of d (held_in d entries (seals entries)) asked ≡ None
   pub entered : after ≡ with_asked d entries asked
 
--- if its branches are found
-granted_routed : (d : Domain) (entries : List Recorded) (stream : SettledStream) (octets : ℕ) (paths : List Branch) (asked : Asked) (after : List Recorded) →
-    reserved_on d.cycle_time d.sync stream ≡ Ok octets → IsAskedFor d entries stream.name octets (turns_on d.cycle_time stream) paths (Placed asked) after →
-    IsGranted d entries stream asked after
-granted_routed d entries stream octets paths asked after reserves is =
-    let there : Asked = asked_with stream.name octets (every_in (turns_on d.cycle_time stream)) is.phase paths in
-    let found = answered_placed d there asked (refusal_of d (held_in d entries (seals entries)) there) is.answer in
+-- if its branches are found, in the cycles that it takes
+granted_routed : (d : Domain) (entries : List Recorded) (stream : SettledStream) (octets : ℕ) (taken : Turns) (paths : List Branch) (asked : Asked)
+    (after : List Recorded) → reserved_on d.cycle_time d.sync stream ≡ Ok octets →
+    AreTaken d (held_in d entries (seals entries)) (turns_on d.cycle_time stream) (cost_of octets) stream.way taken →
+    IsAskedFor d entries stream.name octets taken paths (Placed asked) after → IsGranted d entries stream asked after
+granted_routed d entries stream octets taken paths asked after reserves are is =
+    let rows : List Row = held_in d entries (seals entries) in
+    let turns : Turns = turns_on d.cycle_time stream in
+    let there : Asked = asked_with stream.name octets (every_in taken) is.phase paths in
+    let found = answered_placed d there asked (refusal_of d rows there) is.answer in
+    let may : MayBeFirst turns is.phase =
+    taken_first d rows turns (cost_of octets) (cost_of octets) stream.way taken paths is.phase are
+    (may_be_first d rows (cost_of octets) paths d.cycle_time stream.pacing stream.traffic is.phase) is.is_phase in
     record {
       named = ap (λ (a : Asked). a.name) found.1;
       reserved = reserves ∙ ap (λ (a : Asked). Ok a.octets) (sym found.1);
-      every = ap (λ (a : Asked). a.every) found.1;
-      phase = subst (λ (a : Asked). MayBeFirst (turns_on d.cycle_time stream) a.phase) (sym found.1)
-          (may_be_first d (held_in d entries (seals entries)) (cost_of octets) paths d.cycle_time stream.pacing stream.traffic is.phase is.is_phase);
+      every = ap (λ (a : Asked). a.every) found.1 ∙ taken_every d rows turns (cost_of octets) stream.way taken are;
+      phase = subst (λ (a : Asked). MayBeFirst turns a.phase) (sym found.1) may;
       granted = ap (refusal_of d (held_in d entries (seals entries))) found.1 ∙ found.0;
       entered = is.entered ∙ ap (with_asked d entries) (sym found.1);
     }
@@ -69,16 +77,18 @@ pub never_placed : {A : Type 0} (asked : Asked) (found : PlanFault) → Placed a
 never_placed asked found h = absurd (cc)
 
 -- by its branches, if they are found
-granted_answered : (d : Domain) (entries : List Recorded) (stream : SettledStream) (octets : ℕ) (routed : Result (List Branch) PlanFault) (asked : Asked)
-    (after : List Recorded) → reserved_on d.cycle_time d.sync stream ≡ Ok octets →
-    IsAnswered d entries stream.name octets (turns_on d.cycle_time stream) routed (Placed asked) after → IsGranted d entries stream asked after
-granted_answered d entries stream octets (Ok paths) asked after reserves h = granted_routed d entries stream octets paths asked after reserves h
-granted_answered d entries stream octets (Err found) asked after reserves h = never_placed asked found h.0
+granted_answered : (d : Domain) (entries : List Recorded) (stream : SettledStream) (octets : ℕ) (taken : Turns) (routed : Result (List Branch) PlanFault)
+    (asked : Asked) (after : List Recorded) → reserved_on d.cycle_time d.sync stream ≡ Ok octets →
+    AreTaken d (held_in d entries (seals entries)) (turns_on d.cycle_time stream) (cost_of octets) stream.way taken →
+    IsAnswered d entries stream.name octets taken routed (Placed asked) after → IsGranted d entries stream asked after
+granted_answered d entries stream octets taken (Ok paths) asked after reserves are h = granted_routed d entries stream octets taken paths asked after reserves are h
+granted_answered d entries stream octets taken (Err found) asked after reserves are h = never_placed asked found h.0
 
 -- and by its reservation
 pub granted_by : (d : Domain) (entries : List Recorded) (stream : SettledStream) (reserves : Result ℕ PlanFault) (asked : Asked) (after : List Recorded) →
     reserved_on d.cycle_time d.sync stream ≡ reserves → IsPlacedBy d entries stream reserves (Placed asked) after → IsGranted d entries stream asked after
-granted_by d entries stream (Ok octets) asked after same h = granted_answered d entries stream octets h.routed asked after same h.is_answered
+granted_by d entries stream (Ok octets) asked after same h =
+    granted_answered d entries stream octets h.taken h.is_placed.routed asked after same h.are_taken h.is_placed.is_answered
 granted_by d entries stream (Err found) asked after same h = never_placed asked found h.0
 
 -- a reservation is no less than what is needed

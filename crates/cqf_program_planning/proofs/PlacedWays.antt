@@ -21,7 +21,8 @@ use Rattle.cqf_edge.specs.Entrances.{begins_with, end_at, ends_with}
 use Rattle.cqf_program_plans.specs.EndNames.{name_of_end}
 use Rattle.cqf_network.proofs.StreamParts.{and_first-Ok}
 use Rattle.cqf_program_placing.specs.declared.faults.PlanFault.{PlanFault}
-use Rattle.cqf_program_placing.specs.Placing.{IsAnswered, IsPlacedBy, IsRouted, Placed, names_along, turns_on}
+use Rattle.cqf_program_placing.specs.declared.turns.Turns.{Turns}
+use Rattle.cqf_program_placing.specs.Placing.{IsAnswered, IsPlacedBy, IsRouted, Placed, names_along}
 use Rattle.cqf_program_placing.specs.Turns.{every_in}
 use Rattle.cqf_program_placing.specs.Settled.{Along, Between, SettledStream, SettledWay, station_by_name, stations_by_name}
 use Rattle.cqf_program_placing.proofs.SettledLemmas.{station_named_by}
@@ -44,10 +45,10 @@ ArePathsOf d (Between bridge stations) paths = AreWayNames d bridge stations pat
 same_paths : (paths given : List Branch) → ◌≡◌ {A = Result (List Branch) PlanFault} (Ok paths) (Ok given) → paths ≡ given
 same_paths paths given h = cc
 
-routed_paths : (d : Domain) (rows : List Row) (stream : SettledStream) (cost : ℕ) (way : SettledWay) (paths : List Branch) →
-    IsRouted d rows (turns_on d.cycle_time stream) cost way (Ok paths) → ArePathsOf d way paths
-routed_paths d rows stream cost (Along given) paths h = same_paths paths given h
-routed_paths d rows stream cost (Between bridge stations) paths h =
+routed_paths : (d : Domain) (rows : List Row) (turns : Turns) (cost : ℕ) (way : SettledWay) (paths : List Branch) →
+    IsRouted d rows turns cost way (Ok paths) → ArePathsOf d way paths
+routed_paths d rows turns cost (Along given) paths h = same_paths paths given h
+routed_paths d rows turns cost (Between bridge stations) paths h =
     let found = h.found in
     record {
       ways = found.ways;
@@ -56,21 +57,21 @@ routed_paths d rows stream cost (Between bridge stations) paths h =
       are = found.are;
     }
 
-answered_paths : (d : Domain) (entries : List Recorded) (stream : SettledStream) (octets : ℕ) (routed : Result (List Branch) PlanFault) (asked : Asked)
-    (after : List Recorded) → IsRouted d (held_in d entries (seals entries)) (turns_on d.cycle_time stream) (cost_of octets) stream.way routed →
-    IsAnswered d entries stream.name octets (turns_on d.cycle_time stream) routed (Placed asked) after → ArePathsOf d stream.way asked.paths
-answered_paths d entries stream octets (Err found) asked after routes h = never_placed asked found h.0
-answered_paths d entries stream octets (Ok paths) asked after routes h =
-    let there : Asked = asked_with stream.name octets (every_in (turns_on d.cycle_time stream)) h.phase paths in
+answered_paths : (d : Domain) (entries : List Recorded) (stream : SettledStream) (octets : ℕ) (turns : Turns) (routed : Result (List Branch) PlanFault)
+    (asked : Asked) (after : List Recorded) → IsRouted d (held_in d entries (seals entries)) turns (cost_of octets) stream.way routed →
+    IsAnswered d entries stream.name octets turns routed (Placed asked) after → ArePathsOf d stream.way asked.paths
+answered_paths d entries stream octets turns (Err found) asked after routes h = never_placed asked found h.0
+answered_paths d entries stream octets turns (Ok paths) asked after routes h =
+    let there : Asked = asked_with stream.name octets (every_in turns) h.phase paths in
     let found = answered_placed d there asked (refusal_of d (held_in d entries (seals entries)) there) h.answer in
     subst (λ (a : Asked). ArePathsOf d stream.way a.paths) (sym found.1)
-    (routed_paths d (held_in d entries (seals entries)) stream (cost_of octets) stream.way paths routes)
+    (routed_paths d (held_in d entries (seals entries)) turns (cost_of octets) stream.way paths routes)
 
 pub placed_paths : (d : Domain) (entries : List Recorded) (stream : SettledStream) (reserves : Result ℕ PlanFault) (asked : Asked) (after : List Recorded) →
     IsPlacedBy d entries stream reserves (Placed asked) after → ArePathsOf d stream.way asked.paths
 placed_paths d entries stream (Err found) asked after h = never_placed asked found h.0
 placed_paths d entries stream (Ok octets) asked after h =
-    answered_paths d entries stream octets h.routed asked after h.is_routed h.is_answered
+    answered_paths d entries stream octets h.taken h.is_placed.routed asked after h.is_placed.is_routed h.is_placed.is_answered
 
 -- ---- names
 

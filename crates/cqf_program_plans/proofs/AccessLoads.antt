@@ -6,7 +6,6 @@ use Rattle.std.proofs.lemmas.Bool.{cases_lt}
 use Rattle.std.proofs.lemmas.List.{drop_all, drop_more, get_or_past}
 use Rattle.std.proofs.lemmas.Option.{none-some}
 use Rattle.std.proofs.lemmas.List.Elements.{All-map, All-weaker}
-use Rattle.cqf_admission.specs.Asking.{asked_paced}
 use Rattle.cqf_edge.specs.declared.uses.Handed.{Handed}
 use Rattle.cqf_model.specs.Limits.{longest_cycle}
 use Rattle.cqf_network.specs.declared.domain.TalkerLink.{TalkerLink}
@@ -156,7 +155,7 @@ module _ (cycle_time : ℕ) (first : List AccessLoad) (handed : List (Option Han
     there one (inr g) some = absurd (none-some one (sym (get_or_past handed place None g) ∙ some))
 
     pub loaded_more : (one : Handed) (after : List AccessLoad) → get_or handed place None ≡ Some one →
-        after ≡ added_load loads one.place (taken_by cycle_time one (asked_paced flow.planned.request)) → All (IsLoadedBy (place + 1)) after →
+        after ≡ added_load loads one.place (taken_by cycle_time one flow.planned.request.octets flow.planned.request.every) → All (IsLoadedBy (place + 1)) after →
         AreLoaded cycle_time first handed flows (place + 1) after
     loaded_more one after some is all = record {
       is = at_place (Some one ∷ drop (place + 1) handed) (there one (cases_lt place (length handed)) some)

@@ -15,3 +15,5 @@ mod AccessLoads
 mod LatencyBehind
 mod Steps
 mod LoadSteps
+pub mod EdgeGates
+mod GreatestFirst

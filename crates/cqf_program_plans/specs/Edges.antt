@@ -1,4 +1,4 @@
--- The streams of a part as they come to their edge bridges.
+-- The streams of a part at their edge bridges.
 use Rattle.std.specs.Prelude.{ℕ, List, Bool, Option, Some, None, Result, Ok, codes, if◌then◌else◌, length, nat_lt}
 use Rattle.cqf_lists.specs.Results.{and_then, refuse}
 use Rattle.cqf_traffic.specs.FlowsText.{flows_of_text}
@@ -12,7 +12,7 @@ use Rattle.cqf_output.specs.Stops.{EndsWith, fault_line, or_line}
 use Rattle.cqf_output.specs.declared.stops.Stop.{Stop}
 use Rattle.cqf_program_plans.specs.Reserving.{flows_line}
 
--- why streams don't come to their edge bridges, and why a network whose access link is full is refused
+-- the line of a stream whose talker or listeners don't fit, and of an access link that is full
 abbrev pub edge_line : EdgeFault → List ℕ
 edge_line found = fault_line (codes "network") (edge_fault_text found)
 
@@ -23,8 +23,8 @@ full_line station = edge_line (fault.AccessFull station)
 abbrev pub has_access : NetworkDomain → Bool
 has_access network = nat_lt 0 (length network.talkers)
 
--- the streams of a part of a network in which a station has one, as they come to their edge bridges; or the line of the first fault: of the
--- part, or of the first stream that doesn't enter as its text says
+-- the streams of a part of a network in which a station has one, at their edge bridges; or the line of the first fault: of the part, or of the
+-- first stream whose talker or listeners don't fit
 abbrev pub edges_by_access : NetworkDomain → List ℕ → Result EdgeFlowsText (List ℕ)
 edges_by_access network text = and_then (or_line flows_line (network_flows_of_text text)) (λ flows. or_line edge_line (edge_flows network flows))
 
@@ -32,7 +32,7 @@ edges_by_access network text = and_then (or_line flows_line (network_flows_of_te
 abbrev pub edges_without : List ℕ → Result EdgeFlowsText (List ℕ)
 edges_without text = and_then (or_line flows_line (flows_of_text text)) (λ flows. Ok (at_edges flows))
 
--- the streams of a part of a network, as they come to their edge bridges
+-- the streams of a part of a network, at their edge bridges
 abbrev pub edges_of_part : NetworkDomain → List ℕ → Result EdgeFlowsText (List ℕ)
 edges_of_part network text = if has_access network then edges_by_access network text else edges_without text
 

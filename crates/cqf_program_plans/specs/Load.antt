@@ -6,3 +6,4 @@ pub mod Laws
 pub mod Access
 pub mod Told
 pub mod Read
+pub mod Streams

@@ -48,6 +48,6 @@ requests_in d text = and_then (or_line flows_line (paced_flows_of_text text)) (�
 abbrev pub planned_octets : FlowText → ℕ × Option TrafficText
 planned_octets flow = (flow.0.0.octets, flow.1)
 
--- those of streams that come to their edge bridges
+-- those of streams at their edge bridges
 abbrev pub requests_at : Domain → List FlowText → Result (List PacedText) (List ℕ)
 requests_at d flows = refuse (first_lack d.cycle_time 1 (map planned_octets flows)) lack_line (Ok (map (λ (flow : FlowText). flow.0.0) flows))

@@ -1,4 +1,4 @@
-//! The streams of a part as they come to their edge bridges.
+//! The streams of a part at their edge bridges.
 ghost use Rattle.std.specs.Prelude.{◌≡◌, ◌≢◌, [], IfErr, IfOk, None, Ok, OnOk, map};
 ghost use Rattle.cqf_output.specs.Stops.{EndsWith, IsRefused};
 ghost use Rattle.cqf_edge.specs.EdgeValues.{edges_text};
@@ -65,7 +65,7 @@ fn edges_without(alloc: Global, text: &[u8]) -> Result<EdgeFlows, Stop>
 /// they don't wait.
 ///
 /// # Errors
-/// With status 1 and the line of the first fault of the part, or of the first stream that doesn't enter the network as its text says. With
+/// With status 1 and the line of the first fault of the part, or of the first stream whose talker or listeners don't fit. With
 /// status 3 if an allocation fails.
 pub fn edges_part(alloc: Global, network: &NetworkDomain, text: &[u8]) -> Result<EdgeFlows, Stop>
     ensures ok { IfOk result (λ edge. edges_of_part network.now text.now ≡ Ok (edges_text edge)) }

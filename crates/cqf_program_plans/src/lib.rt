@@ -10,6 +10,7 @@
 //! - [`load_output`]: what links hold of the streams, and what they have left, even if the streams are too many for a link ([`LoadOutput`]).
 //!   [`greatest_fits`] proves that the column `fits` is the greatest reservation that would be accepted. [`plan_fits`] proves that all streams
 //!   are admitted if and only if the column `left` is nowhere below 0.
+//! - [`load_streams_output`]: what each stream takes of each of its links, the greatest first ([`StreamLoadsOutput`]).
 //! - [`latency_output`]: how long the frames of each stream take to each of its listeners, at least and at most, and whether they are certain to
 //!   keep their deadline ([`LatencyOutput`], with one [`Latency`] per line, and its `Verdict`). [`latencies_of_rows`] returns this for the rows
 //!   of a table, and [`link_costs`] what they cost of each link in a cycle at most. [`add_cost`] adds the cost of one row to sums. [`parted`]
@@ -50,20 +51,24 @@ mod reserving;
 mod row_costs;
 
 pub use compile::command::{compile_output, read_plan, rows_of_cycle_0, stream_stop};
+pub use compile::gated::{edge_gates_are_at_the_edge, gated_rows};
 pub use compile::outputs::ConfigOutput;
 pub use edges::{edge_stop, edges_part, open_edges_part, refuse_full};
 pub use latency::command::latency_output;
 pub use latency::costs::link_costs;
 pub use latency::latencies::Latency;
 pub use latency::laws::{told_latencies_hold, told_latencies_hold_loosely};
-pub use latency::listeners::{latencies_of_rows, listener_at, most_to};
+pub use latency::listeners::{latencies_from_talkers, latencies_of_rows, listener_at, most_to};
 pub use latency::outputs::LatencyOutput;
 pub use latency::reading::{parted, parted_flows};
 pub use latency::telling::put_deadline;
-pub use load::command::load_output;
+pub use load::access::{AccessLoad, access_loads};
+pub use load::command::{load_output, load_streams_output};
 pub use load::laws::{greatest_fits, plan_fits};
 pub use load::outputs::LoadOutput;
+pub use load::streams::StreamLoadsOutput;
+pub use load::told::megabits_of;
 pub use port::command::port_output;
 pub use port::outputs::PortOutput;
-pub use reserving::flows_stop;
+pub use reserving::{flows_stop, requests_at};
 pub use row_costs::add_cost;

@@ -130,7 +130,7 @@ fn requests_of_flows(alloc: Global, flows: Vec<Flow>) -> Result<Vec<PacedRequest
 ///
 /// # Errors
 /// With status 1 and the line of the first stream that reserves less. With status 3 if an allocation fails.
-pub(crate) fn requests_at(
+pub fn requests_at(
     alloc: Global,
     domain: &Domain,
     flows: Vec<Flow>,

@@ -18,6 +18,7 @@ use Rattle.cqf_model.specs.declared.topology.Row.{Row}
 use Rattle.cqf_model.specs.Domain.{Domain, node_named}
 use Rattle.cqf_model.specs.History.{Asked, held_in}
 use Rattle.cqf_output.specs.Stops.{fault_line, or_line}
+use Rattle.cqf_program_plans.specs.Compile.Gated.{gated_rows}
 use Rattle.cqf_program_plans.specs.Compile.Output.{admitted_from, compile_input}
 use Rattle.cqf_program_scenario.specs.Parts.{two_parts}
 use Rattle.cqf_program_tc.specs.Env.{env_text}
@@ -46,16 +47,19 @@ addressed_input limits input =
     and_then (and_then (two_parts (parts_of input)) (keys_of limits)) (λ keys.
     Ok (record { domain = found.0; streams = found.1; interfaces = keys.0; addresses = keys.1 })))
 
--- the rows of an input's streams, all of them admitted before cycle 0, or the line of the first stream that isn't admitted
-abbrev pub rows_of : Addressed → Result (List Row) (List ℕ)
-rows_of found = and_then (admitted_from found.domain [] 1 found.streams) (λ entries. Ok (held_in found.domain entries 0))
+-- the rows of an input's streams, all of them admitted before cycle 0, with gates at edge bridges alone or at all bridges; or the line of the
+-- first stream that isn't admitted
+abbrev pub rows_of : Bool → Addressed → Result (List Row) (List ℕ)
+rows_of edge_gates found =
+    and_then (admitted_from found.domain [] 1 found.streams) (λ entries. Ok (gated_rows edge_gates (held_in found.domain entries 0)))
 
 -- the script for an input, or the line of its first fault
-abbrev pub tc_of : Bool → Addressed → Result (List ℕ) (List ℕ)
-tc_of software found = and_then (rows_of found) (λ rows. Ok (tc_text found.domain software (gate_index found.addresses) rows))
+abbrev pub tc_of : Bool → Bool → Addressed → Result (List ℕ) (List ℕ)
+tc_of software edge_gates found =
+    and_then (rows_of edge_gates found) (λ rows. Ok (tc_text found.domain software (gate_index found.addresses) rows))
 
-abbrev pub tc_of_input : Limits → Bool → List ℕ → Result (List ℕ) (List ℕ)
-tc_of_input limits software input = and_then (addressed_input limits input) (tc_of software)
+abbrev pub tc_of_input : Limits → Bool → Bool → List ℕ → Result (List ℕ) (List ℕ)
+tc_of_input limits software edge_gates input = and_then (addressed_input limits input) (tc_of software edge_gates)
 
 -- the variable file of a bridge for an input, or the line of its first fault; last, that the domain lacks the bridge
 abbrev pub unknown_bridge : List ℕ → List ℕ
@@ -69,14 +73,14 @@ bridge_of_node name (Some (Station station)) = Err (unknown_bridge name)
 abbrev pub bridge_named : Domain → List ℕ → Result ℕ (List ℕ)
 bridge_named d name = bridge_of_node name (node_named d name)
 
-abbrev pub env_of : List ℕ → Addressed → Result (List ℕ) (List ℕ)
-env_of name found =
-    and_then (rows_of found) (λ rows.
+abbrev pub env_of : Bool → List ℕ → Addressed → Result (List ℕ) (List ℕ)
+env_of edge_gates name found =
+    and_then (rows_of edge_gates found) (λ rows.
     and_then (bridge_named found.domain name) (λ bridge.
     Ok (env_text found.domain found.interfaces found.addresses rows bridge)))
 
-abbrev pub env_of_input : Limits → List ℕ → List ℕ → Result (List ℕ) (List ℕ)
-env_of_input limits name input = and_then (addressed_input limits input) (env_of name)
+abbrev pub env_of_input : Limits → Bool → List ℕ → List ℕ → Result (List ℕ) (List ℕ)
+env_of_input limits edge_gates name input = and_then (addressed_input limits input) (env_of edge_gates name)
 
 -- a script and a bridge's variable file, before they are written
 pub record TcScript : Type 0 where

@@ -5,6 +5,7 @@ ghost use Rattle.cqf_admission.specs.Asking.{asked_paced};
 ghost use Rattle.cqf_admission.specs.Turns.{AreOfGoodPaces};
 ghost use Rattle.cqf_model.specs.declared.topology.Row.{Row as ARow};
 ghost use Rattle.cqf_output.specs.Stops.{EndsWith, IsRefused};
+ghost use Rattle.cqf_program_plans.specs.Compile.Gated.{gated_rows};
 ghost use Rattle.cqf_program_tc.specs.Output.{IsReadyPlan, addressed_input, bridge_named, env_of, env_of_input};
 ghost use Rattle.cqf_program_tc.specs.Output.{keys_of, rows_of, tc_of, tc_of_input, text_of_env, text_of_tc, unknown_bridge};
 ghost use Rattle.cqf_program_tc.specs.Rows.{places_in};
@@ -16,7 +17,7 @@ use crate::words::write_gate_words;
 use cqf_addressing::{LinkInterfaces, StreamAddress, addresses_part, interfaces_part};
 use cqf_model::{Limits, Node, Row};
 use cqf_output::{Buffer, REFUSED, Stop};
-use cqf_program_plans::{read_plan, rows_of_cycle_0};
+use cqf_program_plans::{gated_rows, read_plan, rows_of_cycle_0};
 use cqf_program_scenario::two_parts;
 use cqf_topology::{Domain, PacedRequest};
 use cqf_units::Memory;
@@ -97,6 +98,27 @@ fn plan_ready(alloc: Global, found: Found, rows: Vec<Row>) -> Result<ReadyPlan, 
     })
 }
 
+/// Returns what was found with the rows of its streams, ready for either output. With `edge_gates`, the streams have gates at their edge bridges
+/// alone.
+fn plan_gated(
+    alloc: Global,
+    edge_gates: bool,
+    found: Found,
+    rows: Vec<Row>,
+) -> Result<ReadyPlan, Memory>
+    requires paced { AreOfGoodPaces rows.items }
+    requires numbers { AllPairs (λ (a b : ARow). a.no < b.no) rows.items }
+    ensures domain { IfOk result (λ plan. plan.domain ≡ found.domain) }
+    ensures rows { IfOk result (λ plan. plan.rows.items ≡ gated_rows edge_gates rows.items) }
+    ensures interfaces { IfOk result (λ plan. plan.interfaces.items ≡ found.interfaces.items) }
+    ensures addresses { IfOk result (λ plan. plan.addresses.items ≡ found.addresses.items) }
+    ensures ready { IfOk result (λ plan. IsReadyPlan plan.domain plan.rows.items (places_in plan.places.items) plan.links.items plan.streams.items) }
+{
+    let gated = gated_rows(alloc, edge_gates, rows)?;
+    let plan = plan_ready(alloc, found, gated)?;
+    Ok(plan)
+}
+
 /// Returns the script of a plan, ready to be written.
 fn script_ready(alloc: Global, software: bool, plan: ReadyPlan) -> Result<TcOutput, Memory>
     requires { IsReadyPlan plan.domain plan.rows.items (places_in plan.places.items) plan.links.items plan.streams.items }
@@ -117,15 +139,16 @@ fn script_ready(alloc: Global, software: bool, plan: ReadyPlan) -> Result<TcOutp
     })
 }
 
-/// Returns the plan of what was found, with all of its streams admitted before cycle 0.
-fn plan_of(alloc: Global, found: Found) -> Result<ReadyPlan, Stop>
-    ensures ok { IfOk result (λ plan. rows_of (record {
+/// Returns the plan of what was found, with all of its streams admitted before cycle 0. With `edge_gates`, the streams have gates at their edge
+/// bridges alone.
+fn plan_of(alloc: Global, edge_gates: bool, found: Found) -> Result<ReadyPlan, Stop>
+    ensures ok { IfOk result (λ plan. rows_of edge_gates (record {
       domain = found.domain;
       streams = map asked_paced found.requests.items;
       interfaces = found.interfaces.items;
       addresses = found.addresses.items;
     }) ≡ Ok plan.rows.items) }
-    ensures err { IfErr result (IsRefused (rows_of (record {
+    ensures err { IfErr result (IsRefused (rows_of edge_gates (record {
       domain = found.domain;
       streams = map asked_paced found.requests.items;
       interfaces = found.interfaces.items;
@@ -137,28 +160,33 @@ fn plan_of(alloc: Global, found: Found) -> Result<ReadyPlan, Stop>
     ensures ready { IfOk result (λ plan. IsReadyPlan plan.domain plan.rows.items (places_in plan.places.items) plan.links.items plan.streams.items) }
 {
     let rows = rows_of_cycle_0(alloc, &found.domain, found.requests.as_slice())?;
-    match plan_ready(alloc, found, rows) {
+    match plan_gated(alloc, edge_gates, found, rows) {
         Ok(plan) => Ok(plan),
         Err(_) => Err(Stop::memory(alloc)),
     }
 }
 
 /// Returns the script of what was found, ready to be written.
-fn script_of(alloc: Global, software: bool, found: Found) -> Result<TcOutput, Stop>
-    ensures ok { IfOk result (λ output. tc_of software (record {
+fn script_of(
+    alloc: Global,
+    software: bool,
+    edge_gates: bool,
+    found: Found,
+) -> Result<TcOutput, Stop>
+    ensures ok { IfOk result (λ output. tc_of software edge_gates (record {
       domain = found.domain;
       streams = map asked_paced found.requests.items;
       interfaces = found.interfaces.items;
       addresses = found.addresses.items;
     }) ≡ Ok (text_of_tc output)) }
-    ensures err { IfErr result (IsRefused (tc_of software (record {
+    ensures err { IfErr result (IsRefused (tc_of software edge_gates (record {
       domain = found.domain;
       streams = map asked_paced found.requests.items;
       interfaces = found.interfaces.items;
       addresses = found.addresses.items;
     }))) }
 {
-    let plan = plan_of(alloc, found)?;
+    let plan = plan_of(alloc, edge_gates, found)?;
     match script_ready(alloc, software, plan) {
         Ok(output) => Ok(output),
         Err(_) => Err(Stop::memory(alloc)),
@@ -166,7 +194,8 @@ fn script_of(alloc: Global, software: bool, found: Found) -> Result<TcOutput, St
 }
 
 /// Returns the output of `compile --format tc` for an input that is read within some limits, ready to be written: the script for the domain
-/// and its streams, with gates in hardware, or in software if `software`.
+/// and its streams, with gates in hardware, or in software if `software`. With `edge_gates`, streams have gates at their edge
+/// bridges alone.
 ///
 /// # Errors
 /// With status 1 and the line of the first fault of the input: first the faults of `cqf_program_plans::compile_output`, of its parts, of the
@@ -176,13 +205,14 @@ pub fn tc_output(
     alloc: Global,
     limits: Limits,
     software: bool,
+    edge_gates: bool,
     input: &[u8],
 ) -> Result<TcOutput, Stop>
-    ensures ok { IfOk result (λ output. tc_of_input limits software input.now ≡ Ok (text_of_tc output)) }
-    ensures err { IfErr result (IsRefused (tc_of_input limits software input.now)) }
+    ensures ok { IfOk result (λ output. tc_of_input limits software edge_gates input.now ≡ Ok (text_of_tc output)) }
+    ensures err { IfErr result (IsRefused (tc_of_input limits software edge_gates input.now)) }
 {
     let found = read_input(alloc, limits, input)?;
-    script_of(alloc, software, found)
+    script_of(alloc, software, edge_gates, found)
 }
 
 /// Returns the line for a bridge that the domain lacks.
@@ -233,21 +263,21 @@ fn file_ready(alloc: Global, plan: ReadyPlan, bridge: u16) -> Result<EnvOutput, 
 }
 
 /// Returns the variable file of a bridge, ready to be written.
-fn file_of(alloc: Global, name: &str, found: Found) -> Result<EnvOutput, Stop>
-    ensures ok { IfOk result (λ output. env_of name.now (record {
+fn file_of(alloc: Global, edge_gates: bool, name: &str, found: Found) -> Result<EnvOutput, Stop>
+    ensures ok { IfOk result (λ output. env_of edge_gates name.now (record {
       domain = found.domain;
       streams = map asked_paced found.requests.items;
       interfaces = found.interfaces.items;
       addresses = found.addresses.items;
     }) ≡ Ok (text_of_env output)) }
-    ensures err { IfErr result (IsRefused (env_of name.now (record {
+    ensures err { IfErr result (IsRefused (env_of edge_gates name.now (record {
       domain = found.domain;
       streams = map asked_paced found.requests.items;
       interfaces = found.interfaces.items;
       addresses = found.addresses.items;
     }))) }
 {
-    let plan = plan_of(alloc, found)?;
+    let plan = plan_of(alloc, edge_gates, found)?;
     let bridge = bridge_of_name(alloc, &plan.domain, name)?;
     match file_ready(alloc, plan, bridge) {
         Ok(output) => Ok(output),
@@ -256,19 +286,20 @@ fn file_of(alloc: Global, name: &str, found: Found) -> Result<EnvOutput, Stop>
 }
 
 /// Returns the output of `compile --format env` for an input that is read within some limits, ready to be written: the variable file of the
-/// bridge with this name.
+/// bridge with this name, for the script with or without `edge_gates`.
 ///
 /// # Errors
 /// Those of [`tc_output`]; and with status 1 and the line `cqf: compile: UnknownBridge NAME` if the domain has no bridge of this name.
 pub fn env_output(
     alloc: Global,
     limits: Limits,
+    edge_gates: bool,
     bridge: &str,
     input: &[u8],
 ) -> Result<EnvOutput, Stop>
-    ensures ok { IfOk result (λ output. env_of_input limits bridge.now input.now ≡ Ok (text_of_env output)) }
-    ensures err { IfErr result (IsRefused (env_of_input limits bridge.now input.now)) }
+    ensures ok { IfOk result (λ output. env_of_input limits edge_gates bridge.now input.now ≡ Ok (text_of_env output)) }
+    ensures err { IfErr result (IsRefused (env_of_input limits edge_gates bridge.now input.now)) }
 {
     let found = read_input(alloc, limits, input)?;
-    file_of(alloc, bridge, found)
+    file_of(alloc, edge_gates, bridge, found)
 }

@@ -44,8 +44,8 @@ pub only_port : (rows : List Row) → ((until : ℕ) (rate : Rate) → ¬ IsJobO
     (job : Job) → ¬ IsJobOf job (codes "port") rows
 only_port rows none (Port until rate) job = none until rate job
 only_port rows none (Line cycles) job = omega (arith, marked (codes "port") (codes "line") job.0)
-only_port rows none (Compile format) job = omega (arith, marked (codes "port") (codes "compile") job.0)
-only_port rows none Load job = omega (arith, marked (codes "port") (codes "load") job)
+only_port rows none (Compile format edge_gates) job = omega (arith, marked (codes "port") (codes "compile") job.0)
+only_port rows none (Load streams) job = omega (arith, marked (codes "port") (codes "load") job.0)
 only_port rows none (Latency strict) job = omega (arith, marked (codes "port") (codes "latency") job.0)
 only_port rows none (Run cycles threads) job = omega (arith, marked (codes "port") (codes "run") job.0)
 only_port rows none (Report cycles) job = omega (arith, marked (codes "port") (codes "report") job.0)
@@ -54,15 +54,15 @@ only_port rows none (Check cycles) job = omega (arith, marked (codes "port") (co
 only_port rows none (Summary cycles) job = omega (arith, marked (codes "port") (codes "summary") job.0)
 only_port rows none (Offers cycles seed) job = omega (arith, marked (codes "port") (codes "offers") job.0)
 only_port rows none (Hops cycles stream frame) job = omega (arith, marked (codes "port") (codes "hops") job.0)
-only_port rows none (Plan table given) job = omega (arith, marked (codes "port") (codes "plan") job.0)
+only_port rows none (Plan table given verbose) job = omega (arith, marked (codes "port") (codes "plan") job.0)
 
 -- and so of `compile`
-pub only_compile : (rows : List Row) → ((format : Format) → ¬ IsJobOf (Compile format) (codes "compile") rows) →
+pub only_compile : (rows : List Row) → ((format : Format) (edge_gates : Bool) → ¬ IsJobOf (Compile format edge_gates) (codes "compile") rows) →
     (job : Job) → ¬ IsJobOf job (codes "compile") rows
 only_compile rows none (Port until rate) job = omega (arith, marked (codes "compile") (codes "port") job.0)
 only_compile rows none (Line cycles) job = omega (arith, marked (codes "compile") (codes "line") job.0)
-only_compile rows none (Compile format) job = none format job
-only_compile rows none Load job = omega (arith, marked (codes "compile") (codes "load") job)
+only_compile rows none (Compile format edge_gates) job = none format edge_gates job
+only_compile rows none (Load streams) job = omega (arith, marked (codes "compile") (codes "load") job.0)
 only_compile rows none (Latency strict) job = omega (arith, marked (codes "compile") (codes "latency") job.0)
 only_compile rows none (Run cycles threads) job = omega (arith, marked (codes "compile") (codes "run") job.0)
 only_compile rows none (Report cycles) job = omega (arith, marked (codes "compile") (codes "report") job.0)
@@ -71,15 +71,15 @@ only_compile rows none (Check cycles) job = omega (arith, marked (codes "compile
 only_compile rows none (Summary cycles) job = omega (arith, marked (codes "compile") (codes "summary") job.0)
 only_compile rows none (Offers cycles seed) job = omega (arith, marked (codes "compile") (codes "offers") job.0)
 only_compile rows none (Hops cycles stream frame) job = omega (arith, marked (codes "compile") (codes "hops") job.0)
-only_compile rows none (Plan table given) job = omega (arith, marked (codes "compile") (codes "plan") job.0)
+only_compile rows none (Plan table given verbose) job = omega (arith, marked (codes "compile") (codes "plan") job.0)
 
 -- of `offers`
 pub only_offers : (rows : List Row) → ((cycles : ℕ) (seed : Option ℕ) → ¬ IsJobOf (Offers cycles seed) (codes "offers") rows) →
     (job : Job) → ¬ IsJobOf job (codes "offers") rows
 only_offers rows none (Port until rate) job = omega (arith, marked (codes "offers") (codes "port") job.0)
 only_offers rows none (Line cycles) job = omega (arith, marked (codes "offers") (codes "line") job.0)
-only_offers rows none (Compile format) job = omega (arith, marked (codes "offers") (codes "compile") job.0)
-only_offers rows none Load job = omega (arith, marked (codes "offers") (codes "load") job)
+only_offers rows none (Compile format edge_gates) job = omega (arith, marked (codes "offers") (codes "compile") job.0)
+only_offers rows none (Load streams) job = omega (arith, marked (codes "offers") (codes "load") job.0)
 only_offers rows none (Latency strict) job = omega (arith, marked (codes "offers") (codes "latency") job.0)
 only_offers rows none (Run cycles threads) job = omega (arith, marked (codes "offers") (codes "run") job.0)
 only_offers rows none (Report cycles) job = omega (arith, marked (codes "offers") (codes "report") job.0)
@@ -88,7 +88,7 @@ only_offers rows none (Check cycles) job = omega (arith, marked (codes "offers")
 only_offers rows none (Summary cycles) job = omega (arith, marked (codes "offers") (codes "summary") job.0)
 only_offers rows none (Offers cycles seed) job = none cycles seed job
 only_offers rows none (Hops cycles stream frame) job = omega (arith, marked (codes "offers") (codes "hops") job.0)
-only_offers rows none (Plan table given) job = omega (arith, marked (codes "offers") (codes "plan") job.0)
+only_offers rows none (Plan table given verbose) job = omega (arith, marked (codes "offers") (codes "plan") job.0)
 
 -- of `hops`
 pub only_hops : (rows : List Row) →
@@ -96,8 +96,8 @@ pub only_hops : (rows : List Row) →
     (job : Job) → ¬ IsJobOf job (codes "hops") rows
 only_hops rows none (Port until rate) job = omega (arith, marked (codes "hops") (codes "port") job.0)
 only_hops rows none (Line cycles) job = omega (arith, marked (codes "hops") (codes "line") job.0)
-only_hops rows none (Compile format) job = omega (arith, marked (codes "hops") (codes "compile") job.0)
-only_hops rows none Load job = omega (arith, marked (codes "hops") (codes "load") job)
+only_hops rows none (Compile format edge_gates) job = omega (arith, marked (codes "hops") (codes "compile") job.0)
+only_hops rows none (Load streams) job = omega (arith, marked (codes "hops") (codes "load") job.0)
 only_hops rows none (Latency strict) job = omega (arith, marked (codes "hops") (codes "latency") job.0)
 only_hops rows none (Run cycles threads) job = omega (arith, marked (codes "hops") (codes "run") job.0)
 only_hops rows none (Report cycles) job = omega (arith, marked (codes "hops") (codes "report") job.0)
@@ -106,15 +106,15 @@ only_hops rows none (Check cycles) job = omega (arith, marked (codes "hops") (co
 only_hops rows none (Summary cycles) job = omega (arith, marked (codes "hops") (codes "summary") job.0)
 only_hops rows none (Offers cycles seed) job = omega (arith, marked (codes "hops") (codes "offers") job.0)
 only_hops rows none (Hops cycles stream frame) job = none cycles stream frame job
-only_hops rows none (Plan table given) job = omega (arith, marked (codes "hops") (codes "plan") job.0)
+only_hops rows none (Plan table given verbose) job = omega (arith, marked (codes "hops") (codes "plan") job.0)
 
 -- and of `plan`
-pub only_plan : (rows : List Row) → ((table : Bool) (given : Option Candidates) → ¬ IsJobOf (Plan table given) (codes "plan") rows) →
+pub only_plan : (rows : List Row) → ((table : Bool) (given : Option Candidates) (verbose : Bool) → ¬ IsJobOf (Plan table given verbose) (codes "plan") rows) →
     (job : Job) → ¬ IsJobOf job (codes "plan") rows
 only_plan rows none (Port until rate) job = omega (arith, marked (codes "plan") (codes "port") job.0)
 only_plan rows none (Line cycles) job = omega (arith, marked (codes "plan") (codes "line") job.0)
-only_plan rows none (Compile format) job = omega (arith, marked (codes "plan") (codes "compile") job.0)
-only_plan rows none Load job = omega (arith, marked (codes "plan") (codes "load") job)
+only_plan rows none (Compile format edge_gates) job = omega (arith, marked (codes "plan") (codes "compile") job.0)
+only_plan rows none (Load streams) job = omega (arith, marked (codes "plan") (codes "load") job.0)
 only_plan rows none (Latency strict) job = omega (arith, marked (codes "plan") (codes "latency") job.0)
 only_plan rows none (Run cycles threads) job = omega (arith, marked (codes "plan") (codes "run") job.0)
 only_plan rows none (Report cycles) job = omega (arith, marked (codes "plan") (codes "report") job.0)
@@ -123,7 +123,7 @@ only_plan rows none (Check cycles) job = omega (arith, marked (codes "plan") (co
 only_plan rows none (Summary cycles) job = omega (arith, marked (codes "plan") (codes "summary") job.0)
 only_plan rows none (Offers cycles seed) job = omega (arith, marked (codes "plan") (codes "offers") job.0)
 only_plan rows none (Hops cycles stream frame) job = omega (arith, marked (codes "plan") (codes "hops") job.0)
-only_plan rows none (Plan table given) job = none table given job
+only_plan rows none (Plan table given verbose) job = none table given verbose job
 
 -- so without a number there is no job of `port`
 pub no_port-until : (rows : List Row) (text : Option Text) → text ≡ first_of (codes "until") rows → ((n : ℕ) → ¬ IsNumberIn 1 100000000 n text) → (job : Job) →
@@ -138,7 +138,7 @@ no_port-rate rows text same none = only_port rows (λ until rate job. none rate 
 
 -- without a format there is no job of `compile`
 pub no_compile-format : (rows : List Row) → ((format : Format) → ¬ IsFormatOf format rows) → (job : Job) → ¬ IsJobOf job (codes "compile") rows
-no_compile-format rows none = only_compile rows (λ format job. none format job.1)
+no_compile-format rows none = only_compile rows (λ format edge_gates job. none format job.1)
 
 -- without a number of cycles there is no job of a command that takes only these
 pub no_cycles : (name : Text) (rows : List Row) → name ≢ codes "port" → name ≢ codes "compile" → name ≢ codes "load" → name ≢ codes "latency" →
@@ -146,8 +146,8 @@ pub no_cycles : (name : Text) (rows : List Row) → name ≢ codes "port" → na
     (job : Job) → ¬ IsJobOf job name rows
 no_cycles name rows not_port not_compile not_load not_latency not_offers not_hops not_plan none (Port until rate) job = not_port job.0
 no_cycles name rows not_port not_compile not_load not_latency not_offers not_hops not_plan none (Line cycles) job = none cycles job.1
-no_cycles name rows not_port not_compile not_load not_latency not_offers not_hops not_plan none (Compile format) job = not_compile job.0
-no_cycles name rows not_port not_compile not_load not_latency not_offers not_hops not_plan none Load job = not_load job
+no_cycles name rows not_port not_compile not_load not_latency not_offers not_hops not_plan none (Compile format edge_gates) job = not_compile job.0
+no_cycles name rows not_port not_compile not_load not_latency not_offers not_hops not_plan none (Load streams) job = not_load job.0
 no_cycles name rows not_port not_compile not_load not_latency not_offers not_hops not_plan none (Latency strict) job = not_latency job.0
 no_cycles name rows not_port not_compile not_load not_latency not_offers not_hops not_plan none (Run cycles threads) job = none cycles job.1
 no_cycles name rows not_port not_compile not_load not_latency not_offers not_hops not_plan none (Report cycles) job = none cycles job.1
@@ -156,7 +156,7 @@ no_cycles name rows not_port not_compile not_load not_latency not_offers not_hop
 no_cycles name rows not_port not_compile not_load not_latency not_offers not_hops not_plan none (Summary cycles) job = none cycles job.1
 no_cycles name rows not_port not_compile not_load not_latency not_offers not_hops not_plan none (Offers cycles seed) job = not_offers job.0
 no_cycles name rows not_port not_compile not_load not_latency not_offers not_hops not_plan none (Hops cycles stream frame) job = not_hops job.0
-no_cycles name rows not_port not_compile not_load not_latency not_offers not_hops not_plan none (Plan table given) job = not_plan job.0
+no_cycles name rows not_port not_compile not_load not_latency not_offers not_hops not_plan none (Plan table given verbose) job = not_plan job.0
 
 -- without a number of cycles there is no job of `offers`
 pub no_offers-cycles : (rows : List Row) → ((n : ℕ) → ¬ IsNumberIn 1 100000 n (first_of (codes "cycles") rows)) → (job : Job) →
@@ -181,7 +181,7 @@ no_hops-frame rows none = only_hops rows (λ cycles stream frame job. none frame
 -- with something else than candidates there is no job of `plan`
 pub no_plan-given : (rows : List Row) → ((given : Option Candidates) → ¬ AreGiven given (first_of (codes "cycle") rows)) → (job : Job) →
     ¬ IsJobOf job (codes "plan") rows
-no_plan-given rows none = only_plan rows (λ table given job. none given job.2)
+no_plan-given rows none = only_plan rows (λ table given verbose job. none given job.2)
 
 -- a number of a value is one of its text
 pub number_of-text : (least most number : ℕ) (text value : Option Text) → text ≡ value → IsNumberIn least most number text → IsNumberIn least most number value

@@ -31,8 +31,8 @@ name_of Plan = codes "plan"
 
 -- their options: `port --until N [--rate RATE]`,
 -- `line --cycles N`,
--- `compile [--format FORMAT] [--bridge NAME] [--software] [--large]`,
--- `load [--large]`,
+-- `compile [--format FORMAT] [--bridge NAME] [--software] [--edge-gates] [--large]`,
+-- `load [--streams] [--large]`,
 -- `latency [--strict] [--large]`,
 -- `run --cycles N [--threads] [--large]`,
 -- `report --cycles N [--large]`,
@@ -41,12 +41,12 @@ name_of Plan = codes "plan"
 -- `summary --cycles N [--large]`,
 -- `hops --cycles N [--stream NAME] [--frame F] [--large]`,
 -- `offers --cycles N [--seed S] [--large]`,
--- `plan [--table] [--cycle WORD] [--large]`
+-- `plan [--table] [--cycle WORD] [--verbose] [--large]`
 abbrev pub options_of : Subcommand → List CommandOption
 options_of Port = options.Until ∷ options.Rate ∷ []
 options_of Line = options.Cycles ∷ []
-options_of Compile = options.Format ∷ options.Bridge ∷ options.Software ∷ options.Large ∷ []
-options_of Load = options.Large ∷ []
+options_of Compile = options.Format ∷ options.Bridge ∷ options.Software ∷ options.EdgeGates ∷ options.Large ∷ []
+options_of Load = options.Streams ∷ options.Large ∷ []
 options_of Latency = options.Strict ∷ options.Large ∷ []
 options_of Run = options.Cycles ∷ options.Threads ∷ options.Large ∷ []
 options_of Report = options.Cycles ∷ options.Large ∷ []
@@ -55,7 +55,7 @@ options_of Check = options.Cycles ∷ options.Large ∷ []
 options_of Summary = options.Cycles ∷ options.Large ∷ []
 options_of Hops = options.Cycles ∷ options.Stream ∷ options.Frame ∷ options.Large ∷ []
 options_of Offers = options.Cycles ∷ options.Seed ∷ options.Large ∷ []
-options_of Plan = options.Table ∷ options.Cycle ∷ options.Large ∷ []
+options_of Plan = options.Table ∷ options.Cycle ∷ options.Verbose ∷ options.Large ∷ []
 
 -- the word is one of the command's options, and its value follows as a separate word
 abbrev pub does_want_value : Text → Subcommand → Bool

@@ -7,7 +7,7 @@ use Rattle.clap.specs.declared.builder.value_parser.ValueParser.{ValueParser}
 use Rattle.clap.specs.declared.builder.value_parser.ValueParser.TheVariants.{Unsigned}
 use Rattle.cqf_model.specs.Limits.{last_until, limits_where, most_cycles}
 use Rattle.cqf_program_words.specs.declared.options.CommandOption.{CommandOption}
-use Rattle.cqf_program_words.specs.declared.options.CommandOption.TheVariants.{Until, Rate, Cycles, Format, Bridge, Seed, Stream, Frame, Cycle, Strict, Threads, Table, Software, Large}
+use Rattle.cqf_program_words.specs.declared.options.CommandOption.TheVariants.{Until, Rate, Cycles, Format, Bridge, Seed, Stream, Frame, Cycle, Strict, Streams, Threads, Table, Verbose, Software, EdgeGates, Large}
 
 -- an option `--NAME N` that has to be given
 abbrev pub wanted_rule : Text → Rule
@@ -37,9 +37,12 @@ option_rule Stream = free_rule (codes "stream")
 option_rule Frame = free_rule (codes "frame")
 option_rule Cycle = free_rule (codes "cycle")
 option_rule Strict = flag_rule (codes "strict")
+option_rule Streams = flag_rule (codes "streams")
 option_rule Threads = flag_rule (codes "threads")
 option_rule Table = flag_rule (codes "table")
+option_rule Verbose = flag_rule (codes "verbose")
 option_rule Software = flag_rule (codes "software")
+option_rule EdgeGates = flag_rule (codes "edge-gates")
 option_rule Large = flag_rule (codes "large")
 
 -- the name of an option, which follows `--` on the command line

@@ -96,9 +96,11 @@ IsJobOf (Port until rate) name rows = (name ≡ codes "port")
     × (first_of (codes "rate") rows ≡ Some (rate_text rate))
 IsJobOf (Line cycles) name rows = (name ≡ codes "line")
     × IsNumberIn 1 most_cycles cycles (first_of (codes "cycles") rows)
-IsJobOf (Compile format) name rows = (name ≡ codes "compile")
+IsJobOf (Compile format edge_gates) name rows = (name ≡ codes "compile")
     × IsFormatOf format rows
-IsJobOf Load name rows = name ≡ codes "load"
+    × IsFlagGiven edge_gates (first_of (codes "edge-gates") rows)
+IsJobOf (Load streams) name rows = (name ≡ codes "load")
+    × IsFlagGiven streams (first_of (codes "streams") rows)
 IsJobOf (Latency strict) name rows = (name ≡ codes "latency")
     × IsFlagGiven strict (first_of (codes "strict") rows)
 IsJobOf (Run cycles threads) name rows = (name ≡ codes "run")
@@ -119,9 +121,10 @@ IsJobOf (Hops cycles stream frame) name rows = (name ≡ codes "hops")
     × IsNumberIn 1 most_cycles cycles (first_of (codes "cycles") rows)
     × (option_map string_bytes stream ≡ first_of (codes "stream") rows)
     × IsFreeIn 1 large.rows frame (first_of (codes "frame") rows)
-IsJobOf (Plan table given) name rows = (name ≡ codes "plan")
+IsJobOf (Plan table given verbose) name rows = (name ≡ codes "plan")
     × IsFlagGiven table (first_of (codes "table") rows)
     × AreGiven given (first_of (codes "cycle") rows)
+    × IsFlagGiven verbose (first_of (codes "verbose") rows)
 
 -- whether the input of a job begins with a domain, followed by its streams
 abbrev pub takes_domain : Job → Bool

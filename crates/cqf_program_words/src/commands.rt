@@ -23,9 +23,9 @@ pub(crate) enum Subcommand {
     Port,
     /// `line --cycles N`.
     Line,
-    /// `compile [--format FORMAT] [--bridge NAME] [--software] [--large]`.
+    /// `compile [--format FORMAT] [--bridge NAME] [--software] [--edge-gates] [--large]`.
     Compile,
-    /// `load [--large]`.
+    /// `load [--streams] [--large]`.
     Load,
     /// `latency [--strict] [--large]`.
     Latency,
@@ -43,7 +43,7 @@ pub(crate) enum Subcommand {
     Hops,
     /// `offers --cycles N [--seed S] [--large]`.
     Offers,
-    /// `plan [--table] [--cycle WORD] [--large]`.
+    /// `plan [--table] [--cycle WORD] [--verbose] [--large]`.
     Plan,
 }
 
@@ -97,9 +97,10 @@ impl Subcommand {
                 CommandOption::Format,
                 CommandOption::Bridge,
                 CommandOption::Software,
+                CommandOption::EdgeGates,
                 CommandOption::Large,
             ],
-            Subcommand::Load => &[CommandOption::Large],
+            Subcommand::Load => &[CommandOption::Streams, CommandOption::Large],
             Subcommand::Latency => &[CommandOption::Strict, CommandOption::Large],
             Subcommand::Run => &[
                 CommandOption::Cycles,
@@ -124,6 +125,7 @@ impl Subcommand {
             Subcommand::Plan => &[
                 CommandOption::Table,
                 CommandOption::Cycle,
+                CommandOption::Verbose,
                 CommandOption::Large,
             ],
         }

@@ -47,7 +47,12 @@ is not.
 
 With --format env and --bridge NAME the output is the variables that the script
 reads on this bridge. With --format json it is the configuration for other
-programs."
+programs.
+
+With --edge-gates each stream has a gate only at the bridge where it enters. The
+gates of the other bridges drop nothing, so they may be left out. These bridges
+must still give streams' frames class 6 in even cycles and class 7 in odd ones,
+and lose the gates that an earlier script has set."
 );
 
 /// The help of `load` about standard input and its output.
@@ -61,7 +66,11 @@ that still fits, the number of streams that use it, and the share of the budget
 that is held, in percent. Budget, held and left are octets per cycle on the
 wire, in the fullest cycle. They count what is reserved, not what is sent. A
 plan that exceeds a budget is shown too: left is then below 0. Stations' access
-links come last, with what their streams send in a mean cycle."
+links come last, with what their streams send in a mean cycle.
+
+With --streams the output has a line for each stream of each link instead: the
+octets that it reserves, what they cost on the link, in one of how many cycles,
+and their share of the budget there, the greatest first."
 );
 
 /// The help of `latency` about standard input and its output.
@@ -233,7 +242,10 @@ The output is the file with what the plan decides put in, for the first cycle
 time at which each stream has room and each deadline is kept. If there is none,
 the status is 1, and standard error says what is wrong at the cycle time that
 places most streams. With --table the output has a line for each cycle time
-instead."#;
+instead.
+
+With --verbose notes on the plan go to standard error even if that is no
+terminal."#;
 
 /// The program's help about files and its version.
 pub(crate) const MORE_WORDS: &str =

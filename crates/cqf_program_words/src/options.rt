@@ -24,9 +24,12 @@ pub(crate) enum CommandOption {
     Frame,
     Cycle,
     Strict,
+    Streams,
     Threads,
     Table,
+    Verbose,
     Software,
+    EdgeGates,
     Large,
 }
 
@@ -54,9 +57,12 @@ impl CommandOption {
             CommandOption::Frame => long!("frame"),
             CommandOption::Cycle => long!("cycle"),
             CommandOption::Strict => long!("strict"),
+            CommandOption::Streams => long!("streams"),
             CommandOption::Threads => long!("threads"),
             CommandOption::Table => long!("table"),
+            CommandOption::Verbose => long!("verbose"),
             CommandOption::Software => long!("software"),
+            CommandOption::EdgeGates => long!("edge-gates"),
             CommandOption::Large => long!("large"),
         }
     }
@@ -83,9 +89,12 @@ impl CommandOption {
             | CommandOption::Frame
             | CommandOption::Cycle => true,
             CommandOption::Strict
+            | CommandOption::Streams
             | CommandOption::Threads
             | CommandOption::Table
+            | CommandOption::Verbose
             | CommandOption::Software
+            | CommandOption::EdgeGates
             | CommandOption::Large => false,
         }
     }
@@ -108,9 +117,12 @@ impl CommandOption {
             | CommandOption::Stream
             | CommandOption::Cycle
             | CommandOption::Strict
+            | CommandOption::Streams
             | CommandOption::Threads
             | CommandOption::Table
+            | CommandOption::Verbose
             | CommandOption::Software
+            | CommandOption::EdgeGates
             | CommandOption::Large => None,
         }
     }
@@ -126,9 +138,12 @@ impl CommandOption {
             CommandOption::Frame => "F",
             CommandOption::Cycle => "WORD",
             CommandOption::Strict
+            | CommandOption::Streams
             | CommandOption::Threads
             | CommandOption::Table
+            | CommandOption::Verbose
             | CommandOption::Software
+            | CommandOption::EdgeGates
             | CommandOption::Large => "",
         }
     }
@@ -148,10 +163,14 @@ impl CommandOption {
             CommandOption::Frame => "only this frame, 1 to 1000000",
             CommandOption::Cycle => "cycle times to try, in ns: N or FROM..TO/STEP",
             CommandOption::Strict => "status 1 unless each deadline is kept for certain",
+            CommandOption::Streams =>
+                "a line for each stream of each link in place of one for each link",
             CommandOption::Threads =>
                 "a thread for each bridge and each administrator of the script",
             CommandOption::Table => "a line for each cycle time in place of a plan",
+            CommandOption::Verbose => "notes on the plan even if standard error is no terminal",
             CommandOption::Software => "gates in Linux itself, not in hardware, with --format tc",
+            CommandOption::EdgeGates => "stream gates only at the bridges where streams enter",
             CommandOption::Large => "a network of up to 1024 bridges, 4096 links and 16384 streams",
         }
     }
@@ -236,9 +255,12 @@ fn bare_argument<'a>(alloc: Global, option: CommandOption) -> Arg<'a>
         | CommandOption::Frame
         | CommandOption::Cycle => free_option(alloc, option.name(), option.value()),
         CommandOption::Strict
+        | CommandOption::Streams
         | CommandOption::Threads
         | CommandOption::Table
+        | CommandOption::Verbose
         | CommandOption::Software
+        | CommandOption::EdgeGates
         | CommandOption::Large => flag(alloc, option.name()),
     }
 }

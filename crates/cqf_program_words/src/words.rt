@@ -50,12 +50,15 @@ pub enum Job {
     Line {
         cycles: u32,
     },
-    /// The configuration of a domain and its streams, in a form.
+    /// The configuration of a domain and its streams, in a form; if `edge_gates`, with stream gates only where streams enter.
     Compile {
         format: Format,
+        edge_gates: bool,
     },
-    /// What each link holds and has left.
-    Load,
+    /// What each link holds and has left; if `streams`, what each stream holds of each of its links.
+    Load {
+        streams: bool,
+    },
     /// How long the frames of each stream take to each listener. If strict, a deadline that isn't surely kept ends the run.
     Latency {
         strict: bool,
@@ -92,10 +95,12 @@ pub enum Job {
         stream: Option<String>,
         frame: Option<u32>,
     },
-    /// A plan for the first good candidate of a network file, or the table of all of its candidates. Candidates may be given.
+    /// A plan for the first good candidate of a network file, or the table of all of its candidates. Candidates may be given. If `verbose`,
+    /// notes on the plan are written even if standard error is no terminal.
     Plan {
         table: bool,
         given: Option<Candidates>,
+        verbose: bool,
     },
 }
 
@@ -107,7 +112,7 @@ impl Job {
         match *self {
             Job::Port { .. } | Job::Line { .. } => false,
             Job::Compile { .. }
-            | Job::Load
+            | Job::Load { .. }
             | Job::Latency { .. }
             | Job::Run { .. }
             | Job::Report { .. }
@@ -260,7 +265,10 @@ fn compile_job(values: &ArgMatches<'_>) -> Option<Job>
     let Some(format) = format_of(values) else {
         return None;
     };
-    Some(Job::Compile { format })
+    Some(Job::Compile {
+        format,
+        edge_gates: is_given(values, "edge-gates"),
+    })
 }
 
 /// Returns the number of cycles of the command with these values.
@@ -376,6 +384,7 @@ fn plan_job(values: &ArgMatches<'_>) -> Option<Job>
     Some(Job::Plan {
         table: is_given(values, "table"),
         given,
+        verbose: is_given(values, "verbose"),
     })
 }
 
@@ -427,7 +436,9 @@ fn job_by_name(name: &str, values: &ArgMatches<'_>) -> Option<Job>
     match name {
         "port" => port_job(values),
         "compile" => compile_job(values),
-        "load" => Some(Job::Load),
+        "load" => Some(Job::Load {
+            streams: is_given(values, "streams"),
+        }),
         "latency" => Some(Job::Latency {
             strict: is_given(values, "strict"),
         }),

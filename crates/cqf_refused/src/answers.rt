@@ -61,6 +61,7 @@ const ONE_LINK: &str = "cycle = 125000\nguard = 5000\nbridges = [\"a\"]\nstation
 pub(crate) fn compile_told(rt: &(impl Threads + Sync), alloc: Global) -> Told {
     let job = Job::Compile {
         format: Format::List,
+        edge_gates: false,
     };
     let text = "link a>s\nBF 120000\n00 5000\n7F 120000\n00 5000\n\
         stream 0 x bridge a\nopen 6 125000 1500\nopen 7 125000 1500\n";

@@ -12,7 +12,8 @@ enum Meant {
     CompileList,
     CompileTc { is_software: bool },
     CompileJson,
-    Load,
+    CompileEdges,
+    Load { streams: bool },
     Latency { strict: bool },
     Run { cycles: u32, threads: bool },
     Report { cycles: u32 },
@@ -21,7 +22,7 @@ enum Meant {
     Summary { cycles: u32 },
     Offers { cycles: u32, seed: Option<u32> },
     Hops { cycles: u32, frame: Option<u32> },
-    Plan { table: bool },
+    Plan { table: bool, verbose: bool },
 }
 
 /// The job.
@@ -31,14 +32,21 @@ fn job_of(meant: &Meant) -> Job {
         Meant::Line { cycles } => Job::Line { cycles },
         Meant::CompileList => Job::Compile {
             format: Format::List,
+            edge_gates: false,
         },
         Meant::CompileTc { is_software } => Job::Compile {
             format: Format::Tc { is_software },
+            edge_gates: false,
         },
         Meant::CompileJson => Job::Compile {
             format: Format::Json,
+            edge_gates: false,
         },
-        Meant::Load => Job::Load,
+        Meant::CompileEdges => Job::Compile {
+            format: Format::List,
+            edge_gates: true,
+        },
+        Meant::Load { streams } => Job::Load { streams },
         Meant::Latency { strict } => Job::Latency { strict },
         Meant::Run { cycles, threads } => Job::Run { cycles, threads },
         Meant::Report { cycles } => Job::Report { cycles },
@@ -51,7 +59,11 @@ fn job_of(meant: &Meant) -> Job {
             stream: None,
             frame,
         },
-        Meant::Plan { table } => Job::Plan { table, given: None },
+        Meant::Plan { table, verbose } => Job::Plan {
+            table,
+            given: None,
+            verbose,
+        },
     }
 }
 
@@ -148,7 +160,19 @@ const CASES: &[(&[&str], Option<Meant>, u8)] = &[
     (&["--format", "tc", "compile"], None, USAGE),
     (&["load", "--format", "tc"], None, USAGE),
     (&["port", "--until", "5", "--format", "tc"], None, USAGE),
-    (&["load"], Some(Meant::Load), DONE),
+    (
+        &["compile", "--edge-gates"],
+        Some(Meant::CompileEdges),
+        DONE,
+    ),
+    (&["compile", "--edge-gates", "--edge-gates"], None, USAGE),
+    (&["load"], Some(Meant::Load { streams: false }), DONE),
+    (
+        &["load", "--streams"],
+        Some(Meant::Load { streams: true }),
+        DONE,
+    ),
+    (&["load", "--stream"], None, USAGE),
     (&["latency"], Some(Meant::Latency { strict: false }), DONE),
     (
         &["latency", "--strict"],
@@ -280,10 +304,28 @@ const CASES: &[(&[&str], Option<Meant>, u8)] = &[
     ),
     (&["hops", "--cycles", "100001"], None, USAGE),
     (&["run", "--cycles", "5", "--frame", "1"], None, USAGE),
-    (&["plan"], Some(Meant::Plan { table: false }), DONE),
+    (
+        &["plan"],
+        Some(Meant::Plan {
+            table: false,
+            verbose: false,
+        }),
+        DONE,
+    ),
     (
         &["plan", "--table"],
-        Some(Meant::Plan { table: true }),
+        Some(Meant::Plan {
+            table: true,
+            verbose: false,
+        }),
+        DONE,
+    ),
+    (
+        &["plan", "--verbose"],
+        Some(Meant::Plan {
+            table: false,
+            verbose: true,
+        }),
         DONE,
     ),
     (&["plan", "--cycle"], None, USAGE),
@@ -352,7 +394,7 @@ fn is_env_of(format: &Format, name: &str) -> bool {
 /// Whether a job writes the variables of the bridge with this name.
 fn writes_env_of(job: &Job, name: &str) -> bool {
     match *job {
-        Job::Compile { ref format } => is_env_of(format, name),
+        Job::Compile { ref format, .. } => is_env_of(format, name),
         _ => false,
     }
 }
@@ -479,6 +521,7 @@ fn given_by(alloc: Global, word: &str) -> Option<(usize, u32, u32)> {
         Job::Plan {
             table: true,
             given: Some(given),
+            ..
         },
     ) = read_words(alloc, &["plan", "--table", "--cycle", word])
     else {

@@ -3,7 +3,7 @@ use Rattle.cqf_program_scenario.specs.Networks.{domain_of, network_of_part}
 use Rattle.cqf_program_plans.specs.NetworkRequests.{requests_of_network}
 use Rattle.cqf_network.specs.NetworkDomain.{NetworkDomain}
 use Rattle.cqf_model.specs.declared.limits.Limits.{Limits}
-use Rattle.std.specs.Prelude.{ℕ, ◌≡◌, ◌≤◌, ◌+◌, ◌++◌, codes, decimal, length, List, [], ◌∷◌, map, Result, Ok}
+use Rattle.std.specs.Prelude.{ℕ, ◌≡◌, ◌≤◌, ◌+◌, ◌++◌, Bool, codes, decimal, length, List, [], ◌∷◌, map, Result, Ok}
 use Rattle.cqf_model.specs.declared.topology.Row.{Row}
 use Rattle.cqf_model.specs.Domain.{Domain}
 use Rattle.cqf_model.specs.History.{Admits, Asked, Recorded, held_in, IsLegalHistory, refusal_of, reply_to, seals}
@@ -13,6 +13,7 @@ use Rattle.cqf_laws_history.specs.StateLaws.{with_entry}
 use Rattle.cqf_admission.specs.Admission.{Administration}
 use Rattle.cqf_admission.specs.Asking.{asked_by}
 use Rattle.cqf_compile.specs.ConfigText.{config_text}
+use Rattle.cqf_program_plans.specs.Compile.Gated.{gated_rows}
 use Rattle.cqf_program_scenario.specs.Parts.{two_parts}
 use Rattle.cqf_model.specs.Refusals.{text_of_refusal}
 use Rattle.cqf_model.specs.declared.history.Refused.{Refused}
@@ -44,13 +45,14 @@ abbrev pub compile_input : Limits → List ℕ → Result (Domain × List Asked)
 compile_input limits input = and_then (two_parts (parts_of input)) (λ parts.
     and_then (network_of_part limits parts.0) (λ network. plan_of_network network parts.1))
 
--- the configuration of a domain with all of these streams admitted before cycle 0
-abbrev pub configuration_of : Domain → List Asked → Result (List ℕ) (List ℕ)
-configuration_of d streams = and_then (admitted_from d [] 1 streams) (λ entries. Ok (config_text d (held_in d entries 0)))
+-- the configuration of a domain with all of these streams admitted before cycle 0, with stream gates at edge bridges alone or at all bridges
+abbrev pub configuration_of : Bool → Domain → List Asked → Result (List ℕ) (List ℕ)
+configuration_of edge_gates d streams =
+    and_then (admitted_from d [] 1 streams) (λ entries. Ok (config_text d (gated_rows edge_gates (held_in d entries 0))))
 
 -- the configuration for an input, or the line of its first fault
-abbrev pub compiled_input : Limits → List ℕ → Result (List ℕ) (List ℕ)
-compiled_input limits input = and_then (compile_input limits input) (λ found. configuration_of found.0 found.1)
+abbrev pub compiled_input : Limits → Bool → List ℕ → Result (List ℕ) (List ℕ)
+compiled_input limits edge_gates input = and_then (compile_input limits input) (λ found. configuration_of edge_gates found.0 found.1)
 
 -- a history that only grants admissions: no Seal, one held stream for each entry, and at most 16,384 entries
 pub record AreAllHeld (d : Domain) (entries : List Recorded) : Type 0 where

@@ -24,7 +24,7 @@ abbrev pub deadlines_in : List PlannedText → List (Option ℕ)
 deadlines_in streams = map (λ (planned : PlannedText). planned.1) streams
 
 -- the plan of an input from where its streams begin, or the line of the first fault: of the parts, then of the domain, then of the streams,
--- of the first that doesn't enter as its text says, of the first access link that is full, and of the first stream that reserves less than
+-- of the first whose talker or listeners don't fit, of the first access link that is full, and of the first stream that reserves less than
 -- its traffic needs
 abbrev pub plan_with : NetworkDomain → EdgeFlowsText → List PacedText → PlanFromTalkers
 plan_with network edge requests =

@@ -2,10 +2,8 @@
 use Rattle.std.specs.Prelude.{ℕ, ◌+◌, ◌*◌, ◌/◌, ◌^◌, ◌≤◌, ◌++◌, List, [], ◌∷◌, Option, Some, None, codes, decimal, flat_map, map, max, slice_index_or, suc, zero}
 use Rattle.std.specs.Int.{div_ceil}
 use Rattle.std.specs.Option.{option_map_or}
-use Rattle.cqf_units.specs.Timing.{ticks_of_octet}
+use Rattle.cqf_units.specs.Timing.{cost_of, ticks_of_octet}
 use Rattle.cqf_units.specs.declared.timing.Rate.{Rate}
-use Rattle.cqf_model.specs.History.{Asked}
-use Rattle.cqf_admission.specs.Asking.{asked_by}
 use Rattle.cqf_traffic.specs.FlowsText.{FlowText}
 use Rattle.cqf_traffic.specs.TrafficText.{TrafficText}
 use Rattle.cqf_network.specs.declared.domain.TalkerLink.{TalkerLink}
@@ -25,12 +23,13 @@ access_budget cycle_time rate = 25 * cycle_time / ticks_of_octet rate
 abbrev pub promised_in : ℕ → TrafficText → ℕ
 promised_in cycle_time t = div_ceil (t.frames * (t.size + 20) * cycle_time) t.interval
 
--- and what one takes that promises nothing: what its reservation costs, in the cycles in which it is offered
-abbrev pub reserved_in : Asked → ℕ
-reserved_in asked = div_ceil (asked.octets + 20 * (asked.octets / 64)) (max asked.every 1)
+-- and what one takes that promises nothing: what its reservation of this many octets costs, in the one of `every` cycles in which it is offered
+abbrev pub reserved_in : ℕ → ℕ → ℕ
+reserved_in octets every = div_ceil (cost_of octets) (max every 1)
 
-abbrev pub taken_by : ℕ → Handed → Asked → ℕ
-taken_by cycle_time handed asked = option_map_or (promised_in cycle_time) handed.traffic (reserved_in asked)
+-- what the stream takes that hands this over, and reserves this many octets in one of `every` cycles
+abbrev pub taken_by : ℕ → Handed → ℕ → ℕ → ℕ
+taken_by cycle_time handed octets every = option_map_or (promised_in cycle_time) handed.traffic (reserved_in octets every)
 
 -- no stream takes more
 abbrev pub most_taken : ℕ
@@ -63,7 +62,7 @@ loads_with cycle_time loads [] flows = loads
 loads_with cycle_time loads (one ∷ more) [] = loads
 loads_with cycle_time loads (None ∷ more) (flow ∷ flows) = loads_with cycle_time loads more flows
 loads_with cycle_time loads (Some handed ∷ more) (flow ∷ flows) =
-    loads_with cycle_time (added_load loads handed.place (taken_by cycle_time handed (asked_by flow.0.0))) more flows
+    loads_with cycle_time (added_load loads handed.place (taken_by cycle_time handed flow.0.0.octets flow.0.0.every)) more flows
 
 abbrev pub access_loads : NetworkDomain → ℕ → List (Option Handed) → List FlowText → List AccessLoad
 access_loads network cycle_time handed flows = loads_with cycle_time (map (unloaded network cycle_time) network.talkers) handed flows
@@ -77,10 +76,14 @@ pub record IsLoadedBy (count : ℕ) (load : AccessLoad) : Type 0 where
   pub little : TakesLittle load
   pub few : load.streams ≤ count
 
+-- its name: those of its ends
+abbrev pub name_of_access : AccessLoad → List ℕ
+name_of_access load = load.from ++ (codes ">" ++ load.to)
+
 -- the line of an access link: nothing is reserved on it, so nothing fits
 abbrev pub access_fields : AccessLoad → Fields
 access_fields load =
-    (load.from ++ (codes ">" ++ load.to)) ∷ decimal (megabits_of load.rate) ∷ decimal load.budget ∷ decimal load.held ∷ left_text load.budget load.held
+    name_of_access load ∷ decimal (megabits_of load.rate) ∷ decimal load.budget ∷ decimal load.held ∷ left_text load.budget load.held
     ∷ [] ∷ decimal load.streams ∷ used_text load.budget load.held ∷ []
 
 -- one line a link, in their order

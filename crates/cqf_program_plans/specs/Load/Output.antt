@@ -1,21 +1,25 @@
 -- The result of the command `load` for its input: what each link holds of the streams and has left, or the line of the input's first fault.
 use Rattle.cqf_model.specs.declared.limits.Limits.{Limits}
-use Rattle.std.specs.Prelude.{ℕ, ◌+◌, ◌++◌, List, [], ◌∷◌, Result, Ok, if◌then◌else◌, length, map}
+use Rattle.std.specs.Prelude.{ℕ, ◌+◌, ◌++◌, List, [], ◌∷◌, Option, Result, Ok, if◌then◌else◌, length, map}
 use Rattle.cqf_lists.specs.Results.{and_then, refuse}
 use Rattle.cqf_model.specs.declared.topology.Row.{Row}
 use Rattle.cqf_model.specs.Domain.{Domain}
 use Rattle.cqf_model.specs.History.{Asked}
+use Rattle.cqf_model.specs.Limits.{most_reserved}
 use Rattle.cqf_text.specs.Parts.{parts_of}
 use Rattle.cqf_admission.specs.Asking.{asked_by}
 use Rattle.cqf_network.specs.NetworkDomain.{NetworkDomain}
 use Rattle.cqf_edge.specs.EdgeFlows.{EdgeFlowsText}
+use Rattle.cqf_edge.specs.declared.uses.Handed.{Handed}
 use Rattle.cqf_program_scenario.specs.Networks.{domain_of, network_of_part}
 use Rattle.cqf_program_scenario.specs.Parts.{two_parts}
 use Rattle.cqf_program_plans.specs.declared.load.access.AccessLoad.{AccessLoad}
+use Rattle.cqf_program_plans.specs.declared.load.shares.AccessShare.{AccessShare}
 use Rattle.cqf_program_plans.specs.Compile.Output.{stream_line}
 use Rattle.cqf_program_plans.specs.Edges.{edges_of_part, has_access}
-use Rattle.cqf_program_plans.specs.Load.Access.{access_loads}
+use Rattle.cqf_program_plans.specs.Load.Access.{access_loads, most_taken}
 use Rattle.cqf_program_plans.specs.Load.Told.{text_of_load}
+use Rattle.cqf_program_plans.specs.Load.Streams.{StreamLoads, access_shares, greatest_first, text_of_streams}
 use Rattle.cqf_program_plans.specs.Reserving.{requests_at, requests_in}
 use Rattle.cqf_program_plans.specs.Load.Listing.{listed_row, listing_refusal}
 
@@ -26,10 +30,11 @@ listed_from d rows [] = Ok rows
 listed_from d rows (asked ∷ more) =
     refuse (listing_refusal d rows asked) (stream_line (length rows + 1)) (listed_from d (rows ++ listed_row d rows asked ∷ []) more)
 
--- what is read: a domain, what its streams take of access links, and what they ask for
+-- what is read: a domain, what its streams take of access links, what each hands to one, and what they ask for
 pub record LoadedInput : Type 0 where
   pub domain : Domain
   pub access : List AccessLoad
+  pub handed : List (Option Handed)
   pub streams : List Asked
 
 -- of a network in which a station has an access link: also where one is full, since it is here that one sees how full
@@ -37,6 +42,7 @@ abbrev pub loaded_from : NetworkDomain → EdgeFlowsText → Result LoadedInput 
 loaded_from network edge = and_then (requests_at (domain_of network) edge.flows) (λ requests. Ok (record {
   domain = domain_of network;
   access = access_loads network (domain_of network).cycle_time edge.handed edge.flows;
+  handed = edge.handed;
   streams = map asked_by requests;
 }))
 
@@ -45,7 +51,7 @@ loaded_by_access network text = and_then (edges_of_part network text) (loaded_fr
 
 -- of one in which none has
 abbrev pub loaded_without : Domain → List ℕ → Result LoadedInput (List ℕ)
-loaded_without d text = and_then (requests_in d text) (λ requests. Ok (record { domain = d; access = []; streams = map asked_by requests }))
+loaded_without d text = and_then (requests_in d text) (λ requests. Ok (record { domain = d; access = []; handed = []; streams = map asked_by requests }))
 
 -- of a network, and a part for it
 abbrev pub loaded_network : NetworkDomain → List ℕ → Result LoadedInput (List ℕ)
@@ -65,3 +71,21 @@ load_of found = and_then (listed_from found.domain [] found.streams) (λ rows.
 -- the text for an input, or the line of its first fault
 abbrev pub loaded_input : Limits → List ℕ → Result (List ℕ) (List ℕ)
 loaded_input limits input = and_then (load_input limits input) load_of
+
+-- of what is read, what each stream takes of each link: of a link the greatest reservation first, of an access link what takes the most, and
+-- equal ones in the order of the text
+abbrev pub stream_loads : LoadedInput → List Row → StreamLoads
+stream_loads found rows = record {
+  domain = found.domain;
+  rows = greatest_first most_reserved (λ (row : Row). row.octets) rows;
+  access = found.access;
+  shares = greatest_first most_taken (λ (share : AccessShare). share.taken) (access_shares found.domain.cycle_time found.handed rows);
+}
+
+-- the text of `load --streams` for what is read, or the line of the first stream that isn't listed
+abbrev pub streams_of : LoadedInput → Result (List ℕ) (List ℕ)
+streams_of found = and_then (listed_from found.domain [] found.streams) (λ rows. Ok (text_of_streams (stream_loads found rows)))
+
+-- the text of `load --streams` for an input, or the line of its first fault
+abbrev pub loaded_streams : Limits → List ℕ → Result (List ℕ) (List ℕ)
+loaded_streams limits input = and_then (load_input limits input) streams_of

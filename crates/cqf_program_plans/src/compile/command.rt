@@ -8,11 +8,13 @@ ghost use Rattle.cqf_admission.specs.Forms.{IsRowOfGoodForm};
 ghost use Rattle.cqf_model.specs.History.{Asked, Recorded};
 ghost use Rattle.cqf_program_plans.specs.Compile.Output.{stream_line, admitted_from, compile_input, compiled_input, plan_of_network};
 ghost use Rattle.cqf_program_plans.specs.Compile.Output.{configuration_of, AreAllHeld, ArePlanned, HoldsAll};
+ghost use Rattle.cqf_program_plans.specs.Compile.Gated.{gated_rows};
 ghost use Rattle.cqf_program_plans.specs.Compile.Told.{text_of_config};
 ghost use Rattle.cqf_admission.specs.Turns.{AreOfGoodPaces};
 ghost use Rattle.cqf_admission.specs.Orders.{request_at};
 ghost use Rattle.cqf_output.specs.Stops.{EndsWith, IsRefused};
 
+use crate::compile::gated::gated_rows;
 use crate::compile::outputs::ConfigOutput;
 use crate::reserving::requests_of_network;
 use cqf_admission::{Ledger, Receipt, Refused, count_places, judge_paced};
@@ -229,43 +231,60 @@ pub fn rows_of_cycle_0(
     rows_with(alloc, domain, requests, &mut ledger)
 }
 
-/// Returns the domain's configuration with the streams of these rows, ready to be written.
-fn config_ready(alloc: Global, domain: &Domain, rows: Vec<Row>) -> Result<ConfigOutput, Memory>
+/// Returns the domain's configuration with the streams of these rows, ready to be written. With `edge_gates`, streams have gates at their edge
+/// bridges alone.
+fn config_ready(
+    alloc: Global,
+    edge_gates: bool,
+    domain: &Domain,
+    rows: Vec<Row>,
+) -> Result<ConfigOutput, Memory>
     requires along { AreAlongLinks domain.now rows.items }
     requires paced { AreOfGoodPaces rows.items }
-    ensures { IfOk result (λ output. output ≡ record { domain = domain.now; rows = rows.items }) }
+    ensures { IfOk result (λ output. output ≡ record { domain = domain.now; rows = gated_rows edge_gates rows.items }) }
 {
+    let gated = gated_rows(alloc, edge_gates, rows)?;
     let plan = compile(alloc, domain)?;
     let buffer = Buffer::new(alloc)?;
-    Ok(ConfigOutput { plan, rows, buffer })
+    Ok(ConfigOutput {
+        plan,
+        rows: gated,
+        buffer,
+    })
 }
 
 /// Returns the configuration of a domain with these streams, ready to be written.
 fn config_of(
     alloc: Global,
+    edge_gates: bool,
     domain: &Domain,
     requests: &[PacedRequest],
 ) -> Result<ConfigOutput, Stop>
-    ensures ok { IfOk result (λ output. configuration_of domain.now (map asked_paced requests.now) ≡ Ok (text_of_config output)) }
-    ensures err { IfErr result (IsRefused (configuration_of domain.now (map asked_paced requests.now))) }
+    ensures ok { IfOk result (λ output. configuration_of edge_gates domain.now (map asked_paced requests.now) ≡ Ok (text_of_config output)) }
+    ensures err { IfErr result (IsRefused (configuration_of edge_gates domain.now (map asked_paced requests.now))) }
 {
     let rows = rows_of_cycle_0(alloc, domain, requests)?;
-    match config_ready(alloc, domain, rows) {
+    match config_ready(alloc, edge_gates, domain, rows) {
         Ok(output) => Ok(output),
         Err(_) => Err(Stop::memory(alloc)),
     }
 }
 
 /// Returns the output of `compile` for an input that is read within some limits, ready to be written: the configuration of the domain and
-/// its streams.
+/// its streams. With `edge_gates`, streams have gates at their edge bridges alone.
 ///
 /// # Errors
 /// With status 1 and the line of the first fault of the input: of its parts, of the domain, of the streams, or of the first stream that isn't
 /// admitted. With status 3 if an allocation fails.
-pub fn compile_output(alloc: Global, limits: Limits, input: &[u8]) -> Result<ConfigOutput, Stop>
-    ensures ok { IfOk result (λ output. compiled_input limits input.now ≡ Ok (text_of_config output)) }
-    ensures err { IfErr result (IsRefused (compiled_input limits input.now)) }
+pub fn compile_output(
+    alloc: Global,
+    limits: Limits,
+    edge_gates: bool,
+    input: &[u8],
+) -> Result<ConfigOutput, Stop>
+    ensures ok { IfOk result (λ output. compiled_input limits edge_gates input.now ≡ Ok (text_of_config output)) }
+    ensures err { IfErr result (IsRefused (compiled_input limits edge_gates input.now)) }
 {
     let (domain, requests) = read_plan(alloc, limits, input)?;
-    config_of(alloc, &domain, requests.as_slice())
+    config_of(alloc, edge_gates, &domain, requests.as_slice())
 }

@@ -207,7 +207,7 @@ fn latencies_by_costs(
 ///
 /// # Errors
 /// `Memory` if an allocation fails.
-pub(crate) fn latencies_from_talkers(
+pub fn latencies_from_talkers(
     alloc: Global,
     domain: &Domain,
     rows: &[Row],

@@ -1,10 +1,10 @@
 //! The part of access links that the streams of a plan take.
 ghost use Rattle.std.specs.Prelude.{ℕ, ◌≡◌, ◌+◌, ◌-◌, ◌<◌, ◌≤◌, ◌^◌, All, IfOk, None, length, map, option_copied, slice_index_or};
-ghost use Rattle.cqf_admission.specs.Asking.{asked_paced};
 ghost use Rattle.cqf_model.specs.Limits.{longest_cycle};
 ghost use Rattle.cqf_traffic.specs.FlowsText.{flow_text};
 ghost use Rattle.cqf_program_plans.specs.Load.Access.{IsLoadedBy, TakesLittle, access_budget, access_loads, added_load, loaded_by, most_taken, promised_in};
 ghost use Rattle.cqf_program_plans.specs.Load.Access.{reserved_in, taken_by, unloaded};
+ghost use Rattle.cqf_units.specs.Timing.{cost_of};
 
 use cqf_edge::{EdgeFlows, Handed};
 use cqf_network::{NetworkDomain, TalkerLink};
@@ -13,20 +13,23 @@ use cqf_traffic::Traffic;
 use cqf_units::{Memory, Name, Nanos, Rate, octet_ticks};
 use std::alloc::Global;
 
+/// No stream takes more octets of a cycle.
+pub(crate) const MOST_TAKEN: u64 = 1 << 44;
+
 /// What streams take of an access link, in octets of a cycle.
 #[derive(Drop)]
-pub(crate) struct AccessLoad {
+pub struct AccessLoad {
     /// The name of the station that it leaves.
-    pub(crate) from: Name,
+    pub from: Name,
     /// The name of the bridge in which it ends.
-    pub(crate) to: Name,
-    pub(crate) rate: Rate,
+    pub to: Name,
+    pub rate: Rate,
     /// The number of octets that it can send in a cycle.
-    pub(crate) budget: u64,
+    pub budget: u64,
     /// The number of octets that its streams take, with preambles and gaps.
-    pub(crate) held: u128,
+    pub held: u128,
     /// The number of these streams.
-    pub(crate) streams: u64,
+    pub streams: u64,
 }
 
 impl AccessLoad {
@@ -61,26 +64,33 @@ fn promised_in(cycle_time: Nanos, traffic: Traffic) -> u128
     taken.div_ceil(u128::from(traffic.interval().0))
 }
 
-/// Returns the octets of a cycle that a talker takes that promises nothing: the mean of what its reservation costs, rounded up. It takes that
-/// only in the cycles in which it is offered.
-fn reserved_in(request: &PacedRequest) -> u128
-    ensures value { result ≡ reserved_in (asked_paced request.now) }
-    ensures little { result ≤ most_taken }
+/// Returns what a reservation of this many octets costs of a link, in octets.
+pub(crate) fn cost_in_octets(octets: u32) -> u64
+    ensures { result ≡ cost_of octets }
 {
-    let octets = u128::from(request.octets);
-    let taken = octets + 20 * (octets / 64);
-    taken.div_ceil(u128::from(request.every.max(1)))
+    let octets = u64::from(octets);
+    octets + 20 * (octets / 64)
 }
 
-/// Returns the octets of a cycle that a stream takes of its access link.
-fn taken_by(cycle_time: Nanos, handed: &Handed, request: &PacedRequest) -> u128
+/// Returns the octets of a cycle that a talker takes that promises nothing: the mean of what its reservation costs in one of `every` cycles,
+/// rounded up. It takes that only in the cycles in which it is offered.
+fn reserved_in(octets: u32, every: u32) -> u128
+    ensures value { result ≡ reserved_in octets every }
+    ensures little { result ≤ most_taken }
+{
+    let cost = u128::from(cost_in_octets(octets));
+    cost.div_ceil(u128::from(every.max(1)))
+}
+
+/// Returns the octets of a cycle that a stream takes of its access link, if it reserves this many octets in one of `every` cycles.
+pub(crate) fn taken_by(cycle_time: Nanos, handed: &Handed, octets: u32, every: u32) -> u128
     requires { cycle_time.0 ≤ longest_cycle }
-    ensures value { result ≡ taken_by cycle_time.0 handed.now (asked_paced request.now) }
+    ensures value { result ≡ taken_by cycle_time.0 handed.now octets every }
     ensures little { result ≤ most_taken }
 {
     match handed.traffic {
         Some(traffic) => promised_in(cycle_time, traffic),
-        None => reserved_in(request),
+        None => reserved_in(octets, every),
     }
 }
 
@@ -122,17 +132,17 @@ fn all_unloaded(
 fn add_load(loads: &mut Vec<AccessLoad>, cycle_time: Nanos, handed: &Handed, request: &PacedRequest)
     requires short { cycle_time.0 ≤ longest_cycle }
     requires few { (count : ℕ) × (count < 2 ^ 64 - 1) × All (IsLoadedBy count) loads.old.items }
-    ensures value { loads.new.items ≡ added_load loads.old.items handed.now.place (taken_by cycle_time.0 handed.now (asked_paced request.now)) }
+    ensures value { loads.new.items ≡ added_load loads.old.items handed.now.place (taken_by cycle_time.0 handed.now request.now.octets request.now.every) }
     ensures few { (count : ℕ) → All (IsLoadedBy count) loads.old.items → All (IsLoadedBy (count + 1)) loads.new.items }
 {
     if handed.place < loads.len() {
-        let taken = taken_by(cycle_time, handed, request);
+        let taken = taken_by(cycle_time, handed, request.octets, request.every);
         loads[handed.place].add(taken);
     }
 }
 
 /// Returns what the stream at a place hands to an access link.
-fn handed_at(all: &[Option<Handed>], place: usize) -> Option<&Handed>
+pub(crate) fn handed_at(all: &[Option<Handed>], place: usize) -> Option<&Handed>
     ensures { option_copied result ≡ slice_index_or all.now place None }
 {
     match all.get(place) {
@@ -145,7 +155,7 @@ fn handed_at(all: &[Option<Handed>], place: usize) -> Option<&Handed>
 ///
 /// # Errors
 /// `Memory` if an allocation fails.
-pub(crate) fn access_loads(
+pub fn access_loads(
     alloc: Global,
     network: &NetworkDomain,
     cycle_time: Nanos,

@@ -2,8 +2,12 @@
 ghost use Rattle.std.specs.Prelude.{◌≡◌, ◌∷◌, [], All, IfErr, IfOk, List, Ok, map};
 ghost use Rattle.cqf_model.specs.History.{Asked};
 ghost use Rattle.cqf_admission.specs.Asking.{asked_paced};
-ghost use Rattle.cqf_program_plans.specs.Load.Output.{listed_from, load_input, loaded_by_access, loaded_input, loaded_network, loaded_without};
-ghost use Rattle.cqf_program_plans.specs.Load.Access.{TakesLittle};
+ghost use Rattle.cqf_program_plans.specs.Load.Output.{listed_from, load_input, loaded_by_access, loaded_input, loaded_network, loaded_streams, loaded_without};
+ghost use Rattle.cqf_program_plans.specs.declared.load.shares.AccessShare.{AccessShare as AShare};
+ghost use Rattle.cqf_program_plans.specs.Load.Streams.{access_shares, greatest_first, text_of_streams};
+ghost use Rattle.cqf_model.specs.declared.topology.Row.{Row as ARow};
+ghost use Rattle.cqf_model.specs.Limits.{most_reserved};
+ghost use Rattle.cqf_program_plans.specs.Load.Access.{TakesLittle, most_taken};
 ghost use Rattle.cqf_program_plans.specs.Load.Read.{load_input_value};
 ghost use Rattle.cqf_program_scenario.specs.Networks.{domain_of};
 ghost use Rattle.cqf_program_plans.specs.Load.Told.{text_of_load};
@@ -13,14 +17,18 @@ use crate::edges::{edges_part, has_access};
 use crate::load::access::{AccessLoad, access_loads};
 use crate::load::listing::LoadListing;
 use crate::load::outputs::LoadOutput;
+use crate::load::shares::{access_shares, sort_rows, sort_shares};
+use crate::load::streams::StreamLoadsOutput;
 use crate::reserving::{requests_at, requests_in};
 use crate::stream_stop;
 use cqf_admission::count_places;
+use cqf_edge::{EdgeFlows, Handed};
 use cqf_model::Limits;
 use cqf_network::NetworkDomain;
 use cqf_output::{Buffer, Stop};
 use cqf_program_scenario::{domain_of, network_part, two_parts};
 use cqf_topology::{Domain, PacedRequest};
+use cqf_units::Memory;
 use std::alloc::Global;
 
 /// Appends one more stream to the listed ones, no matter what room links have, or returns the end of the command if the stream is refused.
@@ -68,6 +76,8 @@ fn list_all(alloc: Global, domain: &Domain, requests: &[PacedRequest]) -> Result
 struct LoadInput {
     domain: Domain,
     access: Vec<AccessLoad>,
+    /// What each stream hands to an access link, by place.
+    handed: Vec<Option<Handed>>,
     requests: Vec<PacedRequest>,
 }
 
@@ -88,10 +98,12 @@ fn read_with_access(
     let Ok(access) = access_loads(alloc, network, domain.cycle_time(), &edge) else {
         return Err(Stop::memory(alloc));
     };
-    let requests = requests_at(alloc, &domain, edge.flows)?;
+    let EdgeFlows { flows, handed, .. } = edge;
+    let requests = requests_at(alloc, &domain, flows)?;
     Ok(LoadInput {
         domain,
         access,
+        handed,
         requests,
     })
 }
@@ -104,9 +116,11 @@ fn read_without_access(alloc: Global, domain: Domain, text: &[u8]) -> Result<Loa
 {
     let requests = requests_in(alloc, &domain, text)?;
     let access = Vec::new(alloc);
+    let handed = Vec::new(alloc);
     Ok(LoadInput {
         domain,
         access,
+        handed,
         requests,
     })
 }
@@ -157,6 +171,7 @@ pub fn load_output(alloc: Global, limits: Limits, input: &[u8]) -> Result<LoadOu
         domain,
         access,
         requests,
+        ..
     } = read_load(alloc, limits, input)?;
     let listing = list_all(alloc, &domain, requests.as_slice())?;
     match Buffer::new(alloc) {
@@ -166,6 +181,63 @@ pub fn load_output(alloc: Global, limits: Limits, input: &[u8]) -> Result<LoadOu
             access,
             buffer,
         }),
+        Err(_) => Err(Stop::memory(alloc)),
+    }
+}
+
+/// Returns what is written of each stream on each link, ready to be written, of what was read and of the rows of its streams.
+fn streams_ready(
+    alloc: Global,
+    domain: Domain,
+    access: Vec<AccessLoad>,
+    handed: &[Option<Handed>],
+    listing: LoadListing,
+) -> Result<StreamLoadsOutput, Memory>
+    ensures { IfOk result (λ output. output ≡ record {
+      domain = domain;
+      rows = greatest_first most_reserved (λ (row : ARow). row.octets) listing;
+      access = access.items;
+      shares = greatest_first most_taken (λ (share : AShare). share.taken) (access_shares domain.cycle_time handed.now listing);
+    }) }
+{
+    domain.know();
+    let mut rows = listing.into_rows();
+    let mut shares = access_shares(alloc, domain.cycle_time(), handed, rows.as_slice())?;
+    sort_rows(&mut rows)?;
+    sort_shares(&mut shares)?;
+    let buffer = Buffer::new(alloc)?;
+    Ok(StreamLoadsOutput {
+        domain,
+        rows,
+        access,
+        shares,
+        buffer,
+    })
+}
+
+/// Returns the output of `load --streams` for an input that is read within some limits, ready to be written: a line for each stream on each of
+/// its links, link by link, with what it takes of the link; and then one for each stream on its access link. On each link the greatest is
+/// first. A stream for which a link has no room is listed with the others.
+///
+/// # Errors
+/// As of [`load_output`].
+pub fn load_streams_output(
+    alloc: Global,
+    limits: Limits,
+    input: &[u8],
+) -> Result<StreamLoadsOutput, Stop>
+    ensures ok { IfOk result (λ output. loaded_streams limits input.now ≡ Ok (text_of_streams output)) }
+    ensures err { IfErr result (IsRefused (loaded_streams limits input.now)) }
+{
+    let LoadInput {
+        domain,
+        access,
+        handed,
+        requests,
+    } = read_load(alloc, limits, input)?;
+    let listing = list_all(alloc, &domain, requests.as_slice())?;
+    match streams_ready(alloc, domain, access, handed.as_slice(), listing) {
+        Ok(output) => Ok(output),
         Err(_) => Err(Stop::memory(alloc)),
     }
 }

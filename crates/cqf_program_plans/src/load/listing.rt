@@ -73,6 +73,14 @@ impl LoadListing {
         })
     }
 
+    /// Returns the rows of the listed streams.
+    pub(crate) fn into_rows(self) -> Vec<Row>
+        ensures { result.items ≡ self }
+    {
+        let LoadListing { rows, .. } = self;
+        rows
+    }
+
     /// Returns the number of streams listed.
     pub(crate) fn len(&self) -> usize
         ensures { result ≡ length self.now }

@@ -3,7 +3,7 @@ ghost use Rattle.std.specs.Prelude.{◌≡◌, ◌-◌, ◌<◌, ◌^◌, All, d
 ghost use Rattle.cqf_model.specs.Domain.{budget};
 ghost use Rattle.cqf_program_plans.specs.Load.Fitting.{fits_in, megabits_of, rate_on};
 ghost use Rattle.cqf_program_plans.specs.Load.Text.{left_text, lines_of_links, load_fields, load_header, load_text, percentage_text, used_text};
-ghost use Rattle.cqf_program_plans.specs.Load.Access.{TakesLittle, access_fields, lines_of_access};
+ghost use Rattle.cqf_program_plans.specs.Load.Access.{TakesLittle, access_fields, lines_of_access, name_of_access};
 ghost use Rattle.cqf_program_plans.specs.Load.Told.{text_of_load};
 ghost use Rattle.cqf_output.specs.Edge.{HasTold, writing};
 ghost use Rattle.cqf_output.specs.Writer.{Puts};
@@ -18,7 +18,7 @@ use cqf_topology::{Domain, put_link};
 use cqf_units::Rate;
 
 /// Returns a rate in Mb/s.
-fn megabits_of(rate: Rate) -> u32
+pub fn megabits_of(rate: Rate) -> u32
     ensures { result ≡ megabits_of rate }
 {
     match rate {
@@ -43,7 +43,7 @@ fn rate_on(domain: &Domain, link: u16) -> u32
 }
 
 /// Returns the budget of a link, in octets per cycle. A domain has at most 4,096 links.
-fn budget_on(domain: &Domain, link: u16) -> u64
+pub(crate) fn budget_on(domain: &Domain, link: u16) -> u64
     requires { link < length domain.now.links }
     ensures value { result ≡ budget domain.now link }
     ensures range { result < 2 ^ 32 }
@@ -90,7 +90,7 @@ fn put_percentage<W: Sink>(writer: &mut Writer<'_, W>, thousandths: u128)
 }
 
 /// Puts the share of a budget that is held; nothing if the budget is 0.
-fn put_used<W: Sink>(writer: &mut Writer<'_, W>, budget: u64, held: u128)
+pub(crate) fn put_used<W: Sink>(writer: &mut Writer<'_, W>, budget: u64, held: u128)
     requires { held < 2 ^ 110 }
     ensures { Puts W.contents writer.old writer.new (used_text budget held) }
 {
@@ -132,14 +132,21 @@ fn put_line<W: Sink>(writer: &mut Writer<'_, W>, domain: &Domain, listing: &Load
     writer.put_byte(b'\n');
 }
 
+/// Puts the name of an access link: those of its ends.
+pub(crate) fn put_access_name<W: Sink>(writer: &mut Writer<'_, W>, load: &AccessLoad)
+    ensures { Puts W.contents writer.old writer.new (name_of_access load.now) }
+{
+    writer.put(load.from.as_bytes());
+    writer.put_byte(b'>');
+    writer.put(load.to.as_bytes());
+}
+
 /// Puts the line of an access link. Nothing is reserved on it, so nothing fits.
 fn put_access<W: Sink>(writer: &mut Writer<'_, W>, load: &AccessLoad)
     requires { TakesLittle load.now }
     ensures { Puts W.contents writer.old writer.new (line_of_fields (access_fields load.now)) }
 {
-    writer.put(load.from.as_bytes());
-    writer.put_byte(b'>');
-    writer.put(load.to.as_bytes());
+    put_access_name(writer, load);
     writer.put_byte(b',');
     writer.put_number(megabits_of(load.rate));
     writer.put_byte(b',');

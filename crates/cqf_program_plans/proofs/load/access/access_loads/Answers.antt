@@ -1,7 +1,6 @@
 use Rattle.std.proofs.Common.{◌≡◌, ◌∙◌, ◌+◌, ◌<◌, All, List, None, Option, Vec, ap, arith, get_or, length, map, subst, sym}
 use Rattle.std.specs.Prelude.{option_copied, slice_index_or}
 use Rattle.std.specs.declared.alloc.Global.{Global}
-use Rattle.cqf_admission.specs.Asking.{asked_paced}
 use Rattle.cqf_edge.specs.declared.uses.Handed.{Handed}
 use Rattle.cqf_traffic.specs.declared.flows.Flow.{Flow}
 use Rattle.cqf_traffic.specs.FlowsText.{flow_text}
@@ -37,7 +36,7 @@ loop-place-preserved c =
           let after = loaded_more time first edge.handed.items edge.flows.items place flow loads below here c.loop-place.invariant
           one w.add_load.new.loads.items (found ∙ ap option_copied w.in-Some.is)
           (w.add_load.ensures.value
-          ∙ ap (λ (f : Flow). added_load loads one.place (taken_by time one (asked_paced f.planned.request))) (sym w.index-flows-place.is))
+          ∙ ap (λ (f : Flow). added_load loads one.place (taken_by time one f.planned.request.octets f.planned.request.every)) (sym w.index-flows-place.is))
           (w.add_load.ensures.few place c.loop-place.invariant.all) in
           subst (λ (v : Vec AccessLoad Global). AreLoaded time first edge.handed.items edge.flows.items (place + 1) v.items) (sym w.loads-is) after
       | in_default w ↦

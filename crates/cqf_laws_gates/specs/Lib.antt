@@ -1,0 +1,2 @@
+pub mod InnerGates
+pub mod LenientLaws

@@ -1,0 +1,12 @@
+-- The streams so far are placed, no call but theirs was made, and what links have left is known.
+use Rattle.cqf_model.specs.History.{held_in, seals}
+use Rattle.cqf_program_placing.specs.Known.{AreKnown}
+use Rattle.cqf_program_placing.specs.Orders.{in_order}
+use Rattle.cqf_program_placing.proofs.PlaceLemmas.{ArePlacedSoFar}
+use Rattle.cqf_program_placing.proofs.placing.place_each.Given as goal
+
+abbrev pub invariant-loop-index : goal.invariant-loop-index
+invariant-loop-index l = record {
+  placed : ArePlacedSoFar l.domain (in_order l.streams l.order) l.index-index l.admission l.outcomes.items;
+  known : AreKnown l.domain (held_in l.domain l.admission.entries (seals l.admission.entries)) l.rooms;
+}

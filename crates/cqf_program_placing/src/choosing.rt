@@ -1,0 +1,443 @@
+//! Along which branches, and from which cycle on, a stream is requested.
+ghost use Rattle.std.specs.Prelude.{◌≡◌, ◌<◌, ◌≤◌, All, IfErr, IfOk, Ok, length};
+ghost use Rattle.std.specs.List.{list_all};
+ghost use Rattle.cqf_admission.specs.Branches.{branches_of};
+ghost use Rattle.cqf_admission.specs.Turns.{IsGoodPace};
+ghost use Rattle.cqf_model.specs.declared.topology.Hop.{Hop as AHop};
+ghost use Rattle.cqf_model.specs.History.{held_in, seals};
+ghost use Rattle.cqf_program_placing.specs.Known.{AreKnown};
+ghost use Rattle.cqf_program_placing.specs.Placing.{AreFound, IsRouted, has_room_at, is_roomy};
+ghost use Rattle.cqf_program_placing.specs.Routes.{AreReached, IsFirstRoute, IsFullFor, IsGoodRoute, IsRoomyRoute, IsRoute, IsTakenRoute, IsUnrouted, IsUntaken};
+ghost use Rattle.cqf_program_placing.specs.Settled.{Between, IsOnWay, way_value};
+ghost use Rattle.cqf_program_placing.specs.Turns.{AreGoodTurns, CostsSome, IsGoodEvery, every_in, lefts_on, pace_by};
+
+use crate::StreamWay;
+use crate::branched::{Branched, branched_by};
+use crate::branches::copied_branches;
+use crate::hops::PacedRoom;
+use crate::phases::phase_along;
+use crate::rooms::{Rooms, pace_by};
+use crate::routes::{Unrouted, branches_between};
+use crate::turns::Turns;
+use cqf_admission::Admission;
+use cqf_model::{Hop, Link, Pace};
+use cqf_network::Room;
+use cqf_topology::Domain;
+use cqf_units::Memory;
+use std::alloc::{AllocError, Global};
+
+/// Branches of a stream with their tree, the cycles for which they were found, and the first cycle in which the stream is offered.
+#[derive(Debug, Drop)]
+pub(crate) struct Route {
+    pub(crate) branched: Branched,
+    pub(crate) turns: Turns,
+    pub(crate) phase: u8,
+}
+
+/// Returns whether a hop's link has left what a stream costs, in the cycles of a pace in which the stream's frames pass it.
+fn has_room_at(domain: &Domain, admission: &Admission, cost: u32, pace: Pace, hop: &Hop) -> bool
+    requires domain { admission.now.domain ≡ domain.now }
+    requires inside { hop.now.link < length domain.now.links }
+    requires good { IsGoodPace pace }
+    ensures { result ≡ has_room_at domain.now (held_in domain.now admission.now.entries (seals admission.now.entries)) cost pace hop.now }
+{
+    let left = admission.left_at(hop, pace).0;
+    cost <= left
+}
+
+/// Returns whether each link of a tree has room so.
+fn has_room_on(domain: &Domain, admission: &Admission, cost: u32, pace: Pace, tree: &[Hop]) -> bool
+    requires domain { admission.now.domain ≡ domain.now }
+    requires inside { All (λ (hop : AHop). hop.link < length domain.now.links) tree.now }
+    requires good { IsGoodPace pace }
+    ensures { let d = domain.now in let entries = admission.now.entries in
+        result ≡ list_all (has_room_at d (held_in d entries (seals entries)) cost pace) tree.now }
+{
+    for hop in tree {
+        if !has_room_at(domain, admission, cost, pace, hop) {
+            return false;
+        }
+    }
+    true
+}
+
+impl Route {
+    /// Returns whether the branches make a tree, and each of its links has left what the stream costs, in the cycles in which its frames
+    /// pass the link.
+    fn is_roomy(&self, domain: &Domain, admission: &Admission, cost: u32) -> bool
+        requires domain { admission.now.domain ≡ domain.now }
+        requires turns { AreGoodTurns self.now.turns }
+        requires good { IsGoodRoute domain.now (held_in domain.now admission.now.entries (seals admission.now.entries)) cost self.now }
+        ensures { let d = domain.now in let entries = admission.now.entries in result ≡ is_roomy d (held_in d entries (seals entries)) cost
+            (pace_by (every_in self.now.turns) self.now.phase) (branches_of self.now.branched.paths.items) }
+    {
+        let pace = pace_by(self.turns.every(), self.phase);
+        match &self.branched.tree {
+            Some(tree) => has_room_on(domain, admission, cost, pace, tree.as_slice()),
+            None => false,
+        }
+    }
+}
+
+/// Returns the route along some branches of a stream of this cost in these cycles.
+///
+/// # Errors
+/// If memory can't hold it.
+fn route_along(
+    domain: &Domain,
+    admission: &Admission,
+    paths: Vec<Vec<String>>,
+    turns: Turns,
+    cost: u32,
+) -> Result<Route, Memory>
+    requires domain { admission.now.domain ≡ domain.now }
+    requires good { AreGoodTurns turns }
+    requires some { CostsSome turns cost }
+    ensures turns { IfOk result (λ route. route.turns ≡ turns) }
+    ensures paths { IfOk result (λ route. route.branched.paths ≡ paths) }
+    ensures good { let d = domain.now in let entries = admission.now.entries in IfOk result (IsGoodRoute d (held_in d entries (seals entries)) cost) }
+{
+    let branched = branched_by(domain, paths)?;
+    let phase = phase_along(domain, admission, cost, turns, &branched);
+    Ok(Route {
+        branched,
+        turns,
+        phase,
+    })
+}
+
+/// Returns the branches of the first paths from a bridge to stations on which each link has room, with the streams that are placed, for a
+/// stream of this cost in the given cycles.
+///
+/// # Errors
+/// The fault of the first station to which no path has room; `Memory` if an allocation fails.
+fn given_branches(
+    alloc: Global,
+    domain: &Domain,
+    links: &[Link],
+    admission: &Admission,
+    bridge: u16,
+    stations: &[u16],
+    every: u8,
+    phase: u8,
+    cost: u32,
+) -> Result<Vec<Vec<String>>, Unrouted>
+    requires domain { admission.now.domain ≡ domain.now }
+    requires links { links.now ≡ domain.now.links }
+    requires inside { bridge < length domain.now.bridges }
+    requires reached { AreReached domain.now bridge stations.now }
+    requires good { AreGoodTurns (Turns.Given every phase) }
+    ensures ok { let entries = admission.now.entries in IfOk result (λ paths. IsRouted domain.now (held_in domain.now entries (seals entries))
+        (Turns.Given every phase) cost (Between bridge stations.now) (Ok (branches_of paths.items))) }
+    ensures err { let entries = admission.now.entries in IfErr result (IsUnrouted domain.now (held_in domain.now entries (seals entries))
+        (Turns.Given every phase) cost (Between bridge stations.now)) }
+{
+    let paced = PacedRoom {
+        domain,
+        admission,
+        pace: pace_by(every, phase),
+        cost,
+    };
+    let left = paced.lefts(alloc, bridge)?;
+    let room = Room {
+        links,
+        left: left.as_slice(),
+        cost,
+    };
+    branches_between(alloc, domain, room, bridge, stations)
+}
+
+/// Returns the branches of the first paths from a bridge to stations on which each link has room, with the streams that are placed, for a
+/// stream of this cost in its emptiest phase of `every`.
+///
+/// # Errors
+/// As [`given_branches`].
+fn chosen_branches(
+    alloc: Global,
+    domain: &Domain,
+    links: &[Link],
+    admission: &Admission,
+    rooms: &mut Rooms,
+    bridge: u16,
+    stations: &[u16],
+    every: u8,
+    cost: u32,
+) -> Result<Vec<Vec<String>>, Unrouted>
+    requires domain { admission.now.domain ≡ domain.now }
+    requires links { links.now ≡ domain.now.links }
+    requires reached { AreReached domain.now bridge stations.now }
+    requires good { IsGoodEvery every }
+    requires known { AreKnown domain.now (held_in domain.now admission.now.entries (seals admission.now.entries)) rooms.old }
+    ensures known { AreKnown domain.now (held_in domain.now admission.now.entries (seals admission.now.entries)) rooms.new }
+    ensures ok { let d = domain.now in let entries = admission.now.entries in IfOk result (λ paths.
+        AreFound d (lefts_on d (held_in d entries (seals entries)) every) cost bridge stations.now (branches_of paths.items)) }
+    ensures err { let d = domain.now in let entries = admission.now.entries in IfErr result
+        (IsFullFor d (lefts_on d (held_in d entries (seals entries)) every) cost bridge stations.now) }
+{
+    let place = rooms.find(alloc, domain, admission, every)?;
+    let room = Room {
+        links,
+        left: rooms.lefts_at(place, every),
+        cost,
+    };
+    branches_between(alloc, domain, room, bridge, stations)
+}
+
+/// Returns the route from a bridge to stations of a stream of this cost in the given cycles.
+///
+/// # Errors
+/// As [`given_branches`].
+fn given_route(
+    alloc: Global,
+    domain: &Domain,
+    links: &[Link],
+    admission: &Admission,
+    bridge: u16,
+    stations: &[u16],
+    every: u8,
+    phase: u8,
+    cost: u32,
+) -> Result<Route, Unrouted>
+    requires domain { admission.now.domain ≡ domain.now }
+    requires links { links.now ≡ domain.now.links }
+    requires on_way { IsOnWay domain.now (Between bridge stations.now) }
+    requires good { AreGoodTurns (Turns.Given every phase) }
+    ensures ok { let entries = admission.now.entries in IfOk result (IsRoute domain.now (held_in domain.now entries (seals entries))
+        (Turns.Given every phase) cost (Between bridge stations.now)) }
+    ensures err { let entries = admission.now.entries in IfErr result (IsUnrouted domain.now (held_in domain.now entries (seals entries))
+        (Turns.Given every phase) cost (Between bridge stations.now)) }
+{
+    match given_branches(
+        alloc, domain, links, admission, bridge, stations, every, phase, cost,
+    ) {
+        Ok(paths) => {
+            let route = route_along(
+                domain,
+                admission,
+                paths,
+                Turns::Given { every, phase },
+                cost,
+            )?;
+            Ok(route)
+        }
+        Err(unrouted) => Err(unrouted),
+    }
+}
+
+/// Returns the route from a bridge to stations of a stream of this cost by the emptiest phase of each link.
+///
+/// # Errors
+/// As [`given_branches`].
+fn emptiest_route(
+    alloc: Global,
+    domain: &Domain,
+    links: &[Link],
+    admission: &Admission,
+    rooms: &mut Rooms,
+    bridge: u16,
+    stations: &[u16],
+    every: u8,
+    cost: u32,
+) -> Result<Route, Unrouted>
+    requires domain { admission.now.domain ≡ domain.now }
+    requires links { links.now ≡ domain.now.links }
+    requires on_way { IsOnWay domain.now (Between bridge stations.now) }
+    requires good { IsGoodEvery every }
+    requires some { 1 ≤ cost }
+    requires known { AreKnown domain.now (held_in domain.now admission.now.entries (seals admission.now.entries)) rooms.old }
+    ensures known { AreKnown domain.now (held_in domain.now admission.now.entries (seals admission.now.entries)) rooms.new }
+    ensures ok { let entries = admission.now.entries in IfOk result (IsRoute domain.now (held_in domain.now entries (seals entries))
+        (Turns.Chosen every) cost (Between bridge stations.now)) }
+    ensures err { let entries = admission.now.entries in IfErr result (IsUnrouted domain.now (held_in domain.now entries (seals entries))
+        (Turns.Chosen every) cost (Between bridge stations.now)) }
+{
+    match chosen_branches(
+        alloc, domain, links, admission, rooms, bridge, stations, every, cost,
+    ) {
+        Ok(paths) => {
+            let route = route_along(domain, admission, paths, Turns::Chosen { every }, cost)?;
+            Ok(route)
+        }
+        Err(unrouted) => Err(unrouted),
+    }
+}
+
+/// Returns the route from a bridge to stations of a stream of this cost in the given cycles, if it finds room there.
+///
+/// # Errors
+/// If an allocation fails.
+fn roomy_route(
+    alloc: Global,
+    domain: &Domain,
+    links: &[Link],
+    admission: &Admission,
+    bridge: u16,
+    stations: &[u16],
+    every: u8,
+    phase: u8,
+    cost: u32,
+) -> Result<Option<Route>, Memory>
+    requires domain { admission.now.domain ≡ domain.now }
+    requires links { links.now ≡ domain.now.links }
+    requires on_way { IsOnWay domain.now (Between bridge stations.now) }
+    requires good { AreGoodTurns (Turns.Given every phase) }
+    ensures { let entries = admission.now.entries in IfOk result (IsRoomyRoute domain.now (held_in domain.now entries (seals entries))
+        (Turns.Given every phase) cost (Between bridge stations.now)) }
+{
+    match given_route(
+        alloc, domain, links, admission, bridge, stations, every, phase, cost,
+    ) {
+        Ok(route) => {
+            if route.is_roomy(domain, admission, cost) {
+                Ok(Some(route))
+            } else {
+                Ok(None)
+            }
+        }
+        Err(unrouted) => match unrouted {
+            Unrouted::Fault(_) => Ok(None),
+            Unrouted::Memory => Err(AllocError),
+        },
+    }
+}
+
+/// Returns the route of a stream in the first phase of `every` in which it finds room if that phase is given, if there is one. It takes a
+/// search for each phase.
+///
+/// # Errors
+/// If an allocation fails.
+fn first_route(
+    alloc: Global,
+    domain: &Domain,
+    links: &[Link],
+    admission: &Admission,
+    bridge: u16,
+    stations: &[u16],
+    every: u8,
+    cost: u32,
+) -> Result<Option<Route>, Memory>
+    requires domain { admission.now.domain ≡ domain.now }
+    requires links { links.now ≡ domain.now.links }
+    requires on_way { IsOnWay domain.now (Between bridge stations.now) }
+    requires good { IsGoodEvery every }
+    ensures { let entries = admission.now.entries in IfOk result
+        (IsFirstRoute domain.now (held_in domain.now entries (seals entries)) every cost (Between bridge stations.now)) }
+{
+    for phase in 0..every {
+        let found = roomy_route(
+            alloc, domain, links, admission, bridge, stations, every, phase, cost,
+        )?;
+        if let Some(route) = found {
+            return Ok(Some(route));
+        }
+    }
+    Ok(None)
+}
+
+/// Returns the route from a bridge to stations of a stream whose phase is to be chosen: by the emptiest phase of each link if it finds room
+/// so; else in the first phase in which it finds room; and if there is none, by the emptiest phases.
+///
+/// If there are no paths by the emptiest phases, there are none in any phase. So a stream that has such paths without a phase in common
+/// takes up to `every` searches more, and no other stream does.
+///
+/// # Errors
+/// As [`given_branches`], by the emptiest phases.
+fn chosen_route(
+    alloc: Global,
+    domain: &Domain,
+    links: &[Link],
+    admission: &Admission,
+    rooms: &mut Rooms,
+    bridge: u16,
+    stations: &[u16],
+    every: u8,
+    cost: u32,
+) -> Result<Route, Unrouted>
+    requires domain { admission.now.domain ≡ domain.now }
+    requires links { links.now ≡ domain.now.links }
+    requires on_way { IsOnWay domain.now (Between bridge stations.now) }
+    requires good { IsGoodEvery every }
+    requires some { 1 ≤ cost }
+    requires known { AreKnown domain.now (held_in domain.now admission.now.entries (seals admission.now.entries)) rooms.old }
+    ensures known { AreKnown domain.now (held_in domain.now admission.now.entries (seals admission.now.entries)) rooms.new }
+    ensures ok { let entries = admission.now.entries in IfOk result (IsTakenRoute domain.now (held_in domain.now entries (seals entries))
+        (Turns.Chosen every) cost (Between bridge stations.now)) }
+    ensures err { let entries = admission.now.entries in IfErr result (IsUntaken domain.now (held_in domain.now entries (seals entries))
+        (Turns.Chosen every) cost (Between bridge stations.now)) }
+{
+    match emptiest_route(
+        alloc, domain, links, admission, rooms, bridge, stations, every, cost,
+    ) {
+        Ok(route) => {
+            if route.is_roomy(domain, admission, cost) {
+                return Ok(route);
+            }
+            let first = first_route(
+                alloc, domain, links, admission, bridge, stations, every, cost,
+            )?;
+            Ok(first.unwrap_or(route))
+        }
+        Err(unrouted) => Err(unrouted),
+    }
+}
+
+/// Returns the route of a stream of this cost in these cycles: along its given branches, or along those of the first paths with room with
+/// the streams that are placed. If its phase is to be chosen, and it finds no room by the emptiest phase of each link, it takes the first
+/// phase in which it does.
+///
+/// # Errors
+/// The fault of the first listener to which no path has room; `Memory` if an allocation fails.
+pub(crate) fn find_route(
+    alloc: Global,
+    domain: &Domain,
+    links: &[Link],
+    admission: &Admission,
+    rooms: &mut Rooms,
+    way: &StreamWay,
+    turns: Turns,
+    cost: u32,
+) -> Result<Route, Unrouted>
+    requires domain { admission.now.domain ≡ domain.now }
+    requires links { links.now ≡ domain.now.links }
+    requires on_way { IsOnWay domain.now (way_value way.now) }
+    requires good { AreGoodTurns turns }
+    requires some { CostsSome turns cost }
+    requires known { AreKnown domain.now (held_in domain.now admission.now.entries (seals admission.now.entries)) rooms.old }
+    ensures known { AreKnown domain.now (held_in domain.now admission.now.entries (seals admission.now.entries)) rooms.new }
+    ensures ok { let entries = admission.now.entries in IfOk result
+        (IsTakenRoute domain.now (held_in domain.now entries (seals entries)) turns cost (way_value way.now)) }
+    ensures err { let entries = admission.now.entries in IfErr result
+        (IsUntaken domain.now (held_in domain.now entries (seals entries)) turns cost (way_value way.now)) }
+{
+    match way {
+        StreamWay::Along(paths) => {
+            let given = copied_branches(alloc, paths.as_slice())?;
+            let route = route_along(domain, admission, given, turns, cost)?;
+            Ok(route)
+        }
+        StreamWay::Between(bridge, stations) => match turns {
+            Turns::Given { every, phase } => given_route(
+                alloc,
+                domain,
+                links,
+                admission,
+                *bridge,
+                stations.as_slice(),
+                every,
+                phase,
+                cost,
+            ),
+            Turns::Chosen { every } => chosen_route(
+                alloc,
+                domain,
+                links,
+                admission,
+                rooms,
+                *bridge,
+                stations.as_slice(),
+                every,
+                cost,
+            ),
+        },
+    }
+}
