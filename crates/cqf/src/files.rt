@@ -135,10 +135,10 @@ fn sources_of<'t>(
 /// Returns the cycle times that the words of `plan` give, in nanoseconds; none for other words. Returns `None` if an allocation fails.
 fn cycle_times_of(alloc: Global, job: &Job) -> Option<Vec<u32>> {
     match *job {
-        Job::Plan {
-            given: Some(candidates),
-            ..
-        } => candidates.list(alloc).ok(),
+        Job::Plan { ref options } => match options.given {
+            Some(candidates) => candidates.list(alloc).ok(),
+            None => Some(Vec::new(alloc)),
+        },
         _ => Some(Vec::new(alloc)),
     }
 }
@@ -250,7 +250,7 @@ fn run(
 /// Returns whether notes on the plan that a job makes are wanted: the job asks for them, or standard error is a terminal.
 fn wants_plan_notes<F: IsTerminal>(job: &Job, faults: &F) -> bool {
     match *job {
-        Job::Plan { table, verbose, .. } => !table && (verbose || faults.is_terminal()),
+        Job::Plan { ref options } => { !options.table && (options.verbose || faults.is_terminal()) }
         _ => false,
     }
 }
@@ -361,7 +361,7 @@ pub(crate) fn run_files(
         Err(stop) => return end(rt, &stop),
     };
     let names = operands.files();
-    if let Err(stop) = check_files(alloc, names) {
+    if let Err(stop) = check_files(alloc, &job, names) {
         return end(rt, &stop);
     }
     let words = operands.words();

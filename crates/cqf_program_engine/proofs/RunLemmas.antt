@@ -31,7 +31,7 @@ use Rattle.cqf_program_engine.specs.declared.heard.ReadFailure.{ReadFailure}
 use Rattle.cqf_program_engine.specs.declared.heard.ReadFailure.TheVariants.{Memory, Fault}
 use Rattle.cqf_program_words.specs.declared.words.Format.TheVariants as form
 use Rattle.cqf_program_words.specs.declared.words.Job.{Job}
-use Rattle.cqf_program_words.specs.declared.words.Job.TheVariants.{Check, Compile, Deliveries, Hops, Latency, Line, Load, Offers, Plan, Port, Report, Run, Summary}
+use Rattle.cqf_program_words.specs.declared.words.Job.TheVariants.{Check, Compile, Deliveries, Diff, Hops, Latency, Line, Load, Offers, Plan, Port, Report, Run, Summary}
 
 -- given words that mean no job stop the run before anything is read
 pub IsStopped-by_words : (words : List (List ℕ)) (input : Reading) (stop : Stop) → words ≢ [] → input.failed ≡ false → EndsWords words stop
@@ -156,7 +156,8 @@ refusal_statuses limits (Check cycles) input stop h = h.statuses
 refusal_statuses limits (Summary cycles) input stop h = h.statuses
 refusal_statuses limits (Offers cycles seed) input stop h = h.statuses
 refusal_statuses limits (Hops cycles stream frame) input stop h = h.statuses
-refusal_statuses limits (Plan table given verbose) input stop h = h.statuses
+refusal_statuses limits (Plan options) input stop h = h.statuses
+refusal_statuses limits (Diff quiet) input stop h = h.statuses
 
 -- a refused input with status 3 has no text
 refusal_memory : (limits : Limits) (job : Job) (input : List ℕ) (stop : Stop) → IsRefusal limits job input stop → stop.status ≡ 3 → stop.text.items ≡ []
@@ -176,7 +177,8 @@ refusal_memory limits (Check cycles) input stop h = h.memory
 refusal_memory limits (Summary cycles) input stop h = h.memory
 refusal_memory limits (Offers cycles seed) input stop h = h.memory
 refusal_memory limits (Hops cycles stream frame) input stop h = h.memory
-refusal_memory limits (Plan table given verbose) input stop h = h.memory
+refusal_memory limits (Plan options) input stop h = h.memory
+refusal_memory limits (Diff quiet) input stop h = h.memory
 
 -- a job that fails has status 4
 failure_status : (limits : Limits) (job : Job) (input : List ℕ) (stop : Stop) → IsFailure limits job input stop → stop.status ≡ 4
@@ -193,7 +195,8 @@ failure_status limits (Check cycles) input stop h = absurd h
 failure_status limits (Summary cycles) input stop h = absurd h
 failure_status limits (Offers cycles seed) input stop h = absurd h
 failure_status limits (Hops cycles stream frame) input stop h = absurd h
-failure_status limits (Plan table given verbose) input stop h = absurd h
+failure_status limits (Plan options) input stop h = absurd h
+failure_status limits (Diff quiet) input stop h = absurd h
 
 -- an input that is refused stops it
 HasCause-by_refusal : (words : List (List ℕ)) (bytes : List ℕ) (job : Job) (stop : Stop) → length bytes ≤ most_bytes words
@@ -414,7 +417,8 @@ job_within (Check cycles) name rows is = number_within 1 100000 cycles (first_of
 job_within (Summary cycles) name rows is = number_within 1 100000 cycles (first_of (codes "cycles") rows) is.1
 job_within (Offers cycles seed) name rows is = number_within 1 100000 cycles (first_of (codes "cycles") rows) is.1
 job_within (Hops cycles stream frame) name rows is = number_within 1 100000 cycles (first_of (codes "cycles") rows) is.1
-job_within (Plan table given verbose) name rows is = tt
+job_within (Plan options) name rows is = tt
+job_within (Diff quiet) name rows is = tt
 
 -- the numbers of a job that options give are within their ranges
 found_within : (job : Job) (found : Option (Text × List Row)) → IsJob job found → IsWithin job
@@ -519,7 +523,8 @@ no_threads (Check own) name rows cycles is other h = not_both name (codes "check
 no_threads (Summary own) name rows cycles is other h = not_both name (codes "summary") (codes "run") is.0 h.0 (λ e. omega (arith, e))
 no_threads (Offers own seed) name rows cycles is other h = not_both name (codes "offers") (codes "run") is.0 h.0 (λ e. omega (arith, e))
 no_threads (Hops own stream frame) name rows cycles is other h = not_both name (codes "hops") (codes "run") is.0 h.0 (λ e. omega (arith, e))
-no_threads (Plan table given verbose) name rows cycles is other h = not_both name (codes "plan") (codes "run") is.0 h.0 (λ e. omega (arith, e))
+no_threads (Plan options) name rows cycles is other h = not_both name (codes "plan") (codes "run") is.0 h.0 (λ e. omega (arith, e))
+no_threads (Diff quiet) name rows cycles is other h = not_both name (codes "diff") (codes "run") is.0 h.0 (λ e. omega (arith, e))
 
 -- what is read from words isn't both
 no_threads_found : (job : Job) (found : Option (Text × List Row)) (cycles : ℕ) → IsJob job found → is_threaded job ≡ false → IsJob (Run cycles true) found → ⊥

@@ -16,6 +16,7 @@ use Rattle.cqf_program_scenario.specs.Scenario.{scenario_input}
 use Rattle.std.specs.declared.alloc.Global.{Global}
 use Rattle.cqf_model.specs.declared.limits.Limits.{Limits}
 use Rattle.cqf_model.specs.Limits.{last_until, most_cycles}
+use Rattle.cqf_program_diff.specs.Output.{diff_of_input}
 use Rattle.cqf_program_json.specs.Output.{json_of_input}
 use Rattle.cqf_program_offers.specs.OffersOutput.{offered_input}
 use Rattle.cqf_program_plans.specs.Compile.Output.{compiled_input}
@@ -30,16 +31,18 @@ use Rattle.cqf_program_runs.specs.Line.Output.{IsLineOutput, line_input}
 use Rattle.cqf_program_runs.specs.Deliveries.PlannedScenario.{planned_scenario}
 use Rattle.cqf_program_runs.specs.Report.Output.{IsReportOutput}
 use Rattle.cqf_program_runs.specs.Run.Output.{IsRunOutput}
-use Rattle.cqf_program_planning.specs.PlanOutput.{IsPlanOf, IsPlanRefusal}
+use Rattle.cqf_program_planning.specs.declared.choosing.Search.{Search}
 use Rattle.cqf_program_summary.specs.Hops.Known.{wanted_scenario}
 use Rattle.cqf_program_summary.specs.Hops.Output.{IsHopsOutput}
 use Rattle.cqf_program_summary.specs.Hops.Legs.{Wanted}
 use Rattle.cqf_program_summary.specs.Summary.Output.{IsSummaryOutput}
 use Rattle.cqf_program_threads.specs.ThreadsOutput.{IsThreadsOutput, TellsFault}
+use Rattle.cqf_program_without.specs.Output.{IsPlanWithout, IsRefusalWithout}
 use Rattle.cqf_program_words.specs.Candidates.{times_of}
 use Rattle.cqf_program_words.specs.declared.words.Format.TheVariants as form
+use Rattle.cqf_program_words.specs.declared.plan_words.PlanOptions.{PlanOptions}
 use Rattle.cqf_program_words.specs.declared.words.Job.{Job}
-use Rattle.cqf_program_words.specs.declared.words.Job.TheVariants.{Check, Compile, Deliveries, Hops, Latency, Line, Load, Offers, Plan, Port, Report, Run, Summary}
+use Rattle.cqf_program_words.specs.declared.words.Job.TheVariants.{Check, Compile, Deliveries, Diff, Hops, Latency, Line, Load, Offers, Plan, Port, Report, Run, Summary}
 use Rattle.cqf_program_words.specs.Shown.{ShowsBehind, ShowsLine, ShowsWords, are_printable, is_shown_whole, no_command}
 use Rattle.cqf_program_words.specs.Words.{AreMistaken, AskForHelp, Mean, TellsMistake, ask_for_large, limits_of}
 use Rattle.cqf_program_engine.specs.declared.runs.TheConstants.{VERSION}
@@ -58,7 +61,12 @@ IsWithin (Check cycles) = cycles ≤ most_cycles
 IsWithin (Offers cycles seed) = cycles ≤ most_cycles
 IsWithin (Summary cycles) = cycles ≤ most_cycles
 IsWithin (Hops cycles stream frame) = cycles ≤ most_cycles
-IsWithin (Plan table given verbose) = ⊤
+IsWithin (Plan options) = ⊤
+IsWithin (Diff quiet) = ⊤
+
+-- how `plan` searches with these options
+abbrev pub search_of : PlanOptions → Search
+search_of options = record { tries = options.tries; best = options.best }
 
 -- whether the job is a run on threads
 abbrev pub is_threaded : Job → Bool
@@ -77,6 +85,10 @@ MeanNoThreads words = (cycles : ℕ) → ¬ Mean words (Run cycles true)
 pub record IsRunOf (limits : Limits) (job : Job) (threaded : ThreadedRun) : Type 0 where
   pub is_job : job ≡ Run threaded.cycles true
   pub within : threaded.limits ≡ limits
+
+-- the line of `diff`, which isn't there yet
+abbrev pub no_diff_line : List ℕ
+no_diff_line = line_of (codes "cqf: diff: NotYet")
 
 -- the output of a job for its input, which is read within given limits
 abbrev pub IsOutput : Limits → Job → List ℕ → List ℕ → Type 0
@@ -97,10 +109,11 @@ IsOutput limits (Check cycles) input output = IsChecked limits cycles input (Ok 
 IsOutput limits (Offers cycles seed) input output = offered_input limits cycles seed input ≡ Ok output
 IsOutput limits (Summary cycles) input output = IsSummaryOutput limits cycles input output
 IsOutput limits (Hops cycles stream frame) input output = IsHopsOutput limits cycles (wanted_of stream frame) input output
-IsOutput limits (Plan table given verbose) input output = IsPlanOf limits table (option_map times_of given) input (Ok output)
+IsOutput limits (Plan options) input output = IsPlanWithout limits options.table (search_of options) (option_map times_of options.given) options.without.items input (Ok output)
+IsOutput limits (Diff quiet) input output = diff_of_input limits quiet input ≡ Ok output
 
 -- the input of a job, which is read within given limits, is refused with a line: of its first fault; for `latency` if
--- strict, of a deadline that isn't certain to be met; for `check`, of what isn't well; or for `plan`, if no candidate
+-- strict, of a deadline that isn't certain to be met; for `diff` if quiet, that something differs; for `check`, of what isn't well; or for `plan`, if no candidate
 -- for the cycle time is good
 abbrev pub IsRefusal : Limits → Job → List ℕ → Stop → Type 0
 IsRefusal limits (Port until rate) input stop = IsRefused (port_input input) stop
@@ -119,7 +132,8 @@ IsRefusal limits (Check cycles) input stop = IsCheckRefusal limits cycles input 
 IsRefusal limits (Offers cycles seed) input stop = IsRefused (offered_input limits cycles seed input) stop
 IsRefusal limits (Summary cycles) input stop = IsRefused (planned_scenario limits cycles input) stop
 IsRefusal limits (Hops cycles stream frame) input stop = IsRefused (wanted_scenario limits cycles (wanted_of stream frame) input) stop
-IsRefusal limits (Plan table given verbose) input stop = IsPlanRefusal limits table (option_map times_of given) input stop
+IsRefusal limits (Plan options) input stop = IsRefusalWithout limits options.table (search_of options) (option_map times_of options.given) options.without.items input stop
+IsRefusal limits (Diff quiet) input stop = IsRefused (diff_of_input limits quiet input) stop
 
 -- a run on threads fails, with the line of its fault; its input isn't refused. No other job fails
 abbrev pub IsFailure : Limits → Job → List ℕ → Stop → Type 0

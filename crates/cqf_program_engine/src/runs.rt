@@ -9,7 +9,7 @@ ghost use Rattle.cqf_program_words.specs.Shown.{ShowsLine, is_shown_whole};
 ghost use Rattle.cqf_program_words.specs.Words.{EndsWords, Mean};
 ghost use Rattle.cqf_program_summary.specs.Hops.Known.{wanted_scenario};
 ghost use Rattle.cqf_program_summary.specs.Hops.Output.{IsHopsOutput};
-ghost use Rattle.cqf_program_planning.specs.PlanOutput.{IsPlanOf, IsPlanRefusal};
+ghost use Rattle.cqf_program_without.specs.Output.{IsPlanWithout, IsRefusalWithout};
 ghost use Rattle.cqf_program_words.specs.Candidates.{times_of};
 ghost use Rattle.cqf_network.specs.NetworkDomain.{AreCandidates};
 ghost use Rattle.cqf_output.specs.Stops.{EndsWith, IsRefused};
@@ -18,7 +18,7 @@ ghost use Rattle.cqf_program_engine.specs.Run.{IsRunOf, IsThreadedRun, LeavesThr
 ghost use Rattle.cqf_program_engine.specs.Run.{version_line, IsAsking, IsVersionWord, IsWithin, IsOutput, input_of, words_of};
 ghost use Rattle.cqf_program_engine.specs.Run.{IsRefusal, IsBehindWords, Ends, EndsTold, HandsOver, HasCause, HasRun};
 ghost use Rattle.cqf_program_engine.specs.Run.{IsDone, IsStopped, TellsPlainly, TellsStop, is_space, is_threaded, first_line, wanted_of};
-ghost use Rattle.cqf_program_engine.specs.Run.{behind_first_line, most_bytes};
+ghost use Rattle.cqf_program_engine.specs.Run.{behind_first_line, most_bytes, search_of};
 ghost use Rattle.cqf_model.specs.Limits.{most_cycles};
 
 use crate::begun::{Begun, ThreadedRun};
@@ -28,9 +28,10 @@ use crate::prepared::PreparedOutput;
 use crate::sources::Source;
 use cqf_model::Limits;
 use cqf_output::{DONE, FAULT, NO_MEMORY, Sink, Stop, Told, USAGE, told_text, write_out};
+use cqf_program_diff::diff_output;
 use cqf_program_json::json_output;
 use cqf_program_offers::offers_output;
-use cqf_program_planning::plan_output;
+use cqf_program_planning::Search;
 use cqf_program_plans::{
     compile_output, latency_output, load_output, load_streams_output, port_output,
 };
@@ -38,8 +39,9 @@ use cqf_program_runs::{check_output, deliveries_output, line_output, report_outp
 use cqf_program_summary::{FrameFilter, hops_output, summary_output};
 use cqf_program_tc::{env_output, tc_output};
 use cqf_program_threads::threads_output;
+use cqf_program_without::plan_without;
 use cqf_program_words::{
-    Candidates, Format, Job, limits_of, read_words, stop_of_line, stop_of_long_line,
+    Candidates, Format, Job, PlanOptions, limits_of, read_words, stop_of_line, stop_of_long_line,
 };
 use cqf_text::split_line;
 use cqf_units::{Memory, Name};
@@ -149,20 +151,30 @@ fn times_of(alloc: Global, given: Option<Candidates>) -> Result<Option<Vec<u32>>
     }
 }
 
-/// Returns the output of `plan` for an input that is read within given limits, with the given candidates for the cycle
-/// time, if any. Errors are those of [`prepare`].
+/// Returns how `plan` searches with these options.
+fn search_of(options: &PlanOptions) -> Search
+    ensures { result ≡ search_of options.now }
+{
+    Search {
+        tries: options.tries,
+        best: options.best,
+    }
+}
+
+/// Returns the output of `plan` with these options for an input that is read within given limits. Errors are those of [`prepare`].
 fn planned(
     alloc: Global,
     limits: Limits,
-    table: bool,
-    given: Option<Candidates>,
+    options: &PlanOptions,
     input: &[u8],
 ) -> Result<Vec<u8>, Stop>
-    ensures ok { IfOk result (λ text. IsPlanOf limits table (option_map times_of given) input.now (Ok text.items)) }
-    ensures err { IfErr result (IsPlanRefusal limits table (option_map times_of given) input.now) }
+    ensures ok { IfOk result (λ text. IsPlanWithout limits options.now.table (search_of options.now) (option_map times_of options.now.given) options.now.without.items input.now (Ok text.items)) }
+    ensures err { IfErr result (IsRefusalWithout limits options.now.table (search_of options.now) (option_map times_of options.now.given) options.now.without.items input.now) }
 {
-    match times_of(alloc, given) {
-        Ok(times) => plan_output(alloc, limits, table, times, input),
+    let search = search_of(options);
+    let links = options.without.as_slice();
+    match times_of(alloc, options.given) {
+        Ok(times) => plan_without(alloc, limits, options.table, search, times, links, input),
         Err(_) => Err(Stop::memory(alloc)),
     }
 }
@@ -222,9 +234,12 @@ fn prepare(
             ref stream,
             frame,
         } => prepare_hops(alloc, limits, cycles, stream, frame, input),
-        Job::Plan { table, given, .. } => Ok(PreparedOutput::Text(planned(
-            alloc, limits, table, given, input,
+        Job::Plan { ref options } => Ok(PreparedOutput::Text(planned(
+            alloc, limits, options, input,
         )?)),
+        Job::Diff { quiet } => {
+            Ok(PreparedOutput::Text(diff_output(alloc, limits, quiet, input)?))
+        }
     }
 }
 

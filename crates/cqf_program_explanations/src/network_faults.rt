@@ -208,7 +208,7 @@ fn in_tenths(alloc: Global, tenths: u64) -> Result<String, AllocError> {
 /// How many streams a line about an access link names.
 const MOST_NAMED: u64 = 4;
 
-/// Returns what a link's streams take of it: all together in tenths of a Mb/s, and each in words. Returns `None` if it has no streams.
+/// Returns what a link's streams with traffic take of it: all together in tenths of a Mb/s, and each in words. Returns `None` if it has none.
 fn use_words(
     given: &CommandInput<'_>,
     network: &Network<'_>,
@@ -219,7 +219,10 @@ fn use_words(
     let mut question = String::new(alloc);
     for item in &given.written.items(KeyOwner::Stream)? {
         let talker = item.text("from").unwrap_or("");
-        if talker.is_empty() || !is_access(network, link, talker) {
+        if talker.is_empty()
+            || !is_access(network, link, talker)
+            || item.get("interval").is_none()
+        {
             continue;
         }
         let taken = taken_by(item);

@@ -2,6 +2,7 @@
 
 use crate::domain_faults::{tell_guard_at, tell_link_guards_at};
 use crate::given::CommandInput;
+use crate::link_faults::tell_no_link;
 use crate::network::Network;
 use crate::network_faults::{
     access_link_of, ends_of_talker, is_talker, links_words, tell_entering,
@@ -107,6 +108,26 @@ pub(crate) fn tell_no_talkers(
         let (place, label) = (item.place_of("from"), item.label(given.alloc)?);
         let why = no_talker(given.alloc, &network, talker)?;
         told.tell(format!(in given.alloc; "{place}: {label}: from: {why}")?)?;
+    }
+    Ok(())
+}
+
+/// Reports each stream whose `from` names no talker; if there is none, the stream of a name, whose talker's access links are left out.
+fn tell_talkers_out(
+    given: &CommandInput<'_>,
+    told: &mut ToldLines,
+    stream: &str,
+) -> Result<(), AllocError> {
+    tell_no_talkers(given, told)?;
+    for item in &given.written.items(KeyOwner::Stream)? {
+        if item.text("name") == Some(stream) && told.is_empty() {
+            let (place, label) = (item.place_of("from"), item.label(given.alloc)?);
+            let talker = ends_of_talker(item.text("from").unwrap_or("")).0;
+            let shown = shortened(given.alloc, talker)?;
+            told.tell(format!(in given.alloc;
+                "{place}: {label}: from: each access link of {shown} is left out"
+            )?)?;
+        }
     }
     Ok(())
 }
@@ -236,7 +257,7 @@ fn tell_full(
     let (place, label) = (item.place_of("to"), item.label(given.alloc)?);
     let question = nanos_question(given.alloc, item, "interval")?;
     told.tell(format!(in given.alloc;
-        "{place}: {label} needs {cost} octets a cycle on a path to {listener}; on the shortest one {link} has {left} left{question}"
+        "{place}: {label} needs {cost} octets a cycle on a path to {listener}; on the shortest one the link {link} has {left} octets left{question}"
     )?)
 }
 
@@ -251,7 +272,7 @@ fn tell_short(
     let left = Grouped(number_in(Some(left)));
     let (place, label) = (item.place(), item.label(given.alloc)?);
     let question = nanos_question(given.alloc, item, "interval")?;
-    if is_in_step(item) {
+    if is_in_step(item) && item.get("every").is_none() {
         return told.tell(format!(in given.alloc;
             "{place}: {label} has no phase in which each of its links has room; in the best phase {link} has {left} octets a cycle left{question}"
         )?);
@@ -276,7 +297,7 @@ fn tell_late(
     let (place, label) = (item.place_of("deadline"), item.label(given.alloc)?);
     let question = nanos_question(given.alloc, item, "deadline")?;
     told.tell(format!(in given.alloc;
-        "{place}: {label}: a frame takes up to {most} ns from its edge bridge to {listener}, {over} ns more than the {deadline} ns that its deadline leaves{question}"
+        "{place}: {label}: a frame takes up to {most} ns from its edge bridge to {listener}; its deadline leaves {deadline} ns for that, {over} ns too few{question}"
     )?)
 }
 
@@ -462,11 +483,14 @@ pub(crate) fn tell_plan(
     told: &mut ToldLines,
     refusal: Refusal<'_>,
 ) -> Result<(), AllocError> {
+    if refusal.fault == "NoLink" {
+        return tell_no_link(given, told, refusal.value);
+    }
     let Some(unplaced) = unplaced_of(refusal) else {
         return tell_guards_at(given, told, cycle_of(refusal));
     };
     match unplaced.fault {
-        "NoTalker" => return tell_no_talkers(given, told),
+        "NoTalker" => return tell_talkers_out(given, told, unplaced.stream),
         "TwoAccessLinks" | "OtherEdge" | "OtherListeners" => {
             return tell_entering(given, told, unplaced.stream, unplaced.fault);
         }

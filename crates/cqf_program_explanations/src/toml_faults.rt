@@ -213,6 +213,11 @@ fn tell_missing_top(
     let words = form_of_top(key).unwrap_or("");
     if let Some(file) = given.written.files_of(key).first() {
         let place = file.at(None);
+        if file.part.text.trim_ascii_start().is_empty() {
+            return told.tell(format!(in given.alloc;
+                "{place}: no {key}: the file is empty; the command that was to write it may have failed"
+            )?);
+        }
         told.tell(format!(in given.alloc; "{place}: no {key} at the top: {words}")?)?;
     }
     Ok(())

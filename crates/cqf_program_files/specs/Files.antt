@@ -189,6 +189,10 @@ several_refusal names texts = if are_several names then joint_refusal (tables_of
 abbrev pub files_refusal : List (List ℕ) → List (List ℕ) → Option (List ℕ)
 files_refusal names texts = option_or (texts_refusal (toml_texts names texts)) (option_or (first_refusal names texts) (several_refusal names texts))
 
+-- why a file is refused that is a network by itself
+abbrev pub alone_refusal : List (List ℕ) → List (List ℕ) → Option (List ℕ)
+alone_refusal names texts = option_or (texts_refusal (toml_texts names texts)) (first_refusal names texts)
+
 -- a text writes a table; and if the table nests no deeper than is read, the text is read as that table
 pub record IsTextOf (table : Members) (text : List ℕ) : Type 0 where
   pub written : IsDocumentText false table text

@@ -78,7 +78,7 @@ open_refusal_of names texts = option_and_then open_refusal (tables_of (network_t
 
 -- a job for which nothing may be open: it takes a domain, and isn't `plan`
 abbrev pub is_plan : Job → Bool
-is_plan (job.Plan table given verbose) = true
+is_plan (job.Plan options) = true
 is_plan other = false
 
 abbrev pub takes_closed : Job → Bool

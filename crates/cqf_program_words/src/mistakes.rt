@@ -2,9 +2,10 @@
 ghost use Rattle.std.specs.Prelude.{◌≡◌, option_map};
 ghost use Rattle.clap.specs.Words.{found_of, rows_of, subcommand_rows_of};
 ghost use Rattle.cqf_units.specs.Name.{is_name};
-ghost use Rattle.cqf_program_words.specs.Mistakes.{mistake_in, mistake_of, mistake_of_candidates, mistake_of_env, mistake_of_format, mistake_of_others};
+ghost use Rattle.cqf_program_words.specs.Mistakes.{mistake_in, mistake_of, mistake_of_candidates, mistake_of_env, mistake_of_format, mistake_of_link, mistake_of_others, mistake_of_plan};
 ghost use Rattle.cqf_program_words.specs.Mistakes.{is_form, mistake_of_rate, told_of, value_of};
 
+use crate::plan_words::first_wrong;
 use crate::words::text_of;
 use clap::ArgMatches;
 use cqf_units::Name;
@@ -33,6 +34,17 @@ fn mistake_of_rate(rate: &str) -> Mistake<'_>
     )
 }
 
+/// Returns the line of `plan`: the word names no link.
+fn mistake_of_link(word: &str) -> Mistake<'_>
+    ensures { told_of result ≡ mistake_of_link word.now }
+{
+    (
+        "--without ",
+        word,
+        " isn't a link: 'FROM>TO' in quotes, with the names of its ends",
+    )
+}
+
 /// Returns the line of `plan`: the word names no candidates.
 fn mistake_of_candidates(word: &str) -> Mistake<'_>
     ensures { told_of result ≡ mistake_of_candidates word.now }
@@ -42,6 +54,16 @@ fn mistake_of_candidates(word: &str) -> Mistake<'_>
         word,
         " gives no cycle times: N, or FROM..TO/STEP with FROM up to TO and at most 1000 of them, in ns, 10000 to 10000000",
     )
+}
+
+/// Returns the line of `plan`: one of the words names no link, or else the word names no candidates.
+fn mistake_of_plan<'v>(no_link: Option<&'v str>, cycle: &'v str) -> Mistake<'v>
+    ensures { told_of result ≡ mistake_of_plan (option_map (λ text. text.now) no_link.entry) cycle.now }
+{
+    match no_link {
+        Some(word) => mistake_of_link(word),
+        None => mistake_of_candidates(cycle),
+    }
 }
 
 /// Returns whether the text is one of the four formats.
@@ -112,7 +134,7 @@ fn mistake_in<'v>(name: &str, values: &ArgMatches<'v>) -> Mistake<'v>
         return mistake_of_rate(value_of(values, "rate"));
     }
     if name == "plan" {
-        return mistake_of_candidates(value_of(values, "cycle"));
+        return mistake_of_plan(first_wrong(values), value_of(values, "cycle"));
     }
     if name == "compile" {
         return mistake_of_format(value_of(values, "format"), text_of(values, "bridge"));

@@ -3,8 +3,13 @@ use Rattle.cqf_program_engine.specs.Edge.{reading}
 use Rattle.cqf_output.specs.Edge.{writing}
 use Rattle.cqf_program_engine.specs.Run.{HandsOver, TellsStop, input_of}
 use Rattle.cqf_program_threads.specs.ThreadsOutput.{EndsThreads, IsThreadsOutput}
-use Rattle.cqf_program_engine.proofs.RunLemmas.{Ends-ran, Ends-stopped, HasRun-threads, IsStopped-threads}
+use Rattle.cqf_program_engine.proofs.RunLemmas.{Ends-ran, Ends-stopped, HasRun-threads, IsStopped-threads, threads_within}
 use Rattle.cqf_program_engine.proofs.runs.engine.Goals as goal
+
+pub prepare_threads-requires-after_bounds : goal.prepare_threads-requires-after_bounds
+prepare_threads-requires-after_bounds g c κs within =
+    let input = reading g.R.Read.remaining c.args.input.now c.run_unless_threaded.new.input in
+    threads_within (map (λ word. word.now) c.args.words.now) input.bytes c.in-Err.threaded c.in-Err.ensures.left.is_run
 
 pub returns-in-Ok-prepare_threads : goal.returns-in-Ok-prepare_threads
 returns-in-Ok-prepare_threads g c =
