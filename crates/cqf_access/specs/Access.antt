@@ -67,7 +67,7 @@ pub record IsSent (link : AccessLink) (streams : List AccessStream) (others : Li
   pub promised : (s : AccessStream) → Contains streams s → IsTraffic s.promise
   pub kept : (s : AccessStream) → Contains streams s → Conforms s.promise (handed s)
   -- no frame starts before it is handed over
-  pub behind : (s : AccessStream) (x : Crossing) → Contains streams s → Contains s.crossings x → x.frame.at.0 ≤ x.start
+  pub following : (s : AccessStream) (x : Crossing) → Contains streams s → Contains s.crossings x → x.frame.at.0 ≤ x.start
   -- the link is never idle while a frame of a stream waits
   pub works : (s : AccessStream) (x : Crossing) (at : ℕ) → Contains streams s → Contains s.crossings x → x.frame.at.0 ≤ at → at < x.start →
       StreamIsUnderWay link streams at ⊎ OtherIsUnderWay link others at

@@ -31,8 +31,8 @@ AreOnGrid offset s = (x : Crossing) → Contains s.crossings x → IsOnGrid offs
 
 -- if, in addition, each interval is a multiple of `every` cycles long, all that arrives of the stream comes in every `every`-th cycle by
 -- the edge bridge's clock, counted from the cycle in which its grid there begins
-abbrev pub EdgeComesInTurns : Type 0
-EdgeComesInTurns =
+abbrev pub EdgeComesInActiveCycles : Type 0
+EdgeComesInActiveCycles =
     (link : AccessLink) (streams : List AccessStream) (others : List Other) (delays : Delays) (time shortest offset cycle_time every sync : ℕ)
     (s : AccessStream) (arrived : List Offer) (a : Offer) → IsSent link streams others → IsBound link (promises_of streams) time →
     Contains streams s → ((x : Crossing) → Contains s.crossings x → shortest ≤ x.frame.octets) → AreOnGrid offset s →

@@ -2,7 +2,7 @@
 ghost use Rattle.cqf_access.specs.Access.{AccessLinkBoundsQueueing};
 ghost use Rattle.cqf_access.specs.Arriving.{EdgeConforms, EdgeConformsByClocks, FramesAreWholeWithin, GridIsShifted, GridsAreKept, GridsConform};
 ghost use Rattle.cqf_access.specs.Closer.{EdgeConformsCloser, EdgeConformsCloserByClocks};
-ghost use Rattle.cqf_access.specs.InStep.{EdgeComesInTurns, EdgeKeepsStep};
+ghost use Rattle.cqf_access.specs.InStep.{EdgeComesInActiveCycles, EdgeKeepsStep};
 ghost use Rattle.cqf_access.specs.Reached.{LeastBoundIsReached};
 
 use cqf_laws_timing::conforming_offers_fit_a_cycle;
@@ -44,7 +44,7 @@ pub fn edge_conforms()
 /// grid comes there in its cycle on the grid. So it comes in every `every`-th cycle if its interval is a multiple of `every` cycles long.
 pub fn edge_keeps_step()
     ensures step { EdgeKeepsStep }
-    ensures turns { EdgeComesInTurns }
+    ensures active_cycles { EdgeComesInActiveCycles }
 {
     access_link_bounds_queueing();
 }

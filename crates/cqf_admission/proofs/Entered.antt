@@ -24,9 +24,9 @@ use Rattle.cqf_admission.proofs.RunLemmas.{refusal_is_entered}
 use Rattle.cqf_admission.proofs.Running.{refused_leaves}
 
 -- a call with this act is the history's next entry
-pub entered_behind : (old reserved new : List Entry) (e : Entry) (act : Act) → reserved ≡ old → new ≡ reserved ++ e ∷ [] → act_of e.call ≡ act →
+pub entered_after : (old reserved new : List Entry) (e : Entry) (act : Act) → reserved ≡ old → new ≡ reserved ++ e ∷ [] → act_of e.call ≡ act →
     map recorded_of new ≡ with_entry (map recorded_of old) e.seat act e.reply
-entered_behind old reserved new e act same is acts =
+entered_after old reserved new e act same is acts =
     ap (map recorded_of) (is ∙ ap (λ (es : List Entry). es ++ e ∷ []) same) ∙ map-append recorded_of old (e ∷ [])
     ∙ ap (λ (a : Act). with_entry (map recorded_of old) e.seat a e.reply) acts
 

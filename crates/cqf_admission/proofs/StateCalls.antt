@@ -17,7 +17,7 @@ use Rattle.cqf_admission.specs.Weighing.{FindsOpen, IsOpenAt, row_by, stand_refu
 use Rattle.cqf_admission.proofs.Found.{not_open}
 use Rattle.cqf_admission.proofs.RunLemmas.{refusal_is_entered, withdraw_entered}
 use Rattle.cqf_admission.proofs.Running.{granted_leaves, refused_leaves}
-use Rattle.cqf_admission.proofs.Weighed.{is_new, refusal_told}
+use Rattle.cqf_admission.proofs.Weighed.{is_new, refusal_reported}
 use Rattle.cqf_admission.proofs.Withdrawing.{withdrawn_leaves}
 
 module _ (goes_on : HistoryGoesOn) (count : SealsAreCounted) (sound : HeldAreSound) (before after : Figures) where
@@ -28,9 +28,9 @@ module _ (goes_on : HistoryGoesOn) (count : SealsAreCounted) (sound : HeldAreSou
         AdmitsForm d form before after (Err refused)
     admits_refused refused reason so entries asked seat r g few =
         let rows = held_in d entries (seals entries) in
-        let told : refusal_of d rows asked ≡ Some refused = refusal_told d entries before r asked form g ∙ reason in
-        refused_leaves d entries before r goes_on count seat (Admits asked) refused after (refusal_is_entered d rows asked refused told) few
-        (ap (admit_reply (next_number d entries) (seals entries)) told) so
+        let reported : refusal_of d rows asked ≡ Some refused = refusal_reported d entries before r asked form g ∙ reason in
+        refused_leaves d entries before r goes_on count seat (Admits asked) refused after (refusal_is_entered d rows asked refused reported) few
+        (ap (admit_reply (next_number d entries) (seals entries)) reported) so
 
     -- a request that is granted
     pub admits_granted : IsAccepted d → GrantedIsHeld → GrantedIsLast → (row : Row) (receipt : Receipt) →

@@ -17,8 +17,8 @@ use Rattle.cqf_model.specs.Table.{cost_on, links_in, uses}
 use Rattle.cqf_model.proofs.Hops.{hops_apart, hops_inside}
 use Rattle.cqf_laws_history.specs.StateLaws.{HeldAreSound, granted_row}
 use Rattle.cqf_laws_history.proofs.Granted.{granted_fits_a_row}
-use Rattle.cqf_admission.specs.Turns.{IsGoodPace}
-use Rattle.cqf_admission.proofs.TurnLemmas.{asked_is_good}
+use Rattle.cqf_admission.specs.ActiveCycles.{IsGoodPace}
+use Rattle.cqf_admission.proofs.ActiveCycleLemmas.{asked_is_good}
 use Rattle.cqf_admission.specs.declared.state.GoodForm.{GoodForm}
 use Rattle.cqf_admission.specs.Holdings.{IsFree, Standing, held_cost}
 use Rattle.cqf_admission.specs.Rows.{IsSummable}
@@ -26,7 +26,7 @@ use Rattle.cqf_admission.specs.State.{Figures, IsGoodFormOf, IsStateOf}
 use Rattle.cqf_admission.specs.Streams.{stand_of}
 use Rattle.cqf_admission.specs.Weighing.{is_taken, row_by, stand_refusal}
 use Rattle.cqf_admission.proofs.GrantLemmas.{form_paced, granted_countable, refusal_later}
-use Rattle.cqf_admission.proofs.Told.{costs, free_where_none, state_told}
+use Rattle.cqf_admission.proofs.Reported.{costs, free_where_none, state_reported}
 
 -- one more stream, from a request with no reason against it
 pub record IsNew (d : Domain) (entries : List Recorded) (before : Figures) (asked : Asked) (form : GoodForm) : Type 0 where
@@ -91,11 +91,11 @@ module _ (d : Domain) (asked : Asked) (form : GoodForm) (g : IsGoodFormOf d aske
 module _ (d : Domain) (entries : List Recorded) (before : Figures) (r : IsStateOf d entries before) (asked : Asked) (form : GoodForm)
     (g : IsGoodFormOf d asked form) where
   -- the reasons against it are those that the figures give
-  pub refusal_told : refusal_of d (held_in d entries (seals entries)) asked
+  pub refusal_reported : refusal_of d (held_in d entries (seals entries)) asked
       ≡ stand_refusal d before.stands form.name.now (cost_of form.octets) form.pace form.tree.now
-  refusal_told =
+  refusal_reported =
       refusal_later d (held_in d entries (seals entries)) asked g.none
-      ∙ sym (state_told d entries asked before.stands form.name.now (cost_of form.octets) form.pace form.tree.now r.0.are_streams g.name
+      ∙ sym (state_reported d entries asked before.stands form.name.now (cost_of form.octets) form.pace form.tree.now r.0.are_streams g.name
       (ap cost_of g.octets) g.paced g.tree)
 
   -- there is room for its cost in a sum
@@ -120,7 +120,7 @@ module _ (d : Domain) (entries : List Recorded) (before : Figures) (r : IsStateO
   -- if the figures give no reason against it, it is one more stream
   pub is_new : HeldAreSound → IsAccepted d → stand_refusal d before.stands form.name.now (cost_of form.octets) form.pace form.tree.now ≡ None → IsNew d entries before asked form
   is_new sound ok free =
-      let none : refusal_of d (held_in d entries (seals entries)) asked ≡ None = refusal_told ∙ free in
+      let none : refusal_of d (held_in d entries (seals entries)) asked ≡ None = refusal_reported ∙ free in
       record {
         none = none;
         few_hops = omega (arith, granted_fits_a_row d (held_in d entries (seals entries)) asked none, ap (λ (hops : List Hop). length hops) g.tree);

@@ -4,7 +4,7 @@ use Rattle.cqf_units.specs.declared.reservations.Cycle.{Cycle}
 use Rattle.cqf_model.specs.declared.topology.Row.{Row}
 use Rattle.cqf_model.specs.Table.{links_of}
 use Rattle.cqf_model.specs.Limits.{most_reserved}
-use Rattle.cqf_admission.specs.Turns.{IsOfGoodPace}
+use Rattle.cqf_admission.specs.ActiveCycles.{IsOfGoodPace}
 
 -- a row with its stream withdrawn from a cycle on
 abbrev pub ended : Row → Cycle → Row

@@ -7,10 +7,10 @@ ghost use Rattle.cqf_admission.specs.Asking.{asked_of, asked_paced};
 ghost use Rattle.cqf_admission.specs.Calling.{IsJudgedCall};
 ghost use Rattle.cqf_model.specs.Limits.{most_calls};
 ghost use Rattle.cqf_admission.specs.Admission.{Answers, Closes, act_of, calls, EndsOne, HoldsOneMore, LetsGo, recorded_of};
-ghost use Rattle.cqf_admission.specs.Costs.{left_in_turns, most_cost};
-ghost use Rattle.cqf_admission.specs.Turns.{IsGoodPace};
+ghost use Rattle.cqf_admission.specs.Costs.{left_in_active_cycles, most_cost};
+ghost use Rattle.cqf_admission.specs.ActiveCycles.{IsGoodPace};
 
-use crate::count_places;
+use crate::count_indices;
 use crate::entries::{Call, Entry, SealFault, copied_entries, enter, reply_of};
 use crate::judged::{JudgedRequest, judge};
 use crate::shared::{SharedRequest, shared_request};
@@ -132,7 +132,7 @@ impl Admission {
             return Err(Refused::HistoryFull);
         }
         let asked = request.try_copy(self.alloc)?;
-        if count_places(request.paths.as_slice()).is_none() {
+        if count_indices(request.paths.as_slice()).is_none() {
             return Err(Refused::Memory);
         }
         let judged = judge(&self.domain, request);
@@ -169,7 +169,7 @@ impl Admission {
         }
         let asked = Arc::try_clone(request)?;
         let wanted = request.request();
-        if count_places(wanted.paths.as_slice()).is_none() {
+        if count_indices(wanted.paths.as_slice()).is_none() {
             return Err(Refused::Memory);
         }
         let judged = request.judge(&self.domain);
@@ -263,7 +263,7 @@ impl Admission {
     pub fn left_at(&self, hop: &Hop, pace: Pace) -> Octets
         requires inside { hop.now.link < length self.now.domain.links }
         requires good { IsGoodPace pace }
-        ensures { result.0 ≡ left_in_turns self.now.domain (held_in self.now.domain self.now.entries (seals self.now.entries)) pace hop.now }
+        ensures { result.0 ≡ left_in_active_cycles self.now.domain (held_in self.now.domain self.now.entries (seals self.now.entries)) pace hop.now }
     {
         state_follows_history();
         self.state.left_at(&self.domain, hop, pace)

@@ -2,7 +2,7 @@
 ghost use Rattle.std.specs.Prelude.{◌≡◌, ◌<◌, ◌≤◌, ◌^◌, IfOk, MatchOption, false};
 ghost use Rattle.cqf_model.specs.History.{is_pace};
 ghost use Rattle.cqf_model.specs.Limits.{most_reserved};
-ghost use Rattle.cqf_admission.specs.Branches.{branches_of, places_of};
+ghost use Rattle.cqf_admission.specs.Branches.{branches_of, indices_of};
 ghost use Rattle.cqf_admission.specs.Asking.{asked_of, asked_paced, asked_with};
 ghost use Rattle.cqf_admission.specs.Judging.{IsJudgedOf, IsPaceOf, Judges, row_by};
 
@@ -85,7 +85,7 @@ fn judge_parts(
     phase: u32,
     paths: &[Vec<String>],
 ) -> Result<JudgedRequest, Refused>
-    requires { places_of (branches_of paths.now) < 2 ^ 64 }
+    requires { indices_of (branches_of paths.now) < 2 ^ 64 }
     ensures { Judges domain.now (asked_with name.now octets every phase (branches_of paths.now)) result }
 {
     let Some(name) = Name::new(name.as_bytes()) else {
@@ -113,7 +113,7 @@ fn judge_parts(
 /// The first reason against its form: `BadName`, `BadOctets`, `UnknownNode`, `BrokenPath`, `LoopingPath`, `NotATree`, each over all
 /// branches before the next, and `TooManyHops`.
 pub fn judge(domain: &Domain, request: &Request) -> Result<JudgedRequest, Refused>
-    requires { places_of (branches_of request.now.paths.items) < 2 ^ 64 }
+    requires { indices_of (branches_of request.now.paths.items) < 2 ^ 64 }
     ensures { Judges domain.now (asked_of request.now) result }
 {
     let (name, paths) = (request.name.as_str(), request.paths.as_slice());
@@ -126,7 +126,7 @@ pub fn judge(domain: &Domain, request: &Request) -> Result<JudgedRequest, Refuse
 /// # Errors
 /// As for [`judge`]. After `BadOctets` comes `BadPace`, if `every` doesn't divide 80 or `phase` isn't below `every`.
 pub fn judge_paced(domain: &Domain, request: &PacedRequest) -> Result<JudgedRequest, Refused>
-    requires { places_of (branches_of request.now.paths.items) < 2 ^ 64 }
+    requires { indices_of (branches_of request.now.paths.items) < 2 ^ 64 }
     ensures { Judges domain.now (asked_paced request.now) result }
 {
     let (name, paths) = (request.name.as_str(), request.paths.as_slice());

@@ -14,7 +14,7 @@
 //!   branches. Each branch is a list of names of nodes. The checks are: the domain has each node; a link leads from each node to the next,
 //!   from a first bridge to a station, over no more nodes than a branch may have; no node occurs twice in a branch; any two branches begin
 //!   at the same bridge and part for good; and the tree has no more hops than it may have. Each check is made over all branches before the
-//!   next. An index counts through the branches as one list, which has [`count_places`] names. No branch at all is `BrokenPath 0`.
+//!   next. An index counts through the branches as one list, which has [`count_indices`] names. No branch at all is `BrokenPath 0`.
 //! - **Sums.** [`budget_on`] is what a link has for all streams, given its guard band, [`guard_on`]. [`CycleSums`] are the sums by link and
 //!   cycle of streams that are added and removed. [`add_on`] adds to sums by link alone.
 //! - **Scripts**, line by line. [`read_script`] reads the calls of a script, each with its seat, and [`administrators`] the seat of its
@@ -57,6 +57,7 @@ mod admission;
 mod branches;
 mod budgets;
 mod calls;
+mod cycle_sums;
 mod ends;
 mod entries;
 mod faults;
@@ -79,15 +80,15 @@ mod sums;
 mod table;
 mod tabling;
 mod trees;
-mod turns;
 
 pub use admission::Admission;
-pub use branches::count_places;
+pub use branches::count_indices;
 pub use budgets::{budget_on, guard_on};
 pub use calls::{administrators, calls_of, read_orders, read_paced_script, read_script};
 pub use cqf_model::{
     LEAST_OCTETS, MOST_CALLS, MOST_OCTETS, MOST_SEALS, MOST_STREAMS, Receipt, Refused, Reply, Row,
 };
+pub use cycle_sums::CycleSums;
 pub use entries::{Call, Command, Entry, SealFault};
 pub use faults::ScriptFault;
 pub use judged::{JudgedRequest, judge, judge_paced};
@@ -101,4 +102,3 @@ pub use shared::SharedRequest;
 pub use sums::add_on;
 pub use table::Table;
 pub use trees::find_tree;
-pub use turns::CycleSums;

@@ -7,9 +7,9 @@ ghost use Rattle.cqf_model.specs.Domain.{Domain as ADomain, budget};
 ghost use Rattle.cqf_model.specs.History.{Recorded, held_in, seals, streams_of};
 ghost use Rattle.cqf_model.specs.Limits.{most_calls, most_cycles, most_hops, most_reserved};
 ghost use Rattle.cqf_model.specs.Table.{links_in};
-ghost use Rattle.cqf_admission.specs.Costs.{left_in_turns, most_cost};
+ghost use Rattle.cqf_admission.specs.Costs.{left_in_active_cycles, most_cost};
 ghost use Rattle.cqf_admission.specs.Holdings.{held_cost};
-ghost use Rattle.cqf_admission.specs.Turns.{IsGoodPace};
+ghost use Rattle.cqf_admission.specs.ActiveCycles.{IsGoodPace};
 ghost use Rattle.cqf_admission.specs.Rows.{ended};
 ghost use Rattle.cqf_admission.specs.State.{AdmitsForm, ClosesNext, IsStateOf, SomeDomain, SomeHistory, SomeRequest, StaysSo, WithdrawsName};
 ghost use Rattle.cqf_admission.specs.Weighing.{FindsOpen, left_at, row_by, stand_refusal, stand_short};
@@ -324,7 +324,7 @@ impl State {
         requires good { IsGoodPace pace }
         requires history { SomeHistory domain.now self.now }
         ensures { (entries : List Recorded) → IsStateOf domain.now entries self.now →
-            result.0 ≡ left_in_turns domain.now (held_in domain.now entries (seals entries)) pace hop.now }
+            result.0 ≡ left_in_active_cycles domain.now (held_in domain.now entries (seals entries)) pace hop.now }
     {
         state_follows_history();
         Octets(left_of(domain, &self.holdings, hop, pace))

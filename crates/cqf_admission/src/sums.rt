@@ -13,7 +13,7 @@ pub fn add_on(sums: &mut Vec<u64>, tree: &[Hop], number: u32)
     ensures { AreMoreOn sums.old.items (links_in tree.now) number sums.new.items }
 {
     for hop in tree {
-        let place = usize::from(hop.link);
-        sums[place] += u64::from(number);
+        let index = usize::from(hop.link);
+        sums[index] += u64::from(number);
     }
 }

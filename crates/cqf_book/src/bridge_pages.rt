@@ -43,10 +43,10 @@ impl BridgePages {
     }
 
     /// Returns the page at an index, if there is one.
-    pub(crate) fn get(&self, place: usize) -> Option<&Page>
-        ensures { option_copied result ≡ slice_get self.now place }
+    pub(crate) fn get(&self, index: usize) -> Option<&Page>
+        ensures { option_copied result ≡ slice_get self.now index }
     {
-        self.pages.get(place)
+        self.pages.get(index)
     }
 
     /// Returns the pages, in order of cycle.

@@ -65,11 +65,11 @@ fn continues(pages: &[Page], earlier: &[Page], later: &[Page]) -> bool
     if pages.len() < earlier.len() {
         return false;
     }
-    let (before, behind) = pages.split_at(earlier.len());
+    let (before, following) = pages.split_at(earlier.len());
     if !are_same(before, earlier) {
         return false;
     }
-    are_same(behind, later)
+    are_same(following, later)
 }
 
 /// Returns the first bridge whose pages aren't those from before followed by its share's, if there is one.

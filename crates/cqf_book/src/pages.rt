@@ -92,11 +92,11 @@ impl Pages {
             return Some(PageFault::StrangeCycle);
         }
         let own = &self.posted[usize::from(page.bridge)];
-        let place = page.cycle.0 as usize;
-        if place < own.len() {
+        let index = page.cycle.0 as usize;
+        if index < own.len() {
             return Some(PageFault::DoublePage);
         }
-        if place > own.len() {
+        if index > own.len() {
             return Some(PageFault::CycleSkipped);
         }
         None

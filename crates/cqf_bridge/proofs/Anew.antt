@@ -10,8 +10,8 @@ use Rattle.cqf_units.proofs.Cycles.{cycle_below}
 use Rattle.cqf_model.specs.declared.topology.Row.{Row}
 use Rattle.cqf_model.specs.Domain.{Domain, cycle_of}
 use Rattle.cqf_model.specs.Run.{Run}
-use Rattle.cqf_model.specs.Table.{depth_behind, reserved_in, table_of}
-use Rattle.cqf_model.specs.Traffic.{Carried, Policed, Received, came_by, is_queued_of, police, police_all, policed_before, received_before, verdict_by, within_gate}
+use Rattle.cqf_model.specs.Table.{hop_number_after, reserved_in, table_of}
+use Rattle.cqf_model.specs.Policing.{Carried, Policed, Received, came_by, is_queued_of, police, police_all, policed_before, received_before, verdict_by, within_gate}
 use Rattle.cqf_model.proofs.Coming.{before_when}
 use Rattle.cqf_model.proofs.InCycle.{received_in_when}
 use Rattle.cqf_model.proofs.Policing.{police_member}
@@ -46,14 +46,14 @@ module _ (reserves : GateIsReservation) (d : Domain) (some : 0 < d.cycle_time) (
       ∙ counts_alone row.no now
       ∙ sym (ap (λ (c : ℕ). octets_before d row.no c now) here) in
       reserves d (earlier ++ now) row x some
-      ∙ ap (λ (n : ℕ). nat_le (n + x.octets) (reserved_in row (depth_behind row (came_by x.way)) (cycle_of d x.at))) same
+      ∙ ap (λ (n : ℕ). nat_le (n + x.octets) (reserved_in row (hop_number_after row (came_by x.ingress)) (cycle_of d x.at))) same
       ∙ sym (reserves d now row x some)
 
   -- so the verdict on a frame of the cycle is the same
   same_verdict : (now : List Policed) (x : Received) → cycle_of d x.at ≡ cycle → police d tables bridge (earlier ++ now) x ≡ police d tables bridge now x
   same_verdict now x here = λ i. record {
     received = x;
-    verdict = verdict_by d (table_of tables (cycle_of d x.at)) bridge (cycle_of d x.at) (λ row. same_gate now x here row i) x.way;
+    verdict = verdict_by d (table_of tables (cycle_of d x.at)) bridge (cycle_of d x.at) (λ row. same_gate now x here row i) x.ingress;
   }
 
   -- and on all of them

@@ -15,9 +15,9 @@ use Rattle.cqf_model.specs.Network.{IsLoss, queued_by, queued_to}
 use Rattle.cqf_model.specs.Run.{Run}
 use Rattle.cqf_model.specs.StreamGate.{gate_class}
 use Rattle.cqf_model.specs.Table.{goes_on, goes_to, row_of}
-use Rattle.cqf_model.specs.Traffic.{AtEdge as Offering, DroppedFor, ExceedsGate, LacksRow, Policed, Queued, Received}
-use Rattle.cqf_model.specs.Traffic.{Relayed, Verdict, Way, came_by, gate_behind, is_queued_of, offer_received, police, police_all}
-use Rattle.cqf_model.specs.Traffic.{sent_received, verdict_by}
+use Rattle.cqf_model.specs.Policing.{AtEdge as Offering, DroppedFor, ExceedsGate, LacksRow, Policed, Queued, Received}
+use Rattle.cqf_model.specs.Policing.{Ingress, Relayed, Verdict, came_by, gate_list_after, is_queued_of, offer_received, police, police_all}
+use Rattle.cqf_model.specs.Policing.{sent_received, verdict_by}
 use Rattle.cqf_laws_cycle.specs.Gathered.{dropped_of}
 use Rattle.cqf_gates.specs.StreamGate.{lets_pass}
 use Rattle.cqf_port.specs.PortState.{IsLate, IsOutOfOrder, PortState}
@@ -42,12 +42,12 @@ pub record IsBatchOf (d : Domain) (bridge cycle : ℕ) (rows : List Row) (batch 
   pub frames : (sent : Sent) → Contains batch.frames sent → MayCome d bridge cycle rows batch.link sent
 
 -- a frame that arrives at a bridge, in the terms of the definitions
-abbrev pub way_taken : Came → Way
-way_taken (ByLink link stream) = Relayed link stream
-way_taken (AtEdge name) = Offering name
+abbrev pub ingress_taken : Came → Ingress
+ingress_taken (ByLink link stream) = Relayed link stream
+ingress_taken (AtEdge name) = Offering name
 
 abbrev pub received_as : Incoming → Received
-received_as x = record { at = x.at.0; octets = x.octets; frame = x.frame; way = way_taken x.came }
+received_as x = record { at = x.at.0; octets = x.octets; frame = x.frame; ingress = ingress_taken x.came }
 
 -- a batch is of a link of the domain, and its frames start early enough for sums with their instants
 pub record CanGather (d : Domain) (b : LinkBatch) : Type 0 where
@@ -64,8 +64,8 @@ CanRecord p arrival = (¬ IsLate p arrival) × (¬ IsOutOfOrder p arrival)
 
 -- a port after an arrival of a row's stream, which is queued if the stream goes on by the port's link
 abbrev pub queue_on : Row → Option ℕ → Arrival → PortRecord → PortRecord
-queue_on row way arrival r =
-    with_frames r (if list_any (λ next. next == r.link) (goes_to row way) then record { arrival = arrival; stream = Some row.no } ∷ [] else [])
+queue_on row ingress arrival r =
+    with_frames r (if list_any (λ next. next == r.link) (goes_to row ingress) then record { arrival = arrival; stream = Some row.no } ∷ [] else [])
 
 -- a port has run to the end of a cycle, and each of its streams' frames arrived before an instant
 pub record IsWaiting (d : Domain) (cycle until : ℕ) (r : PortRecord) : Type 0 where
@@ -79,11 +79,11 @@ AreWaiting d cycle until ports = (r : PortRecord) → Contains ports r → IsWai
 
 -- whether the gate for a row's stream passes a frame
 abbrev pub passes_by : Domain → List KeptGate → Received → Row → Bool
-passes_by d gates x row = lets_pass (gate_in d gates row (came_by x.way)) x.at x.octets
+passes_by d gates x row = lets_pass (gate_in d gates row (came_by x.ingress)) x.at x.octets
 
 -- the verdict on a frame by the gates
 abbrev pub verdict_taken : Domain → List Row → ℕ → ℕ → List KeptGate → Received → Verdict
-verdict_taken d rows bridge cycle gates x = verdict_by d rows bridge cycle (passes_by d gates x) x.way
+verdict_taken d rows bridge cycle gates x = verdict_by d rows bridge cycle (passes_by d gates x) x.ingress
 
 -- a port with the frame that a verdict queues to it
 abbrev pub with_verdict : Domain → Received → Verdict → PortRecord → PortRecord
@@ -95,7 +95,7 @@ verdict_if went row = if went then Queued row else ExceedsGate
 
 -- the class in which a frame of a row's stream waits if its gate passes it
 abbrev pub class_in : Domain → Received → Row → ℕ
-class_in d x row = gate_class (gate_behind d row (came_by x.way)) x.at
+class_in d x row = gate_class (gate_list_after d row (came_by x.ingress)) x.at
 
 -- a frame passes the gate of a row's stream and gets a class, or doesn't pass and gets none
 pub record PassesGate (d : Domain) (cycle : ℕ) (x : Received) (row : Row) (gates gates_after : List KeptGate) (class : Option ℕ) : Type 0 where
@@ -133,7 +133,7 @@ pub record Polices (d : Domain) (rows : List Row) (bridge cycle : ℕ) (x : Rece
 
 -- so after the frames of the cycle that the gates have counted, it is the verdict in a run with such a table in the cycle, and the gates
 -- have counted the frame too
-pub record IsPolicedBehind (d : Domain) (tables : List (List Row)) (bridge cycle : ℕ) (x : Received) (policed : List Policed)
+pub record IsPolicedAfter (d : Domain) (tables : List (List Row)) (bridge cycle : ℕ) (x : Received) (policed : List Policed)
     (gates_after : List KeptGate) (made : FrameVerdict) : Type 0 where
   pub verdict : verdict_as made ≡ (police d tables bridge policed x).verdict
   pub counted : HaveCounted d.cycle_time cycle (policed ++ police d tables bridge policed x ∷ []) gates_after
@@ -141,7 +141,7 @@ pub record IsPolicedBehind (d : Domain) (tables : List (List Row)) (bridge cycle
 -- a frame arrives in the cycle, and if it arrived by a link, its stream goes on from the bridge
 pub record MayBeTaken (d : Domain) (bridge cycle : ℕ) (rows : List Row) (x : Received) : Type 0 where
   pub in_cycle : cycle_of d x.at ≡ cycle
-  pub leads_on : (link stream : ℕ) → x.way ≡ Relayed link stream →
+  pub leads_on : (link stream : ℕ) → x.ingress ≡ Relayed link stream →
       (row : Row) × (row_of rows stream ≡ Some row) × (goes_on d row (Some link) bridge ≡ true)
 
 -- a frame is taken: the gates have counted it if it went on, the ports have it, and it is among the drops if it is dropped

@@ -3,7 +3,7 @@ use Rattle.std.specs.Prelude.{ℕ, ◌≡◌, ◌<◌, [], Contains}
 use Rattle.cqf_model.specs.Network.{IsLoss, Network}
 use Rattle.cqf_model.specs.Run.{Run}
 use Rattle.cqf_model.specs.Table.{table_of}
-use Rattle.cqf_model.specs.Traffic.{Carried, Policed}
+use Rattle.cqf_model.specs.Policing.{Carried, Policed}
 use Rattle.cqf_laws_cycle.specs.BridgeCycle.{IsCompiledNetwork, policed_in, policed_of}
 use Rattle.cqf_bridge.specs.Receiving.{AreBatchesOf, verdicts_in}
 use Rattle.cqf_bridge.specs.Follows.{batches_into}

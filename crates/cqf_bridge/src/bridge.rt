@@ -241,14 +241,14 @@ impl Bridge {
         self.ports.len()
     }
 
-    /// Returns the instant of the next start on one of the links that leave the bridge, and the link's number; `place` is the link's index
+    /// Returns the instant of the next start on one of the links that leave the bridge, and the link's number; `index` is the link's index
     /// among these links, by number. Starts that were already sent don't count, and nothing more must arrive. Returns `None` if there would
     /// be no start. It takes no memory.
-    pub fn next_start(&self, place: usize) -> Option<(Nanos, u16)>
-        requires { place < length self.now.ports }
-        ensures { IsNextAt self.now.ports place result }
+    pub fn next_start(&self, index: usize) -> Option<(Nanos, u16)>
+        requires { index < length self.now.ports }
+        ensures { IsNextAt self.now.ports index result }
     {
-        self.ports[place].next_start()
+        self.ports[index].next_start()
     }
 
     /// Passes over cycles in which the bridge does nothing, from the next one to this one. Its ports run to the end of the cycle without a

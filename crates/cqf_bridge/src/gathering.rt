@@ -1,9 +1,9 @@
 //! The frames that arrive at a bridge in a cycle, in the order in which it takes them.
 ghost use Rattle.std.specs.Prelude.{◌≡◌, ◌*◌, ◌<◌, ◌++◌, IfOk, IsPermutation, OnErr, OnOk, Contains, length, map};
-ghost use Rattle.cqf_model.specs.Traffic.{Received, came_by, offer_received, sent_received};
+ghost use Rattle.cqf_model.specs.Policing.{Received, came_by, offer_received, sent_received};
 ghost use Rattle.cqf_laws_cycle.specs.Gathered.{IsInOrderOf};
 ghost use Rattle.cqf_bridge.specs.Batch.{LinkBatch};
-ghost use Rattle.cqf_bridge.specs.Taking.{CanGather, gathered_by, received_as, way_taken};
+ghost use Rattle.cqf_bridge.specs.Taking.{CanGather, gathered_by, ingress_taken, received_as};
 ghost use Rattle.cqf_model.specs.Limits.{end_of_starts};
 
 use crate::Batch;
@@ -25,7 +25,7 @@ pub enum Came {
 impl Came {
     /// Returns the link by which the frame arrived, or `None` at the edge.
     pub fn link(&self) -> Option<u16>
-        ensures { result ≡ came_by (way_taken self.now) }
+        ensures { result ≡ came_by (ingress_taken self.now) }
     {
         match self {
             Came::ByLink(link, _) => Some(*link),
@@ -78,8 +78,8 @@ fn gather_batch(domain: &Domain, batch: &Batch, frames: &mut Vec<Incoming>) -> R
     ensures { OnOk result (map received_as frames.new.items
         ≡ map received_as frames.old.items ++ map (sent_received domain.now batch.now.link) batch.now.frames) }
 {
-    for place in 0..batch.len() {
-        frames.push(Incoming::by_link(domain, batch.link(), batch.get(place)))?;
+    for index in 0..batch.len() {
+        frames.push(Incoming::by_link(domain, batch.link(), batch.get(index)))?;
     }
     Ok(())
 }

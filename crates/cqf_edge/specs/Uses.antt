@@ -23,10 +23,10 @@ abbrev pub shortest_frame : Option ℕ → Option TrafficText → ℕ
 shortest_frame (Some octets) traffic = octets
 shortest_frame None traffic = option_map_or (λ (t : TrafficText). t.size) traffic 64
 
--- what a stream hands to the access link at a place
+-- what a stream hands to the access link at an index
 abbrev pub handed_over : ℕ → ℕ → Option ℕ → Option TrafficText → Handed
-handed_over place octets shortest traffic = record {
-  place = place;
+handed_over index octets shortest traffic = record {
+  index = index;
   octets = longest_frame octets traffic;
   shortest = min (shortest_frame shortest traffic) (longest_frame octets traffic);
   traffic = traffic;
@@ -34,7 +34,7 @@ handed_over place octets shortest traffic = record {
 
 -- the access link is one of this number of links
 abbrev pub IsHandedTo : ℕ → Option Handed → Type 0
-IsHandedTo count one = ForSome one (λ handed. handed.place < count)
+IsHandedTo count one = ForSome one (λ handed. handed.index < count)
 
 -- the larger of two numbers, of those that are given
 abbrev pub larger : Option ℕ → Option ℕ → Option ℕ
@@ -42,13 +42,13 @@ larger None other = other
 larger (Some one) None = Some one
 larger (Some one) (Some other) = Some (max one other)
 
--- what is handed to the access link at a place, by its streams in their order
+-- what is handed to the access link at an index, by its streams in their order
 abbrev pub is_handed_to : ℕ → Option Handed → Bool
-is_handed_to place None = false
-is_handed_to place (Some handed) = handed.place == place
+is_handed_to index None = false
+is_handed_to index (Some handed) = handed.index == index
 
 abbrev pub handed_to : ℕ → List (Option Handed) → List Handed
-handed_to place all = flat_map (λ one. if is_handed_to place one then option_map_or (λ handed. handed ∷ []) one [] else []) all
+handed_to index all = flat_map (λ one. if is_handed_to index one then option_map_or (λ handed. handed ∷ []) one [] else []) all
 
 -- what is promised of them
 abbrev pub promise_in : Handed → List Traffic
@@ -98,12 +98,12 @@ bound_of link other [] = bound.Idle
 bound_of link other (t ∷ ts) = bound_by (least_bound (link_with link other) (t ∷ ts) most_bound)
 
 abbrev pub bound_for : List (Option Handed) → ℕ → TalkerLink → AccessBound
-bound_for all place link = bound_of link (other_beside link.other (handed_to place all)) (promises_in (handed_to place all))
+bound_for all index link = bound_of link (other_beside link.other (handed_to index all)) (promises_in (handed_to index all))
 
--- the bounds of the access links from a place on, and of all of a network
+-- the bounds of the access links from an index on, and of all of a network
 abbrev pub bounds_from : List (Option Handed) → ℕ → List TalkerLink → List AccessBound
-bounds_from all place [] = []
-bounds_from all place (link ∷ links) = bound_for all place link ∷ bounds_from all (place + 1) links
+bounds_from all index [] = []
+bounds_from all index (link ∷ links) = bound_for all index link ∷ bounds_from all (index + 1) links
 
 abbrev pub bounds_of : NetworkDomain → List (Option Handed) → List AccessBound
 bounds_of network all = bounds_from all 0 network.talkers
@@ -124,7 +124,7 @@ is_full (bound.Within time) = false
 is_full bound.Full = true
 
 abbrev pub station_at : NetworkDomain → ℕ → List ℕ
-station_at network place = slice_index_or network.stations (option_map_or (λ (link : TalkerLink). link.station) (slice_get network.talkers place) 0) []
+station_at network index = slice_index_or network.stations (option_map_or (λ (link : TalkerLink). link.station) (slice_get network.talkers index) 0) []
 
 abbrev pub full_station : NetworkDomain → List AccessBound → Option (List ℕ)
 full_station network bounds = option_map (station_at network) (position is_full bounds)

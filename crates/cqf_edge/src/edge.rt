@@ -1,9 +1,9 @@
 //! A stream's passage to its edge bridge.
 ghost use Rattle.std.specs.Prelude.{◌≡◌, ◌+◌, ◌*◌, ◌≤◌, ◌^◌, None};
 ghost use Rattle.cqf_traffic.specs.Keys.{bound_of};
-ghost use Rattle.cqf_access.specs.Arriving.{way_of};
+ghost use Rattle.cqf_access.specs.Arriving.{travel_time};
 ghost use Rattle.cqf_access.specs.Bounding.{link_of};
-ghost use Rattle.cqf_edge.specs.Edge.{IsPassage, IsWritten, closer_word, delays_of, grid_word, left_behind, longest_wait_on, steps_on, times_on, word_from};
+ghost use Rattle.cqf_edge.specs.Edge.{IsPassage, IsWritten, closer_word, delays_of, grid_word, left_after, longest_wait_on, steps_on, times_on, word_from};
 ghost use Rattle.cqf_edge.specs.Edge.{word_on};
 ghost use Rattle.cqf_edge.specs.Uses.{time_in};
 
@@ -30,8 +30,8 @@ pub struct Passage {
 }
 
 /// Returns the time from the hand-over of a frame that doesn't wait until it is whole, given the link's delay.
-fn way_on(rate: Rate, delay: u32, octets: u32) -> u64
-    ensures value { result ≡ way_of (link_of rate None) delay octets }
+fn travel_time_on(rate: Rate, delay: u32, octets: u32) -> u64
+    ensures value { result ≡ travel_time (link_of rate None) delay octets }
     ensures short { result ≤ 800 * (octets + 8) + delay }
 {
     time_of(u64::from(octets) + 8, rate) + u64::from(delay)
@@ -80,9 +80,9 @@ impl Passage {
         ensures ordered { result.least ≤ result.most }
     {
         let rate = self.link.rate;
-        let longest = way_on(rate, self.link.delay, self.handed.octets);
+        let longest = travel_time_on(rate, self.link.delay, self.handed.octets);
         AccessTimes {
-            least: way_on(rate, self.link.least, self.handed.shortest) as u32,
+            least: travel_time_on(rate, self.link.least, self.handed.shortest) as u32,
             most: (longest + self.longest_wait()) as u32,
         }
     }
@@ -164,8 +164,8 @@ impl Passage {
 
 impl AccessTimes {
     /// Returns what is left of a deadline at the edge bridge.
-    pub(crate) fn left_behind(self, deadline: u32) -> u32
-        ensures { result ≡ left_behind self deadline }
+    pub(crate) fn left_after(self, deadline: u32) -> u32
+        ensures { result ≡ left_after self deadline }
     {
         deadline.saturating_sub(self.most)
     }

@@ -1,5 +1,5 @@
 //! Laws about streams at their edge bridges.
-ghost use Rattle.cqf_edge.specs.EdgeLaws.{EdgesAreByPlaces, OthersBeginAtEdges, StreamsComeByLinks};
+ghost use Rattle.cqf_edge.specs.EdgeLaws.{EdgesAreByIndices, OthersBeginAtEdges, StreamsComeByLinks};
 ghost use Rattle.cqf_edge.specs.WrittenLaws.{ReadFlowsAreWritten, ReadStreamsAreWritten};
 
 /// Law: streams that are read of a text have a jitter and an offset that [`edge_flows`] and [`edge_streams`] require.
@@ -17,5 +17,5 @@ pub fn read_streams_are_written()
 pub fn streams_come_by_links()
     ensures come { StreamsComeByLinks }
     ensures others { OthersBeginAtEdges }
-    ensures places { EdgesAreByPlaces }
+    ensures indices { EdgesAreByIndices }
 {}

@@ -23,8 +23,8 @@ const SHORTEST_FRAME: u32 = 64;
 /// What a stream hands to an access link.
 #[derive(Clone, Copy, Debug)]
 pub struct Handed {
-    /// The link's place among the network's access links.
-    pub place: usize,
+    /// The link's index among the network's access links.
+    pub index: usize,
     /// The largest size of the stream's frames.
     pub octets: u32,
     /// The smallest size.
@@ -96,22 +96,22 @@ impl AccessBound {
 }
 
 impl Handed {
-    /// Returns what a stream hands to the access link at a place, given its reservation, the smallest size of its frames in its text, and its
+    /// Returns what a stream hands to the access link at an index, given its reservation, the smallest size of its frames in its text, and its
     /// traffic.
     pub(crate) fn over(
-        place: usize,
+        index: usize,
         octets: u32,
         shortest: Option<u32>,
         traffic: Option<Traffic>,
     ) -> Handed
-        ensures value { result ≡ handed_over place octets shortest traffic }
+        ensures value { result ≡ handed_over index octets shortest traffic }
         ensures sizes { result.shortest ≤ result.octets }
         ensures longest { result.octets ≤ 1522 }
     {
         let longest = longest_frame(octets, &traffic);
         let shortest = shortest_frame(shortest, &traffic);
         Handed {
-            place,
+            index,
             octets: longest,
             shortest: shortest.min(longest),
             traffic,
@@ -183,7 +183,7 @@ fn unused(alloc: Global, links: &[TalkerLink]) -> Result<Vec<AccessUse>, Memory>
     Ok(uses)
 }
 
-/// Returns the uses of access links, by their places, given what streams hand to them.
+/// Returns the uses of access links, by their index, given what streams hand to them.
 fn uses_of(
     alloc: Global,
     links: &[TalkerLink],
@@ -195,7 +195,7 @@ fn uses_of(
     let mut uses = unused(alloc, links)?;
     for one in all {
         if let Some(handed) = one {
-            uses[handed.place].put(handed)?;
+            uses[handed.index].put(handed)?;
         }
     }
     Ok(uses)
@@ -218,16 +218,16 @@ pub(crate) fn bounds_of(
     let links = network.talkers();
     let uses = uses_of(alloc, links, all)?;
     let mut bounds = Vec::with_capacity(alloc, links.len())?;
-    for (place, link) in links.iter().enumerate() {
-        bounds.push(uses[place].bound(link))?;
+    for (index, link) in links.iter().enumerate() {
+        bounds.push(uses[index].bound(link))?;
     }
     Ok(bounds)
 }
 
-/// Returns the place of the first link that is full.
+/// Returns the index of the first link that is full.
 fn first_full(bounds: &[AccessBound]) -> Option<usize>
-    ensures place { result ≡ position is_full bounds.now }
-    ensures within { IfSome result (λ place. place < length bounds.now) }
+    ensures index { result ≡ position is_full bounds.now }
+    ensures within { IfSome result (λ index. index < length bounds.now) }
 {
     bounds.iter().position(|bound| bound.is_full())
 }
@@ -237,7 +237,7 @@ pub(crate) fn full_station(network: &NetworkDomain, bounds: &[AccessBound]) -> O
     requires { length bounds.now ≡ length network.now.talkers }
     ensures { result ≡ full_station network.now bounds.now }
 {
-    let place = first_full(bounds)?;
-    let station = network.talkers()[place].station;
+    let index = first_full(bounds)?;
+    let station = network.talkers()[index].station;
     Some(network.stations().as_slice()[usize::from(station)].copied())
 }

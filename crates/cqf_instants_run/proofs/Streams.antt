@@ -17,7 +17,7 @@ use Rattle.cqf_model.specs.Domain.{Domain}
 use Rattle.cqf_model.specs.History.{Act, Admits, IsLegalHistory, Recorded, Seals, Withdraws, held_in, is_seal, seals}
 use Rattle.cqf_model.specs.History.{stream_by, streams_of, table_at, tables_of}
 use Rattle.cqf_model.specs.Table.{is_held, is_live, table_of}
-use Rattle.cqf_laws_history.proofs.Places.{admitted_at, admitted_before, sealed-suc, sealed_before, withdrawn_before, with_end}
+use Rattle.cqf_laws_history.proofs.Indices.{admitted_at, admitted_before, sealed-suc, sealed_before, withdrawn_before, with_end}
 use Rattle.cqf_laws_coverage.specs.Rows.{RowsSayTheTables, as_of, end_as_of}
 use Rattle.cqf_laws_coverage.proofs.Rows.{all_streams}
 use Rattle.cqf_instants_run.proofs.Covers.{live_held}

@@ -37,8 +37,8 @@ drop_by_both cycle_time cycles frame (Some offer) None = []
 drop_by_both cycle_time cycles frame (Some offer) (Some judged) = where_any (drop_within cycle_time cycles frame offer judged)
 
 abbrev pub drop_at : ℕ → ℕ → List Offer → List EdgeVerdict → ℕ → List Dropped
-drop_at cycle_time cycles offers edge_verdicts place =
-    drop_by_both cycle_time cycles (place + 1) (slice_get offers place) (slice_get edge_verdicts place)
+drop_at cycle_time cycles offers edge_verdicts index =
+    drop_by_both cycle_time cycles (index + 1) (slice_get offers index) (slice_get edge_verdicts index)
 
 -- they are the drops of each book of a history with these offers, for any background frames
 abbrev pub AreDropsOfHistory : Domain → List Recorded → List Offer → ℕ → List Dropped → Type 0

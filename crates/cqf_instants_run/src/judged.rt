@@ -7,7 +7,7 @@ ghost use Rattle.cqf_model.specs.History.{IsLegalHistory, Recorded, streams_of};
 ghost use Rattle.cqf_model.specs.Run.{AreOffers};
 ghost use Rattle.cqf_laws_coverage.specs.Judged.{StandInOrder};
 ghost use Rattle.cqf_instants_run.specs.Begun.{LeadsToLast};
-ghost use Rattle.cqf_instants_run.specs.Coverage.{AreJudged, IsJudged, used_behind, used_in};
+ghost use Rattle.cqf_instants_run.specs.Coverage.{AreJudged, IsJudged, used_after, used_in};
 
 use crate::begun::{RowsBegun, begin, find_in_force};
 use cqf_laws_coverage::{counters_step, offers_stand_in_order, rows_follow, rows_say_the_tables};
@@ -35,14 +35,14 @@ pub(crate) struct Used {
 
 /// Returns the octets used of a row in a cycle after an offer that it covers, given the octets used before. Returns the first reason
 /// against the offer if the row doesn't cover it.
-fn used_behind(
+fn used_after(
     domain: &Domain,
     row: &Row,
     cycle: Cycle,
     used: u32,
     offer: &Offer,
 ) -> Result<u32, Reason>
-    ensures { result ≡ used_behind domain.now row.now cycle.0 used offer.now }
+    ensures { result ≡ used_after domain.now row.now cycle.0 used offer.now }
 {
     if !row.live(cycle) {
         return Err(Reason::Withdrawn);
@@ -51,7 +51,7 @@ fn used_behind(
         return Err(Reason::OtherBridge);
     }
     let (most, asked) = (
-        u64::from(row.reserved_behind(None, u64::from(cycle.0))),
+        u64::from(row.reserved_after(None, u64::from(cycle.0))),
         u64::from(used) + u64::from(offer.octets),
     );
     if asked > most {
@@ -84,18 +84,18 @@ fn judge(
     requires counters { length used.old.items ≡ length begun.now.rows.now }
     ensures { IsJudged domain.now begun.now.rows.now begun.now.count cycle.0 offer.now used.old.items used.new.items result }
 {
-    let Some(place) = find_in_force(begun, &offer.stream, cycle) else {
+    let Some(index) = find_in_force(begun, &offer.stream, cycle) else {
         return EdgeVerdict::Dropped(Reason::Unknown);
     };
-    let before = octets_in(&used[place], cycle);
-    match used_behind(domain, &begun.rows[place], cycle, before, offer) {
+    let before = octets_in(&used[index], cycle);
+    match used_after(domain, &begun.rows[index], cycle, before, offer) {
         Err(reason) => EdgeVerdict::Dropped(reason),
         Ok(octets) => {
-            used[place] = Used {
+            used[index] = Used {
                 cycle: cycle.0,
                 octets,
             };
-            EdgeVerdict::Covered(place)
+            EdgeVerdict::Covered(index)
         }
     }
 }

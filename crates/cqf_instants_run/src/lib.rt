@@ -53,8 +53,8 @@ mod laying;
 mod layout;
 mod parts;
 mod passes;
+mod reporting;
 mod taping;
-mod telling;
 
 pub use background::background_of_history;
 pub use counted::columns_of;

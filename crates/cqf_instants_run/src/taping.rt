@@ -10,7 +10,7 @@ ghost use Rattle.cqf_instants_run.specs.Taping.{BacksTheTraces, SomeTracedRun, T
 use crate::feeding::{class_of_cycle, feed_frames};
 use crate::frames::frames_before;
 use crate::law::port_starts_the_background;
-use crate::telling::{is_low, starts_of_port};
+use crate::reporting::{is_low, starts_of_port};
 use cqf_model::{Arrival, Background};
 use cqf_topology::Domain;
 use cqf_trace::{Mark, Trace};
@@ -88,10 +88,10 @@ fn keep_on_each(
         AreTaken (fed (slice_index_or (lists_of lists.items) l []) (map (arrival_of_mark domain.now) (starts_at traces.old l))) }
     ensures { OnOk result (TakeBackground domain.now end.0 (λ l. slice_index_or (lists_of lists.items) l []) traces.old traces.new) }
 {
-    let mut place = 0;
+    let mut index = 0;
     for frames in lists {
-        keep_on(alloc, domain, end, frames, &mut traces[place])?;
-        place += 1;
+        keep_on(alloc, domain, end, frames, &mut traces[index])?;
+        index += 1;
     }
     Ok(())
 }

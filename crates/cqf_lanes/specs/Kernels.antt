@@ -8,7 +8,7 @@ has_bit mask bit = not (bit_and mask (2 ^ bit) == 0)
 
 -- the sum of the costs at the indices whose mask has the bit
 abbrev pub masked_total : ℕ → List ℕ → List ℕ → ℕ
-masked_total bit costs masks = sum_by (λ (place : ℕ × ℕ). if has_bit place.1 bit then place.0 else 0) (zip costs masks)
+masked_total bit costs masks = sum_by (λ (index : ℕ × ℕ). if has_bit index.1 bit then index.0 else 0) (zip costs masks)
 
 -- the number of entries, from the first on, that open the class: the length of the longest prefix of states that all have its bit
 abbrev pub open_run_of : ℕ → List ℕ → ℕ

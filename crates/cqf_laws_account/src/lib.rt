@@ -6,17 +6,17 @@
 //!
 //! - If one seat of a desk makes all Seals, the tables that it closes are those of the history ([`one_seat_closes_all_tables`]). The history of
 //!   a desk has exactly what was requested from its seats ([`seats_give_the_history`]).
-//! - The traces of a book determine it, cycle by cycle and link by link, without sorting ([`traces_tell_the_book`]).
+//! - The traces of a book determine it, cycle by cycle and link by link, without sorting ([`traces_give_the_book`]).
 //!
 //! ```
 //! // from here on, a proof knows that the traces of a book determine it
-//! cqf_laws_account::traces_tell_the_book();
+//! cqf_laws_account::traces_give_the_book();
 //! ```
 #![tactic(auto)]
 
 ghost use Rattle.cqf_laws_account.specs.Sealing.{OneSeatClosesAllTables};
 ghost use Rattle.cqf_laws_account.specs.Seated.{ConductorHasTheTables, SeatsGiveTheHistory};
-ghost use Rattle.cqf_laws_account.specs.Traced.{TracesTellTheBook};
+ghost use Rattle.cqf_laws_account.specs.Traced.{TracesGiveTheBook};
 
 /// States that if one seat of a desk makes all Seals, the tables that it closes are the tables of the history's cycles, in order.
 pub fn one_seat_closes_all_tables()
@@ -35,6 +35,6 @@ pub fn seats_give_the_history()
 
 /// States that the traces of a book determine it: cycle by cycle the starts link by link, each from the link's trace, whose instants don't
 /// decrease, and the drops bridge by bridge.
-pub fn traces_tell_the_book()
-    ensures { TracesTellTheBook }
+pub fn traces_give_the_book()
+    ensures { TracesGiveTheBook }
 {}

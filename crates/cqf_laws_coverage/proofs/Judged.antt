@@ -14,7 +14,7 @@ use Rattle.cqf_model.specs.HistoryBook.{run_of_history}
 use Rattle.cqf_model.specs.Run.{Run}
 use Rattle.cqf_model.specs.Shift.{asked_with, offer_cycle, row_for, taken_by}
 use Rattle.cqf_model.specs.Table.{begins_at, row_named}
-use Rattle.cqf_model.specs.Traffic.{Queued, DroppedFor, edge_verdict, numbered}
+use Rattle.cqf_model.specs.Policing.{Queued, DroppedFor, edge_verdict, numbered}
 use Rattle.cqf_model.specs.Promise.{IsDecided}
 use Rattle.cqf_laws_shift.proofs.Decided.{is_decided, judged}
 use Rattle.cqf_laws_coverage.specs.Counted.{HistoryIsCounted}
@@ -66,6 +66,6 @@ offers_are_judged found as_live before d entries offers background cycles x seal
 
 -- so a book is counted by these verdicts
 pub report_is_counted : HistoryIsCounted → OffersAreJudged → ReportIsCounted
-report_is_counted counted are_judged d entries offers background cycles book link accepted legal offered behind ordered is =
-    counted d entries offers background cycles book (judged_of d entries offers) link accepted legal offered behind is (λ x inside in_run.
+report_is_counted counted are_judged d entries offers background cycles book link accepted legal offered following ordered is =
+    counted d entries offers background cycles book (judged_of d entries offers) link accepted legal offered following is (λ x inside in_run.
     are_judged d entries offers background cycles x is.sealed ordered inside (omega (arith, in_run, length-singles (table_at d entries) cycles)))

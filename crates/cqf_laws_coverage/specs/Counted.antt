@@ -13,7 +13,7 @@ use Rattle.cqf_model.specs.OnLinks.{frames_on, octets_on}
 use Rattle.cqf_model.specs.Run.{AreBackground, AreOffers, Run}
 use Rattle.cqf_model.specs.Shift.{offer_cycle}
 use Rattle.cqf_model.specs.Table.{AreOrderly}
-use Rattle.cqf_model.specs.Traffic.{Verdict, Queued, DroppedFor, LacksRow, ExceedsGate, numbered}
+use Rattle.cqf_model.specs.Policing.{Verdict, Queued, DroppedFor, LacksRow, ExceedsGate, numbered}
 use Rattle.cqf_model.specs.Promise.{IsDecided}
 use Rattle.cqf_laws_coverage.specs.InOneCycle.{most_on, octets_summed}
 
@@ -32,7 +32,7 @@ AreDecided run verdict = (x : Offered) → Contains (numbered run.offers) x → 
 -- octets
 abbrev pub sum_of_hops : Domain → (Offered → Verdict) → (ℕ → ℕ → ℕ → ℕ) → List Offered → ℕ
 sum_of_hops d verdict counts offers =
-    sum_by (λ (x : Offered). sum_by (λ (hop : Hop). counts hop.link (offer_cycle d x + hop.depth) x.offer.octets) (hops_of (verdict x))) offers
+    sum_by (λ (x : Offered). sum_by (λ (hop : Hop). counts hop.link (offer_cycle d x + hop.hop_number) x.offer.octets) (hops_of (verdict x))) offers
 
 -- the octets that leave by a link in a cycle; the frames that leave by it in the first cycles; and the octets of these frames
 abbrev pub counts_in : ℕ → ℕ → ℕ → ℕ → ℕ → ℕ
@@ -71,10 +71,10 @@ HistoryIsCounted =
     IsCounted d cycles offers verdict book.starts link
 
 -- a list of a link's octets in each cycle gives its octets in all and the most in one cycle
-pub record TellsCount (starts : List Started) (link : ℕ) (column : List ℕ) : Type 0 where
+pub record ReportsCount (starts : List Started) (link : ℕ) (column : List ℕ) : Type 0 where
   pub octets : sum column ≡ octets_on link starts
   pub most : fold max 0 column ≡ most_on link starts
 
-abbrev pub ColumnsTell : Type 0
-ColumnsTell = (starts : List Started) (link : ℕ) (column : List ℕ) → ((cycle : ℕ) → slice_index_or column cycle 0 ≡ octets_summed link cycle starts) →
-    TellsCount starts link column
+abbrev pub ColumnsReport : Type 0
+ColumnsReport = (starts : List Started) (link : ℕ) (column : List ℕ) → ((cycle : ℕ) → slice_index_or column cycle 0 ≡ octets_summed link cycle starts) →
+    ReportsCount starts link column

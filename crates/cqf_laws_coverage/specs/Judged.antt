@@ -15,7 +15,7 @@ use Rattle.cqf_model.specs.HistoryBook.{IsBookOfHistory, run_of_history}
 use Rattle.cqf_model.specs.Run.{AreBackground, AreOffers}
 use Rattle.cqf_model.specs.Shift.{offer_cycle, offers_before, take_octets, taken_by}
 use Rattle.cqf_model.specs.Table.{begins_at, is_held, is_live}
-use Rattle.cqf_model.specs.Traffic.{Verdict, Queued, DroppedFor, numbered}
+use Rattle.cqf_model.specs.Policing.{Verdict, Queued, DroppedFor, numbered}
 use Rattle.cqf_model.specs.Promise.{IsDecided}
 use Rattle.cqf_laws_coverage.specs.Counted.{IsCounted}
 use Rattle.cqf_laws_coverage.specs.Rows.{as_of, row_in_force}
@@ -35,13 +35,13 @@ used_before d offers x row = taken_by d row (offer_cycle d x) (take (x.frame - 1
 
 -- one more offer is one more step
 abbrev pub CountersGoOn : Type 0
-CountersGoOn = (d : Domain) (row : Row) (cycle place : ℕ) (offers : List Offer) (x : Offered) → slice_get (numbered offers) place ≡ Some x →
-    taken_by d row cycle (take (place + 1) (numbered offers)) ≡ take_octets d row cycle (taken_by d row cycle (take place (numbered offers))) x
+CountersGoOn = (d : Domain) (row : Row) (cycle index : ℕ) (offers : List Offer) (x : Offered) → slice_get (numbered offers) index ≡ Some x →
+    taken_by d row cycle (take (index + 1) (numbered offers)) ≡ take_octets d row cycle (taken_by d row cycle (take index (numbered offers))) x
 
 -- and before the first offer of a cycle nothing is taken in it
 abbrev pub CountersBegin : Type 0
-CountersBegin = (d : Domain) (row : Row) (cycle place : ℕ) (offers : List Offer) →
-    ((y : Offered) → Contains (take place (numbered offers)) y → offer_cycle d y < cycle) → taken_by d row cycle (take place (numbered offers)) ≡ 0
+CountersBegin = (d : Domain) (row : Row) (cycle index : ℕ) (offers : List Offer) →
+    ((y : Offered) → Contains (take index (numbered offers)) y → offer_cycle d y < cycle) → taken_by d row cycle (take index (numbered offers)) ≡ 0
 
 -- an offer's step for the row in force: if the row's tree begins at the offer's bridge, and at least the offer's octets are left,
 -- they are used

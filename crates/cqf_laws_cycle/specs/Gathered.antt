@@ -13,7 +13,7 @@ use Rattle.cqf_model.specs.Book.{drop_by, drops_in}
 use Rattle.cqf_model.specs.Domain.{Domain, bridge_of, cycle_of, enters, leaves}
 use Rattle.cqf_model.specs.Network.{backed_frame, backed_in, numbered_background}
 use Rattle.cqf_model.specs.Run.{Run}
-use Rattle.cqf_model.specs.Traffic.{Carried, Policed, Received, is_offered_at, numbered, offer_received, sent_received, whole_at}
+use Rattle.cqf_model.specs.Policing.{Carried, Policed, Received, is_offered_at, numbered, offer_received, sent_received, whole_at}
 use Rattle.cqf_laws_cycle.specs.BridgeCycle.{policed_in, received_in}
 
 -- `sorted` is `gathered` in order of a key, by a stable sort

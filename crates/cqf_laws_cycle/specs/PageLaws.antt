@@ -10,7 +10,7 @@ use Rattle.cqf_model.specs.declared.topology.Row.{Row}
 use Rattle.cqf_model.specs.Book.{Contents, IsBook, background_in, background_of, drops_in, drops_of, page_drops, page_of, page_starts, starts_in, starts_of}
 use Rattle.cqf_model.specs.Domain.{Domain, IsAccepted, bridge_of, leaves}
 use Rattle.cqf_model.specs.GateList.{Entry}
-use Rattle.cqf_model.specs.Traffic.{Carried, Policed}
+use Rattle.cqf_model.specs.Policing.{Carried, Policed}
 
 -- what is on the links that leave a bridge, by link
 abbrev pub on_links_of : Domain → ℕ → (ℕ → List Started) → List Started
@@ -28,8 +28,8 @@ PageSaysTheBackground = (d : Domain) (cycles : ℕ) (backed : ℕ → List Start
 
 -- and what is dropped at the bridge in it
 abbrev pub PageSaysWhatIsDropped : Type 0
-PageSaysWhatIsDropped = (d : Domain) (cycles places : ℕ) (policed : ℕ → List Policed) (bridge cycle : ℕ) →
-    bridge < length d.bridges → cycle < cycles → page_drops bridge cycle (drops_of d cycles places policed) ≡ drops_in d places policed cycle bridge
+PageSaysWhatIsDropped = (d : Domain) (cycles indices : ℕ) (policed : ℕ → List Policed) (bridge cycle : ℕ) →
+    bridge < length d.bridges → cycle < cycles → page_drops bridge cycle (drops_of d cycles indices policed) ≡ drops_in d indices policed cycle bridge
 
 -- whether a start is on a link
 abbrev pub is_on_link : ℕ → Started → Bool

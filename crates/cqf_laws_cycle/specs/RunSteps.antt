@@ -7,7 +7,7 @@ use Rattle.cqf_model.specs.Book.{backed_batch, batch}
 use Rattle.cqf_model.specs.GateList.{Entry}
 use Rattle.cqf_model.specs.Network.{IsLegalNetwork, IsLoss, IsLost, Network, Sends, comes_before, compiled_lists}
 use Rattle.cqf_model.specs.Run.{Run}
-use Rattle.cqf_model.specs.Traffic.{Carried, Policed, policed_before}
+use Rattle.cqf_model.specs.Policing.{Carried, Policed, policed_before}
 use Rattle.cqf_laws_network.specs.NetworkLaws.{HaveTheSameTables, IsShorter, with_tables}
 use Rattle.cqf_laws_cycle.specs.BridgeCycle.{IsCompiledNetwork, policed_of}
 use Rattle.cqf_laws_cycle.specs.PortCycle.{waits_in}

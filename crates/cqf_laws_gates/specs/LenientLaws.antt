@@ -11,7 +11,7 @@ use Rattle.cqf_model.specs.Loose.{IsAcceptedWith, IsLooseNetwork, Slack}
 use Rattle.cqf_model.specs.Network.{IsNetworkBy, Network, compiled_lists}
 use Rattle.cqf_model.specs.Promise.{MeansTheShiftAs}
 use Rattle.cqf_model.specs.Run.{AreBackground, AreOffers, Run, end_of_run}
-use Rattle.cqf_model.specs.Traffic.{Carried, policed_before}
+use Rattle.cqf_model.specs.Policing.{Carried, policed_before}
 use Rattle.cqf_laws_shift.specs.Alone.{IsPlanned}
 use Rattle.cqf_laws_shift.specs.Heard.{AreHeard}
 use Rattle.cqf_laws_gates.specs.InnerGates.{AreLenient, HaveRoom, InnerGates, InnerLimits, IsBookWith, IsLooseNetworkWith, IsNetworkWith}

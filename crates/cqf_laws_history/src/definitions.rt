@@ -7,7 +7,7 @@
 //! - Frames at a bridge: [`verdicts_have_their_reason`], [`queued_frames_leave_their_bridge`],
 //!   [`frames_go_to_each_port`], [`relayed_frames_are_queued_or_lost`].
 //! - Streams and tables: [`trees_say_where_streams_go`], [`streams_let_go_in_time`], [`closed_tables_stay`].
-//! - Background frames: [`background_is_told`].
+//! - Background frames: [`background_is_reported`].
 //! - Times: [`delay_counts`].
 //! - Paces and limits by an example: [`second_stream_is_judged`].
 //!
@@ -16,7 +16,7 @@
 //! cqf_laws_history::verdicts_have_their_reason();
 //! ```
 
-ghost use Rattle.cqf_laws_history.specs.BackgroundLaws.{BackgroundIsNumberedByPlace, BooksSayTheBackground, PortsSayTheirBackground};
+ghost use Rattle.cqf_laws_history.specs.BackgroundLaws.{BackgroundIsNumberedByIndex, BooksSayTheBackground, PortsSayTheirBackground};
 ghost use Rattle.cqf_laws_history.specs.Example.{IsSaidOfTheSecond};
 ghost use Rattle.cqf_laws_history.specs.TableLaws.{
   WithdrawnIsHeldForItsTree,
@@ -40,7 +40,7 @@ ghost use Rattle.cqf_laws_history.specs.TreeLaws.{
   FramesGoOnWhereALinkLeaves,
   GatesStandWhereLinksLeave,
   OneGateABridge,
-  ResidenceIsTheGreatestDepth,
+  ResidenceIsTheGreatestHopNumber,
   StreamsCostOnceALink,
   StreamsCostNothingElsewhere,
 };
@@ -83,7 +83,7 @@ pub fn trees_say_where_streams_go()
     ensures bridges { FramesGoOnWhereALinkLeaves }
     ensures gates { GatesStandWhereLinksLeave }
     ensures one_gate { OneGateABridge }
-    ensures deepest { ResidenceIsTheGreatestDepth }
+    ensures greatest_hop_number { ResidenceIsTheGreatestHopNumber }
     ensures costs { StreamsCostOnceALink }
     ensures costs_nothing { StreamsCostNothingElsewhere }
 {}
@@ -114,8 +114,8 @@ pub fn delay_counts()
 ///
 /// Among the frames that a port starts, exactly those of no stream are its background frames. A book has every background frame
 /// that the links send in the run, with its cycle, link, number, octets and instant.
-pub fn background_is_told()
-    ensures numbers { BackgroundIsNumberedByPlace }
+pub fn background_is_reported()
+    ensures numbers { BackgroundIsNumberedByIndex }
     ensures ports { PortsSayTheirBackground }
     ensures books { BooksSayTheBackground }
 {}

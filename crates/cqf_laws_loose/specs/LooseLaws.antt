@@ -15,7 +15,7 @@ use Rattle.cqf_model.specs.HistoryBook.{run_of_history}
 use Rattle.cqf_model.specs.Run.{AreBackground, AreOffers, Run}
 use Rattle.cqf_model.specs.Shift.{InShift}
 use Rattle.cqf_model.specs.Table.{AreOrderly, link_cost, table_of}
-use Rattle.cqf_model.specs.Traffic.{Carried, whole_at}
+use Rattle.cqf_model.specs.Policing.{Carried, whole_at}
 use Rattle.cqf_laws_shift.specs.Run.{IsLegalRun, with_background}
 use Rattle.cqf_laws_loose.specs.LooseRuns.{IsLooseRun, IsTransit, heard_by}
 
@@ -52,12 +52,12 @@ pub record IsWholeAbout (d : Domain) (slack : Slack) (link cycle cost whole : �
   pub some_cost : 84 ≤ cost
 
 -- so the latency, from the offer by the edge bridge's clock to the frame's full arrival by the clock at the link's end, has these
--- bounds. It is at least (depth - 1) cycle times and 1, plus the time of a shortest frame and the least delay, minus the clocks'
--- difference. It is at most depth cycle times, plus the time of the held cost without the last gap, plus the greatest delay, plus
+-- bounds. It is at least (hop number - 1) cycle times and 1, plus the time of a shortest frame and the least delay, minus the clocks'
+-- difference. It is at most as many cycle times as the hop number, plus the time of the held cost without the last gap, plus the greatest delay, plus
 -- the clocks' difference
-pub record IsLatencyAbout (d : Domain) (slack : Slack) (link depth cost at whole : ℕ) : Type 0 where
-  pub least : at + depth * d.cycle_time + 1 + time_of 72 (octet_time_of d link) + slack.least link ≤ whole + d.cycle_time + slack.sync
-  pub most : whole + gap_of d link ≤ at + depth * d.cycle_time + span_of cost (octet_time_of d link) + delay_of d link + slack.sync
+pub record IsLatencyAbout (d : Domain) (slack : Slack) (link hop_number cost at whole : ℕ) : Type 0 where
+  pub least : at + hop_number * d.cycle_time + 1 + time_of 72 (octet_time_of d link) + slack.least link ≤ whole + d.cycle_time + slack.sync
+  pub most : whole + gap_of d link ≤ at + hop_number * d.cycle_time + span_of cost (octet_time_of d link) + delay_of d link + slack.sync
 
 -- this holds for each frame that a link sends, by the table of the cycle in which it was queued
 abbrev pub LooseFramesAreTimely : Type 0
@@ -70,7 +70,7 @@ abbrev pub LooseLatencyIsWithin : Type 0
 LooseLatencyIsWithin = (run : Run) (slack : Slack) (net : Network) (heard : Carried) (link before : ℕ) (sent h : Sent) → IsLooseRun run slack net heard →
     Contains (net.carried link) sent → Contains (heard link) h → h.frame ≡ sent.frame → cycle_of run.domain sent.start.0 ≡ before + 1 →
     (shift : InShift run (length run.tables) sent.frame link (cycle_of run.domain sent.start.0)) →
-    IsLatencyAbout run.domain slack link shift.depth (link_cost (table_of run.tables before) link (before + 1)) shift.x.offer.at.0 (whole_at run.domain link h)
+    IsLatencyAbout run.domain slack link shift.hop_number (link_cost (table_of run.tables before) link (before + 1)) shift.x.offer.at.0 (whole_at run.domain link h)
 
 -- for any way in which frames can arrive within the bounds, there is a network in which they arrive so
 abbrev pub LooseNetworkExists : Type 0

@@ -11,7 +11,7 @@ use Rattle.cqf_model.specs.GateList.{Entry}
 use Rattle.cqf_model.specs.Network.{IsLegalNetwork, Network, QueuedFrame, Sends, comes_before}
 use Rattle.cqf_model.specs.Run.{Run}
 use Rattle.cqf_model.specs.Table.{table_of}
-use Rattle.cqf_model.specs.Traffic.{Carried, policed_before}
+use Rattle.cqf_model.specs.Policing.{Carried, policed_before}
 
 -- a domain can always continue: some network is legal, regardless of the gate lists, tables, offers and background frames
 abbrev pub LegalNetworkExists : Type 0

@@ -31,7 +31,7 @@ use Rattle.cqf_model.specs.Promise.{IsDecided}
 use Rattle.cqf_model.specs.Run.{Run}
 use Rattle.cqf_model.specs.Shift.{IsCovered, offer_cycle, offers_at, offers_before, taken_by}
 use Rattle.cqf_model.specs.Table.{AreOrderly, begins_at, is_live, reserved_in, row_named, table_of}
-use Rattle.cqf_model.specs.Traffic.{DroppedFor, ExceedsGate, LacksRow, Queued, Verdict, edge_verdict, is_offered_at, numbered, offer_received}
+use Rattle.cqf_model.specs.Policing.{DroppedFor, ExceedsGate, LacksRow, Queued, Verdict, edge_verdict, is_offered_at, numbered, offer_received}
 use Rattle.cqf_laws_cycle.specs.Gathered.{is_offered_in, offered_for}
 use Rattle.cqf_laws_cycle.proofs.Gathering.{picked_then}
 use Rattle.cqf_laws_shift.specs.Edge.{IsCoveredIn, TakenIsCovered}
@@ -39,7 +39,7 @@ use Rattle.cqf_laws_shift.proofs.Came.{numbers_ascend, one_number}
 use Rattle.cqf_laws_shift.proofs.Decided.{covered_judged, is_decided, judged, judged_queued, smaller_before, uncovered_judged}
 use Rattle.cqf_laws_shift.proofs.Trees.{one_beginning}
 use Rattle.cqf_laws_instants.specs.QueueLaws.{CoveringCovers, covering}
-use Rattle.cqf_relay.specs.Offering.{Going, covered_behind, dropped_behind, going_by, octets_of, verdict_with}
+use Rattle.cqf_relay.specs.Offering.{Going, covered_after, dropped_after, going_by, octets_of, verdict_with}
 use Rattle.cqf_laws_relay.specs.Following.{KeptAreCovered, covered_of, going_with}
 
 -- lists that equal two permuted lists are permuted
@@ -115,9 +115,9 @@ abbrev pub NumbersDiffer : Offered → Offered → Type 0
 NumbersDiffer a b = a.frame ≡ b.frame → ⊥
 
 -- in order of instant, then index, an offer follows the offers before it
-stands_behind : (offers : List Offer) (x : Offered) (n : ℕ) → Contains (numbered offers) x → x.offer.at.0 < n → (after : List Offered) ×
+stands_after : (offers : List Offer) (x : Offered) (n : ℕ) → Contains (numbered offers) x → x.offer.at.0 < n → (after : List Offered) ×
     (each_below (offers_at offers) n ≡ offers_before offers x ++ (x ∷ after))
-stands_behind offers x n inside early =
+stands_after offers x n inside early =
     let t = x.offer.at.0 in
     let here : Offered → Bool = λ y. y.offer.at.0 == t in
     let rest = parted_below (offers_at offers) t n early in
@@ -249,14 +249,14 @@ module _ (d : Domain) (offers : List Offer) (bridge cycle : ℕ) where
   before_is before x after parts =
       let test = is_offered_in d bridge cycle in
       let o = offer_of x (subst (λ (xs : List Offered). Contains xs x) (sym parts) (Contains-append_right before (x ∷ after) x (contains_here x after))) in
-      let behind = stands_behind offers x (cycle * d.cycle_time + d.cycle_time) o.inside o.upto in
-      let kept : filter test (offers_before offers x ++ (x ∷ behind.0)) ≡ filter test (offers_before offers x) ++ (x ∷ filter test behind.0) =
-      filter-append test (offers_before offers x) (x ∷ behind.0)
+      let following = stands_after offers x (cycle * d.cycle_time + d.cycle_time) o.inside o.upto in
+      let kept : filter test (offers_before offers x ++ (x ∷ following.0)) ≡ filter test (offers_before offers x) ++ (x ∷ filter test following.0) =
+      filter-append test (offers_before offers x) (x ∷ following.0)
       ∙ ap (λ (xs : List Offered). filter test (offers_before offers x) ++ xs)
-      (cond-true (test x) (x ∷ filter test behind.0) (filter test behind.0) (passes x o.here o.when)) in
-      one_parting NumbersDiffer x before (filter test (offers_before offers x)) after (filter test behind.0)
+      (cond-true (test x) (x ∷ filter test following.0) (filter test following.0) (passes x o.here o.when)) in
+      one_parting NumbersDiffer x before (filter test (offers_before offers x)) after (filter test following.0)
       (subst (λ (xs : List Offered). AllPairs NumbersDiffer xs) parts offers_differ) (λ differ. differ refl)
-      (sym parts ∙ offered_of_all ∙ ap (filter test) behind.1 ∙ kept)
+      (sym parts ∙ offered_of_all ∙ ap (filter test) following.1 ∙ kept)
 
 -- the octets that an offer uses of a row by its verdict
 abbrev takes : ℕ → ℕ → Verdict → ℕ
@@ -387,23 +387,23 @@ module _ (counted : TakenIsCovered) (run : Run) (orderly : AreOrderly run.domain
 
   -- those that are kept are those that go on by the run's verdicts
   pub kept_by_verdicts : (before after : List Offered) → offered ≡ before ++ after →
-      covered_behind run.domain bridge cycle table (flat_map goes before) after ≡ flat_map goes after
+      covered_after run.domain bridge cycle table (flat_map goes before) after ≡ flat_map goes after
   kept_by_verdicts before [] parts = refl
   kept_by_verdicts before (x ∷ after) parts =
       let earlier = flat_map goes before in
-      ap (λ (v : Verdict). going_by x v ++ covered_behind run.domain bridge cycle table (earlier ++ going_by x v) after) (verdict_is before x after parts)
-      ∙ ap (λ (gs : List Going). goes x ++ covered_behind run.domain bridge cycle table gs after) (flat_map_more goes [] before x)
+      ap (λ (v : Verdict). going_by x v ++ covered_after run.domain bridge cycle table (earlier ++ going_by x v) after) (verdict_is before x after parts)
+      ∙ ap (λ (gs : List Going). goes x ++ covered_after run.domain bridge cycle table gs after) (flat_map_more goes [] before x)
       ∙ ap (λ (gs : List Going). goes x ++ gs) (kept_by_verdicts (before ++ x ∷ []) after (parts ∙ sym (append_assoc before (x ∷ []) after)))
 
   -- and those that are dropped are the drops of the run's verdicts
   pub dropped_by_verdicts : (before after : List Offered) → offered ≡ before ++ after →
-      dropped_behind run.domain bridge cycle table (flat_map goes before) after ≡ flat_map drops after
+      dropped_after run.domain bridge cycle table (flat_map goes before) after ≡ flat_map drops after
   dropped_by_verdicts before [] parts = refl
   dropped_by_verdicts before (x ∷ after) parts =
       let earlier = flat_map goes before in
-      ap (λ (v : Verdict). drop_by cycle bridge (offer_received x) v ++ dropped_behind run.domain bridge cycle table (earlier ++ going_by x v) after)
+      ap (λ (v : Verdict). drop_by cycle bridge (offer_received x) v ++ dropped_after run.domain bridge cycle table (earlier ++ going_by x v) after)
       (verdict_is before x after parts)
-      ∙ ap (λ (gs : List Going). drops x ++ dropped_behind run.domain bridge cycle table gs after) (flat_map_more goes [] before x)
+      ∙ ap (λ (gs : List Going). drops x ++ dropped_after run.domain bridge cycle table gs after) (flat_map_more goes [] before x)
       ∙ ap (λ (xs : List Dropped). drops x ++ xs) (dropped_by_verdicts (before ++ x ∷ []) after (parts ∙ sym (append_assoc before (x ∷ []) after)))
 
 -- what goes on by a decided verdict goes on by the row that covers it
@@ -425,7 +425,7 @@ going_covered covers run x ExceedsGate never = absurd never
 pub kept_are_covered : TakenIsCovered → CoveringCovers → KeptAreCovered
 kept_are_covered counted covers run net bridge cycle legal within =
     permuted_as (flat_map row_with (each_below (λ offset. filter (at offset) mine) d.cycle_time)) (covered_of run bridge cycle)
-    (covered_behind d bridge cycle (table_of run.tables cycle) [] list) (covered_of run bridge cycle)
+    (covered_after d bridge cycle (table_of run.tables cycle) [] list) (covered_of run bridge cycle)
     (kept_by_verdicts counted run legal.orderly bridge cycle [] list refl
     ∙ flat_map_same (λ (x : Offered). going_by x (judged run x)) row_with list
     (λ x c. going_covered covers run x (judged run x) (is_decided run x (offer_of d run.offers bridge cycle x c).inside))

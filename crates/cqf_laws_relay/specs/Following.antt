@@ -11,13 +11,13 @@ use Rattle.cqf_model.specs.History.{IsLegalHistory, Recorded, seals, tables_of}
 use Rattle.cqf_model.specs.Network.{Network}
 use Rattle.cqf_model.specs.Run.{Run}
 use Rattle.cqf_model.specs.Table.{table_of}
-use Rattle.cqf_model.specs.Traffic.{Received, numbered, offer_received, policed_before}
+use Rattle.cqf_model.specs.Policing.{Received, numbered, offer_received, policed_before}
 use Rattle.cqf_laws_shift.specs.Run.{IsLegalRun}
 use Rattle.cqf_laws_cycle.specs.Gathered.{is_offered_in, offered_for}
 use Rattle.cqf_laws_instants.specs.QueueLaws.{covering}
 use Rattle.cqf_relay.specs.Segments.{Sendings, batch_at, came_in}
 use Rattle.cqf_relay.specs.Logs.{is_in}
-use Rattle.cqf_relay.specs.Offering.{Going, covered_behind, dropped_behind}
+use Rattle.cqf_relay.specs.Offering.{Going, covered_after, dropped_after}
 use Rattle.cqf_relay.specs.Standing.{Come, HasGoneOnBy, MayBeTables, offers_in}
 
 -- everything of a run has arrived at a bridge: each table, the bridge's offers, and what each link that ends there has sent
@@ -54,13 +54,13 @@ covered_of run bridge cycle = flat_map (λ (x : Offered). going_with (offer_rece
 -- the offers that a bridge keeps, judging one after the other, are these
 abbrev pub KeptAreCovered : Type 0
 KeptAreCovered = (run : Run) (net : Network) (bridge cycle : ℕ) → IsLegalRun run net → cycle < length run.tables →
-    IsPermutation (covered_behind run.domain bridge cycle (table_of run.tables cycle) [] (offered_for run.domain run.offers bridge cycle))
+    IsPermutation (covered_after run.domain bridge cycle (table_of run.tables cycle) [] (offered_for run.domain run.offers bridge cycle))
     (covered_of run bridge cycle)
 
 -- and the offers that it drops, by frame, are the run's drops there
 abbrev pub DroppedAreTheRuns : Type 0
 DroppedAreTheRuns = (run : Run) (net : Network) (bridge cycle : ℕ) (fresh : List Dropped) → IsLegalRun run net → cycle < length run.tables →
-    IsPermutation (dropped_behind run.domain bridge cycle (table_of run.tables cycle) [] (offered_for run.domain run.offers bridge cycle)) fresh →
+    IsPermutation (dropped_after run.domain bridge cycle (table_of run.tables cycle) [] (offered_for run.domain run.offers bridge cycle)) fresh →
     IsNonDecreasingBy (λ (x : Dropped). x.frame) fresh →
     fresh ≡ drops_in run.domain (length run.offers) (λ b. policed_before run net.carried b (length run.tables * run.domain.cycle_time)) cycle bridge
 

@@ -10,7 +10,7 @@ use Rattle.cqf_model.specs.Domain.{Domain, leaves}
 use Rattle.cqf_model.specs.Network.{Network}
 use Rattle.cqf_model.specs.Run.{Run}
 use Rattle.cqf_model.specs.Table.{table_of}
-use Rattle.cqf_model.specs.Traffic.{policed_before}
+use Rattle.cqf_model.specs.Policing.{policed_before}
 use Rattle.cqf_laws_shift.specs.Run.{IsLegalRun}
 use Rattle.cqf_laws_cycle.specs.Gathered.{offered_for}
 use Rattle.cqf_trace.specs.declared.bridge_trace.BridgeTrace.{BridgeTrace}
@@ -19,7 +19,7 @@ use Rattle.cqf_trace.specs.declared.traces.Traces.{Traces}
 use Rattle.cqf_trace.specs.BridgeTraces.{AreGatheredFrom, links_leaving}
 use Rattle.cqf_trace.specs.Traces.{AreTracesOf, background_at, drops_at, first_links, is_at_bridge, links_of, mark_of_sent, mark_of_start, starts_at}
 use Rattle.cqf_relay.specs.Segments.{Sendings}
-use Rattle.cqf_relay.specs.Offering.{dropped_behind}
+use Rattle.cqf_relay.specs.Offering.{dropped_after}
 use Rattle.cqf_relay.specs.Standing.{Come}
 use Rattle.cqf_laws_relay.specs.Following.{HaveGone}
 
@@ -32,7 +32,7 @@ pub record HasTraced (run : Run) (sends : Sendings) (bridge : ℕ) (bridge_trace
   pub fresh : ℕ → List Dropped
   pub drops : bridge_trace.drops.items ≡ each_below fresh (length run.tables)
   pub are_drops : (cycle : ℕ) → cycle < length run.tables → IsPermutation
-      (dropped_behind run.domain bridge cycle (table_of run.tables cycle) [] (offered_for run.domain run.offers bridge cycle)) (fresh cycle)
+      (dropped_after run.domain bridge cycle (table_of run.tables cycle) [] (offered_for run.domain run.offers bridge cycle)) (fresh cycle)
   pub by_frame : (cycle : ℕ) → cycle < length run.tables → IsNonDecreasingBy (λ (x : Dropped). x.frame) (fresh cycle)
 
 -- the same for the bridge traces of all bridges

@@ -47,7 +47,7 @@ pub fn relays_follow_the_network()
 {
     cqf_laws_cycle::cycle_brings_its_batches();
     cqf_laws_shift::gates_mean_the_shift();
-    cqf_laws_instants::lane_is_queued();
+    cqf_laws_instants::gathered_is_queued();
     cqf_laws_instants::batch_is_due();
     cqf_laws_instants::queue_has_room();
     kept_are_covered();

@@ -12,7 +12,7 @@ use Rattle.cqf_model.specs.declared.topology.Row.{Row}
 use Rattle.cqf_model.specs.Domain.{Domain, is_text}
 use Rattle.cqf_lists.specs.Lists.{each_below}
 use Rattle.cqf_model.specs.Table.{begins_at, is_live, row_named, table_of}
-use Rattle.cqf_model.specs.Traffic.{numbered}
+use Rattle.cqf_model.specs.Policing.{numbered}
 use Rattle.cqf_model.specs.Shift.{claims, offer_cycle, offers_at, offers_before, take_octets, taken_by}
 use Rattle.cqf_laws_shift.specs.Edge.{IsCoveredIn, TakenIsCovered}
 use Rattle.cqf_lists.proofs.Members.{contains_here, contains_from_filter, find_member, parted_at}

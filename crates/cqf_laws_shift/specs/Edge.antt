@@ -4,9 +4,9 @@ use Rattle.cqf_model.specs.declared.frames.Offered.{Offered}
 use Rattle.cqf_model.specs.declared.topology.Row.{Row}
 use Rattle.cqf_model.specs.Domain.{Domain, cycle_of}
 use Rattle.cqf_model.specs.Run.{Run}
-use Rattle.cqf_model.specs.Table.{AreOrderly, depth_behind, is_live, reserved_in, table_of}
-use Rattle.cqf_model.specs.Traffic.{came_by, Carried, Received, Policed, Verdict, is_queued_of, numbered}
-use Rattle.cqf_model.specs.Traffic.{within_gate}
+use Rattle.cqf_model.specs.Table.{AreOrderly, hop_number_after, is_live, reserved_in, table_of}
+use Rattle.cqf_model.specs.Policing.{came_by, Carried, Received, Policed, Verdict, is_queued_of, numbered}
+use Rattle.cqf_model.specs.Policing.{within_gate}
 use Rattle.cqf_model.specs.Promise.{IsPolicedAs}
 use Rattle.cqf_model.specs.Shift.{IsCovered, offer_cycle, offers_before, taken_by}
 
@@ -20,7 +20,7 @@ octets_before d number cycle earlier =
 abbrev pub GateIsReservation : Type 0
 GateIsReservation = (d : Domain) (earlier : List Policed) (row : Row) (x : Received) → 0 < d.cycle_time →
     within_gate d earlier row x
-    ≡ nat_le (octets_before d row.no (cycle_of d x.at) earlier + x.octets) (reserved_in row (depth_behind row (came_by x.way)) (cycle_of d x.at))
+    ≡ nat_le (octets_before d row.no (cycle_of d x.at) earlier + x.octets) (reserved_in row (hop_number_after row (came_by x.ingress)) (cycle_of d x.at))
 
 -- at any bridge, regardless of what the links bring, the verdict on each offer before the end is what the reservations decide,
 -- including the reason

@@ -47,8 +47,8 @@ record StandApart {X : Type 0} (xs : List X) (a b : X) (gap : ℕ) : Type 0 wher
   pub second : slice_get xs late ≡ Some b
 
 -- the same with one more element before them
-behind_one : {X : Type 0} (x : X) (xs : List X) (a b : X) (gap : ℕ) → StandApart xs a b gap → StandApart (x ∷ xs) a b gap
-behind_one x xs a b gap r = record {
+after_one : {X : Type 0} (x : X) (xs : List X) (a b : X) (gap : ℕ) → StandApart xs a b gap → StandApart (x ∷ xs) a b gap
+after_one x xs a b gap r = record {
   early = suc r.early;
   late = suc r.late;
   ordered = omega (arith, r.ordered);
@@ -74,7 +74,7 @@ kept_apart p (x ∷ xs) zero k a b order e f = elim (cases_Bool (p x)) [
       }
   | inr u ↦
       let same = sym (cond-false (p x) (x ∷ filter p xs) (filter p xs) u) in
-      behind_one x xs a b (k - zero) (kept_apart p xs zero k a b order (ap (λ ys. slice_get ys 0) same ∙ e) (ap (λ ys. slice_get ys k) same ∙ f))
+      after_one x xs a b (k - zero) (kept_apart p xs zero k a b order (ap (λ ys. slice_get ys 0) same ∙ e) (ap (λ ys. slice_get ys k) same ∙ f))
 ]
 kept_apart p (x ∷ xs) (suc i) zero a b order e f = absurd (omega (arith, order))
 kept_apart p (x ∷ xs) (suc i) (suc k) a b order e f = elim (cases_Bool (p x)) [
@@ -91,7 +91,7 @@ kept_apart p (x ∷ xs) (suc i) (suc k) a b order e f = elim (cases_Bool (p x)) 
       }
   | inr u ↦
       let same = sym (cond-false (p x) (x ∷ filter p xs) (filter p xs) u) in
-      behind_one x xs a b (suc k - suc i)
+      after_one x xs a b (suc k - suc i)
       (kept_apart p xs (suc i) (suc k) a b order (ap (λ ys. slice_get ys (suc i)) same ∙ e) (ap (λ ys. slice_get ys (suc k)) same ∙ f))
 ]
 

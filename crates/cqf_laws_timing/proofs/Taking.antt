@@ -7,7 +7,7 @@ use Rattle.std.proofs.lemmas.Bool.{cond-true, ltb-true}
 use Rattle.std.proofs.lemmas.List.Sums.{sum_by-append, sum_by-cons}
 use Rattle.cqf_lists.specs.Lists.{each_below}
 use Rattle.cqf_lists.proofs.Members.{find_member}
-use Rattle.cqf_lists.proofs.Sums.{sum_by_keys, sum_filter, sum_le_members, sum_map, sum_member, sum_places, sum_plus}
+use Rattle.cqf_lists.proofs.Sums.{sum_by_keys, sum_filter, sum_indices, sum_le_members, sum_map, sum_member, sum_plus}
 use Rattle.cqf_model.specs.declared.frames.Offer.{Offer}
 use Rattle.cqf_model.specs.declared.frames.Offered.{Offered}
 use Rattle.cqf_model.specs.declared.topology.Row.{Row}
@@ -16,7 +16,7 @@ use Rattle.cqf_model.specs.Promise.{IsPolicedAs}
 use Rattle.cqf_model.specs.Run.{Run}
 use Rattle.cqf_model.specs.Shift.{IsCovered, claims, offer_cycle, offers_at, offers_before, take_octets}
 use Rattle.cqf_model.specs.Table.{AreOrderly, begins_at, is_live, reserved_in, row_named, table_of}
-use Rattle.cqf_model.specs.Traffic.{Carried, DroppedFor, ExceedsGate, LacksRow, Queued, Verdict, numbered}
+use Rattle.cqf_model.specs.Policing.{Carried, DroppedFor, ExceedsGate, LacksRow, Queued, Verdict, numbered}
 use Rattle.cqf_model.proofs.Texts.{is_text_same}
 use Rattle.cqf_laws_shift.specs.Edge.{EdgeIsCovered}
 use Rattle.cqf_laws_shift.proofs.Came.{one_number}
@@ -104,7 +104,7 @@ module _ (offers : List Offer) (x : Offered) (inside : Contains (numbered offers
 -- numbering changes no sum
 sum_numbered : (counts : Offer → ℕ) (offers : List Offer) → sum_by (λ (y : Offered). counts y.offer) (numbered offers) ≡ sum_by counts offers
 sum_numbered counts offers =
-    sum_map (λ (y : Offered). counts y.offer) (λ (e : ℕ × Offer). the_offered e) (enumerate_from 1 offers) ∙ sum_places counts 1 offers
+    sum_map (λ (y : Offered). counts y.offer) (λ (e : ℕ × Offer). the_offered e) (enumerate_from 1 offers) ∙ sum_indices counts 1 offers
   where
     -- an offer with its number
     the_offered : ℕ × Offer → Offered

@@ -9,7 +9,7 @@ use Rattle.cqf_model.specs.Promise.{IsPolicedAs}
 use Rattle.cqf_model.specs.Run.{Run}
 use Rattle.cqf_model.specs.Shift.{IsCovered, offer_cycle, row_for}
 use Rattle.cqf_model.specs.Table.{AreOrderly, begins_at, is_live, reserved_in, row_named, table_of}
-use Rattle.cqf_model.specs.Traffic.{Carried, Queued, numbered}
+use Rattle.cqf_model.specs.Policing.{Carried, Queued, numbered}
 use Rattle.cqf_laws_timing.specs.Traffic.{Conforms, IsTraffic, Traffic, needed, offers_named}
 
 -- an offer of the run names a stream that is live in its cycle, at the stream's first bridge: all that a covered offer has, except

@@ -65,8 +65,8 @@ RowsAreOfList = (d : Domain) (entries : List Recorded) (streams : List Asked) (c
 
 -- and no table costs more of a link than the whole list
 abbrev pub TablesCostNoMore : Type 0
-TablesCostNoMore = (d : Domain) (entries : List Recorded) (streams : List Asked) (cycles cycle link turn : ℕ) → IsLegalHistory d entries →
-    cycles ≤ seals entries → AdmitsOnly streams entries → link_cost (table_of (tables_of d entries cycles) cycle) link turn ≤ cost_of_all d streams link turn
+TablesCostNoMore = (d : Domain) (entries : List Recorded) (streams : List Asked) (cycles cycle link active_cycle : ℕ) → IsLegalHistory d entries →
+    cycles ≤ seals entries → AdmitsOnly streams entries → link_cost (table_of (tables_of d entries cycles) cycle) link active_cycle ≤ cost_of_all d streams link active_cycle
 
 -- the history after seat 0 requests streams in turn, and that none of these requests is refused
 abbrev pub with_all : Domain → List Recorded → List Asked → List Recorded
@@ -81,8 +81,8 @@ AreGranted d entries (asked ∷ more) =
 
 -- if they are all admitted before cycle 0, they cost what the table of cycle 0 costs
 abbrev pub ListCostsItsTable : Type 0
-ListCostsItsTable = (d : Domain) (streams : List Asked) (link turn : ℕ) → AreGranted d [] streams →
-    link_cost (held_in d (with_all d [] streams) 0) link turn ≡ cost_of_all d streams link turn
+ListCostsItsTable = (d : Domain) (streams : List Asked) (link active_cycle : ℕ) → AreGranted d [] streams →
+    link_cost (held_in d (with_all d [] streams) 0) link active_cycle ≡ cost_of_all d streams link active_cycle
 
 -- and no two of them have the same name, so the stream of a name is the first of that name
 abbrev pub AdmittedHaveNames : Type 0
@@ -100,4 +100,4 @@ HistoryIsTimely =
     IsAccepted d → IsLegalHistory d entries → AreOffers d offers → AreBackground d background →
     IsBookOfHistory d entries offers background cycles book → AdmitsOnly streams entries → ArePaced streams → (s : Started) → Contains book.starts s →
     (shift : InShift (run_of_history d entries offers background cycles) (length (tables_of d entries cycles)) s.frame s.link s.cycle.0) →
-    (of : IsOfList d streams shift.row) × IsTimely d s.link shift.depth (most_beside_all d streams of.asked s.link) shift.x.offer.at.0 (whole_of d s)
+    (of : IsOfList d streams shift.row) × IsTimely d s.link shift.hop_number (most_beside_all d streams of.asked s.link) shift.x.offer.at.0 (whole_of d s)

@@ -24,8 +24,8 @@ sure_of least most deadline = if nat_le most deadline then InTime else (if nat_l
 
 -- for a stream and a link of this hop number, if these streams are admitted
 abbrev pub sure_on : Domain → List Asked → Asked → ℕ → ℕ → ℕ → Sure
-sure_on d streams asked link depth deadline =
-    sure_of (least_of d link depth) (most_of d link depth (most_beside_all d streams asked link)) deadline
+sure_on d streams asked link hop_number deadline =
+    sure_of (least_of d link hop_number) (most_of d link hop_number (most_beside_all d streams asked link)) deadline
 
 -- a frame that is offered at the instant `at` and has fully arrived at the instant `whole` is as the verdict says
 pub record IsAsSaid (at whole deadline : ℕ) (sure : Sure) : Type 0 where
@@ -40,4 +40,4 @@ VerdictsHold =
     IsBookOfHistory d entries offers background cycles book → AdmitsOnly streams entries → ArePaced streams → (s : Started) → Contains book.starts s →
     (shift : InShift (run_of_history d entries offers background cycles) (length (tables_of d entries cycles)) s.frame s.link s.cycle.0) →
     (of : IsOfList d streams shift.row) × ((deadline : ℕ) →
-    IsAsSaid shift.x.offer.at.0 (whole_of d s) deadline (sure_on d streams of.asked s.link shift.depth deadline))
+    IsAsSaid shift.x.offer.at.0 (whole_of d s) deadline (sure_on d streams of.asked s.link shift.hop_number deadline))

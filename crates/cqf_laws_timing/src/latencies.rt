@@ -2,7 +2,7 @@
 ghost use Rattle.cqf_laws_timing.specs.Latency.{BookIsTimely, BoundsAreShort, FramesAreWholeWithinHeld};
 ghost use Rattle.cqf_laws_timing.specs.Latency.{FramesAreWholeWithinQueued, LatencyIsWithinHeld};
 ghost use Rattle.cqf_laws_timing.specs.Latency.{StartsAreWholeWithinHeld};
-ghost use Rattle.cqf_laws_timing.specs.Listeners.{BranchesEnd, DepthsAreBridges};
+ghost use Rattle.cqf_laws_timing.specs.Listeners.{BranchesEnd, HopNumbersAreBridges};
 ghost use Rattle.cqf_laws_timing.specs.LooseStreams.{LooseHistoryIsInTime, LooseHistoryIsTimely, LooseVerdictsHold};
 ghost use Rattle.cqf_laws_timing.specs.Streams.{AdmitsOnlyGoesOn, AdmittedHaveNames, HistoryIsTimely};
 ghost use Rattle.cqf_laws_timing.specs.Streams.{ListCostsItsTable, NoneAdmitsOnly, OneOfAName, RowsAreOfList};
@@ -78,7 +78,7 @@ pub fn loose_history_is_timely()
 /// the hop number of that link is the number of bridges on the path.
 pub fn branches_end_at_listeners()
     ensures ends { BranchesEnd }
-    ensures depths { DepthsAreBridges }
+    ensures hop_numbers { HopNumbersAreBridges }
 {
     cqf_laws_history::granted_is_a_tree();
 }

@@ -9,7 +9,7 @@
 //! - What a conforming talker sends is covered, and in time ([`conforming_offers_fit_a_cycle`], [`conforming_stream_is_covered`],
 //!   [`conforming_stream_is_in_time`]), in loose networks too ([`conforming_stream_is_heard_in_time`]).
 //! - What is reported for a plan's streams holds for the frames of each stream ([`histories_admit_only`],
-//!   [`told_of_streams_holds`]).
+//!   [`reported_bounds_hold`]).
 //!
 //! ```
 //! // from here on, a proof knows that a conforming talker loses nothing
@@ -18,15 +18,15 @@
 #![tactic(auto)]
 
 mod latencies;
+mod reported_plans;
 mod talkers;
-mod told_plans;
 
 pub use latencies::{
     branches_end_at_listeners, frames_are_timely, lists_bound_costs, lists_bound_latencies,
     loose_history_is_timely,
 };
+pub use reported_plans::{histories_admit_only, reported_bounds_hold};
 pub use talkers::{
     conforming_offers_fit_a_cycle, conforming_stream_is_covered,
     conforming_stream_is_heard_in_time, conforming_stream_is_in_time,
 };
-pub use told_plans::{histories_admit_only, told_of_streams_holds};

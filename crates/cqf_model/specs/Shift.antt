@@ -11,7 +11,7 @@ use Rattle.cqf_model.specs.declared.topology.Row.{Row}
 use Rattle.cqf_model.specs.Domain.{Domain, cycle_of, is_text}
 use Rattle.cqf_model.specs.Run.{Run}
 use Rattle.cqf_model.specs.Table.{IsHop, begins_at, is_live, reserved_in, row_named, table_of}
-use Rattle.cqf_model.specs.Traffic.{numbered}
+use Rattle.cqf_model.specs.Policing.{numbered}
 
 -- the offers at an instant, in order of number
 abbrev pub offers_at : List Offer → ℕ → List Offered
@@ -92,9 +92,9 @@ pub record IsUncovered (run : Run) (x : Offered) (reason : Reason) : Type 0 wher
 pub record InShift (run : Run) (cycles frame link cycle : ℕ) : Type 0 where
   pub x : Offered
   pub row : Row
-  pub depth : ℕ
+  pub hop_number : ℕ
   pub covered : IsCovered run x row
   pub is_frame : frame ≡ x.frame
-  pub is_hop : IsHop row depth link
-  pub is_cycle : cycle ≡ offer_cycle run.domain x + depth
+  pub is_hop : IsHop row hop_number link
+  pub is_cycle : cycle ≡ offer_cycle run.domain x + hop_number
   pub within_run : cycle < cycles

@@ -1,17 +1,17 @@
 //! What a row says about its stream: the cycles in which it is live and held, and its tree.
 ghost use Rattle.std.specs.Prelude.{◌≡◌, ◌<◌, ◌==◌, ◌&&◌, ◌+◌, nat_lt, IfOk};
 ghost use Rattle.std.specs.List.{list_any};
-ghost use Rattle.cqf_model.specs.Table.{crosses, goes_to, is_held, is_live, residence, same_way};
+ghost use Rattle.cqf_model.specs.Table.{crosses, goes_to, is_held, is_live, residence, same_ingress};
 
 use crate::{Hop, Row};
 use cqf_units::{Cycle, Memory};
 use std::alloc::Global;
 
-/// Returns whether two ways are the same: both from the edge, or both by the same link.
-fn is_same_way(from: Option<u16>, way: Option<u16>) -> bool
-    ensures { result ≡ same_way from way }
+/// Returns whether two ingresses are the same: both from the edge, or both by the same link.
+fn is_same_ingress(from: Option<u16>, ingress: Option<u16>) -> bool
+    ensures { result ≡ same_ingress from ingress }
 {
-    match (from, way) {
+    match (from, ingress) {
         (None, None) => true,
         (Some(link), Some(other)) => link == other,
         _ => false,
@@ -26,11 +26,10 @@ fn has_link(hops: &[Hop], link: u16) -> bool
 }
 
 /// Returns whether one of the hops leads on by the link from this way.
-fn leads_on(hops: &[Hop], way: Option<u16>, link: u16) -> bool
-    ensures { result ≡ list_any (λ hop. same_way hop.from way && (hop.link == link)) hops.now }
+fn leads_on(hops: &[Hop], ingress: Option<u16>, link: u16) -> bool
+    ensures { result ≡ list_any (λ hop. same_ingress hop.from ingress && (hop.link == link)) hops.now }
 {
-    hops.iter()
-        .any(|hop| is_same_way(hop.from, way) && hop.link == link)
+    hops.iter().any(|hop| is_same_ingress(hop.from, ingress) && hop.link == link)
 }
 
 /// Returns whether a cycle is before the given number of cycles after an end.
@@ -70,7 +69,7 @@ impl Row {
     {
         let mut most = 0;
         for hop in self.tree.as_slice() {
-            most = most.max(hop.depth);
+            most = most.max(hop.hop_number);
         }
         most
     }
@@ -82,11 +81,11 @@ impl Row {
         has_link(self.tree.as_slice(), link)
     }
 
-    /// Returns whether a frame goes on by the link, from the edge, for which `way` is `None`, or from the link that it came by.
-    pub fn goes_on_by(&self, way: Option<u16>, link: u16) -> bool
-        ensures { result ≡ list_any (λ next. next == link) (goes_to self.now way) }
+    /// Returns whether a frame goes on by the link, from the edge, for which `ingress` is `None`, or from the link that it came by.
+    pub fn goes_on_by(&self, ingress: Option<u16>, link: u16) -> bool
+        ensures { result ≡ list_any (λ next. next == link) (goes_to self.now ingress) }
     {
-        leads_on(self.tree.as_slice(), way, link)
+        leads_on(self.tree.as_slice(), ingress, link)
     }
 
     /// Returns a copy of the row, or `Memory` if an allocation fails.

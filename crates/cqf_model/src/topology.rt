@@ -43,7 +43,7 @@ pub struct Hop {
     /// The link's number.
     pub link: u16,
     /// The hop number, from 1: the number of links from the stream's first bridge to the link's end.
-    pub depth: u8,
+    pub hop_number: u8,
     /// The link before it, by which frames arrive at the bridge that this one leaves; `None` for hop number 1.
     pub from: Option<u16>,
 }

@@ -105,7 +105,7 @@ pairs_apart pairs none i j d before inside same =
       a = get_or pairs i d;
       b = get_or pairs j d;
       at_twin = slice_get-get_or pairs i d (omega (arith, before, inside));
-      at_place = slice_get-get_or pairs j d inside;
+      at_index = slice_get-get_or pairs j d inside;
       equal = same_pair_itself (get_or pairs i d) (get_or pairs j d) same;
     })
 

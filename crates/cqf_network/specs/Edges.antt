@@ -9,17 +9,17 @@ use Rattle.cqf_model.specs.declared.topology.Node.TheVariants.{Bridge, Station}
 use Rattle.cqf_model.specs.Domain.{node_or, same_node}
 use Rattle.cqf_topology.specs.declared.faults.DomainFault.TheVariants as domain
 use Rattle.cqf_topology.specs.declared.joined.End.{End}
-use Rattle.cqf_topology.specs.DomainText.{place_of, with_front}
+use Rattle.cqf_topology.specs.DomainText.{index_of, with_front}
 use Rattle.cqf_topology.specs.JoinedLink.{node_of}
 use Rattle.cqf_topology.specs.LinkTimes.{guard_within, has_long_delay as is_delay_long, has_long_gap as is_gap_long, has_long_sync as is_sync_long}
 use Rattle.cqf_topology.specs.declared.times.LinkTimes.{LinkTimes}
 use Rattle.cqf_network.specs.declared.draft.NetworkLink.{NetworkLink}
-use Rattle.cqf_network.specs.declared.draft.OneWay.{OneWay}
+use Rattle.cqf_network.specs.declared.draft.OneDirection.{OneDirection}
 use Rattle.cqf_network.specs.declared.faults.NetworkFault.{NetworkFault}
 use Rattle.cqf_network.specs.declared.faults.NetworkFault.TheVariants as fault
 
 -- a link in one direction, from a bridge or a station; how long the frames may be that its station sends beside streams, where the text says
--- it; and its element's place in the text
+-- it; and its element's index in the text
 pub record Edge : Type 0 where
   pub from : Node
   pub to : Node
@@ -29,7 +29,7 @@ pub record Edge : Type 0 where
 
 -- the node with a name: a bridge, or else a station
 abbrev pub end_named : List (List ℕ) → List (List ℕ) → List ℕ → Option Node
-end_named bridges stations name = node_or (place_of name bridges) (place_of name stations)
+end_named bridges stations name = node_or (index_of name bridges) (index_of name stations)
 
 -- whether a link can lead from one node to another: between two different bridges, or between a bridge and a station
 abbrev pub may_lead : Node → Node → Bool
@@ -39,13 +39,13 @@ may_lead (Station s) (Bridge b) = true
 may_lead (Station s) (Station t) = false
 
 -- a link in its written direction, with its ends found; otherwise the name that is no such end, as a fault
-abbrev pub joined_edge : List (List ℕ) → List (List ℕ) → ℕ → Option ℕ → OneWay → Result Edge NetworkFault
-joined_edge bridges stations element other way =
-    and_then (ok_or (end_named bridges stations way.from) (fault.Domain (domain.UnknownName way.from))) (λ from.
-    and_then (ok_or (end_named bridges stations way.to) (fault.Domain (domain.UnknownName way.to))) (λ to.
+abbrev pub joined_edge : List (List ℕ) → List (List ℕ) → ℕ → Option ℕ → OneDirection → Result Edge NetworkFault
+joined_edge bridges stations element other path =
+    and_then (ok_or (end_named bridges stations path.from) (fault.Domain (domain.UnknownName path.from))) (λ from.
+    and_then (ok_or (end_named bridges stations path.to) (fault.Domain (domain.UnknownName path.to))) (λ to.
     if may_lead from to
-    then Ok (record { from = from; to = to; times = way.times; other = other; element = element })
-    else Err (fault.Domain (domain.UnknownName way.to))))
+    then Ok (record { from = from; to = to; times = path.times; other = other; element = element })
+    else Err (fault.Domain (domain.UnknownName path.to))))
 
 -- whether a node is a station, and whether an edge is a talker's access link; the others begin at a bridge
 abbrev pub is_station : Node → Bool
@@ -63,12 +63,12 @@ abbrev pub without_other : Edge → Edge
 without_other edge = record { from = edge.from; to = edge.to; times = edge.times; other = None; element = edge.element }
 
 -- a link's directions, there before back: what its station may send beside streams belongs to the one that leaves the station
-abbrev pub both_ways : Edge → List Edge
-both_ways edge =
+abbrev pub both_directions : Edge → List Edge
+both_directions edge =
     if is_talkers (back_of edge) then without_other edge ∷ back_of edge ∷ [] else edge ∷ without_other (back_of edge) ∷ []
 
 abbrev pub edges_of : Bool → Edge → List Edge
-edges_of true edge = both_ways edge
+edges_of true edge = both_directions edge
 edges_of false edge = edge ∷ []
 
 -- the directions of each link of the text, its elements numbered from the given one; or the first fault
@@ -99,7 +99,7 @@ talkers_of edges = filter is_talkers edges
 
 -- the element of the edge at a place
 abbrev pub element_at : List Edge → ℕ → ℕ
-element_at edges place = option_map_or (λ (edge : Edge). edge.element) (slice_get edges place) 0
+element_at edges index = option_map_or (λ (edge : Edge). edge.element) (slice_get edges index) 0
 
 -- the element of the first edge whose ends are those of an earlier one
 abbrev pub first_twice : List Edge → Option ℕ

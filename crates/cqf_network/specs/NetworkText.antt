@@ -11,7 +11,7 @@ use Rattle.cqf_topology.specs.Fields.{are_tables, each_from, name_from, names_at
 use Rattle.cqf_topology.specs.DomainText.{domain_keys, if_some, link_keys, sync_from}
 use Rattle.cqf_topology.specs.LinkTimes.{times_read}
 use Rattle.cqf_network.specs.declared.draft.NetworkLink.{NetworkLink}
-use Rattle.cqf_network.specs.declared.draft.OneWay.{OneWay}
+use Rattle.cqf_network.specs.declared.draft.OneDirection.{OneDirection}
 use Rattle.cqf_network.specs.declared.faults.NetworkFault.{NetworkFault}
 use Rattle.cqf_network.specs.declared.faults.NetworkFault.TheVariants.{BadDuplex, BadOther}
 use Rattle.cqf_network.specs.Faults.{or_network, network_fault}
@@ -77,8 +77,8 @@ abbrev pub other_at : Members → Result (Option ℕ) NetworkFault
 other_at table = other_by (get_member (codes "other") table)
 
 -- a link's table: there, whether back, and what its station may send beside streams
-abbrev pub one_way_read : Members → Result OneWay TomlFault
-one_way_read table =
+abbrev pub one_direction_read : Members → Result OneDirection TomlFault
+one_direction_read table =
     and_then (read_at From name_from table) (λ from.
     and_then (read_at To name_from table) (λ to.
     and_then (times_read table) (λ times.
@@ -86,7 +86,7 @@ one_way_read table =
 
 abbrev pub link_read : Members → Result NetworkLink NetworkFault
 link_read table =
-    and_then (or_network (one_way_read table)) (λ there.
+    and_then (or_network (one_direction_read table)) (λ there.
     and_then (duplex_at table) (λ duplex.
     and_then (other_at table) (λ other.
     Ok (record { there = there; duplex = duplex; other = other }))))

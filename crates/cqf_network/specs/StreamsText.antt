@@ -19,8 +19,8 @@ use Rattle.cqf_traffic.specs.TrafficText.{TrafficText, first_owed, has_traffic}
 use Rattle.cqf_network.specs.declared.pacing.Pacing.{Pacing}
 use Rattle.cqf_network.specs.declared.pacing.Pacing.TheVariants.{Given, InStep}
 use Rattle.cqf_network.specs.declared.talkers.Talker.{Talker}
-use Rattle.cqf_network.specs.declared.wanted.WantedWay.{WantedWay}
-use Rattle.cqf_network.specs.declared.wanted.WantedWay.TheVariants as wanted
+use Rattle.cqf_network.specs.declared.wanted.WantedPath.{WantedPath}
+use Rattle.cqf_network.specs.declared.wanted.WantedPath.TheVariants as wanted
 use Rattle.cqf_network.specs.declared.streams.Stream.{Stream}
 
 -- the path that a stream is to take: along given branches, or from a talker or bridge to its listeners
@@ -34,14 +34,14 @@ pub record StreamText : Type 0 where
   pub name : List ℕ
   pub octets : Option ℕ
   pub pacing : Pacing
-  pub way : WantedText
+  pub path : WantedText
   pub talker : Option Talker
   pub listeners : Option (List (List ℕ))
   pub deadline : Option ℕ
   pub traffic : Option TrafficText
   pub shortest : Option ℕ
 
-abbrev pub wanted_text : WantedWay → WantedText
+abbrev pub wanted_text : WantedPath → WantedText
 wanted_text (wanted.Along paths) = Along (map (λ path. map string_bytes path.items) paths.items)
 wanted_text (wanted.Between from to) = Between from to.items
 
@@ -50,7 +50,7 @@ stream_text stream = record {
   name = string_bytes stream.name;
   octets = stream.octets;
   pacing = stream.pacing;
-  way = wanted_text stream.way;
+  path = wanted_text stream.path;
   talker = stream.talker;
   listeners = option_map (λ names. names.items) stream.listeners;
   deadline = stream.deadline;
@@ -166,7 +166,7 @@ abbrev pub shortest_read : Option TrafficText → Members → Result (Option ℕ
 shortest_read traffic table =
     shortest_by (get_member (codes "least-size") table) (option_map_or (λ (t : TrafficText). t.size) traffic 1522)
 
--- the way between its talker's node and its listeners
+-- the path between its talker's node and its listeners
 abbrev pub between_ends : Option Talker → Option (List (List ℕ)) → Result WantedText TomlFault
 between_ends None to = Err (toml_fault.BadValue From)
 between_ends (Some talker) None = Err (toml_fault.BadValue To)
@@ -176,10 +176,10 @@ between_ends (Some talker) (Some to) = Ok (Between talker.node to)
 abbrev pub branches_if : Members → Result (Option (List (List (List ℕ)))) TomlFault
 branches_if table = if has_path table then and_then (branches_from table) (λ paths. Ok (Some paths)) else Ok None
 
--- the way by the branches that are given, or else by the ends
-abbrev pub way_by : Option (List (List (List ℕ))) → Option Talker → Option (List (List ℕ)) → Result WantedText TomlFault
-way_by (Some paths) talker to = Ok (Along paths)
-way_by None talker to = between_ends talker to
+-- the path by the branches that are given, or else by the ends
+abbrev pub path_by : Option (List (List (List ℕ))) → Option Talker → Option (List (List ℕ)) → Result WantedText TomlFault
+path_by (Some paths) talker to = Ok (Along paths)
+path_by None talker to = between_ends talker to
 
 -- a stream's table; its traffic is read after its other keys
 abbrev pub stream_from : Members → Result StreamText FlowsFault
@@ -190,7 +190,7 @@ stream_from table =
     and_then (or_streams (branches_if table)) (λ paths.
     and_then (or_streams (talker_read table)) (λ talker.
     and_then (or_streams (listeners_read table)) (λ listeners.
-    and_then (or_streams (way_by paths talker listeners)) (λ way.
+    and_then (or_streams (path_by paths talker listeners)) (λ path.
     and_then (or_streams (deadline_from table)) (λ deadline.
     and_then (traffic_or table) (λ traffic.
     and_then (shortest_read traffic table) (λ shortest.
@@ -198,7 +198,7 @@ stream_from table =
       name = name;
       octets = octets;
       pacing = pacing;
-      way = way;
+      path = path;
       talker = talker;
       listeners = listeners;
       deadline = deadline;

@@ -31,17 +31,17 @@ pub(crate) fn find_twice(alloc: Global, edges: &[JoinedEdge]) -> Result<Option<u
 {
     let pairs = ends_of_all(alloc, edges)?;
     match find_repeat(alloc, pairs.as_slice())? {
-        Some(place) => Ok(element_at(edges, place)),
+        Some(index) => Ok(element_at(edges, index)),
         None => Ok(None),
     }
 }
 
 /// Returns the element of the link at an index.
-fn element_at(edges: &[JoinedEdge], place: usize) -> Option<usize>
-    requires { place < length edges.now }
-    ensures { result ≡ Some (element_at edges.now place) }
+fn element_at(edges: &[JoinedEdge], index: usize) -> Option<usize>
+    requires { index < length edges.now }
+    ensures { result ≡ Some (element_at edges.now index) }
 {
-    Some(edges[place].element())
+    Some(edges[index].element())
 }
 
 /// Whether a guard band is at least as long as each candidate.

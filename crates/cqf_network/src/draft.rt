@@ -6,7 +6,7 @@ ghost use Rattle.cqf_lists.specs.Results.{and_then};
 ghost use Rattle.cqf_topology.specs.Fields.{Gives, names_at, number_from};
 ghost use Rattle.cqf_topology.specs.DomainText.{if_some};
 ghost use Rattle.cqf_network.specs.Faults.{network_fault};
-ghost use Rattle.cqf_network.specs.NetworkText.{candidates_read, duplex_at, link_read, links_from, links_read, one_from, one_of_text, one_way_read, other_at};
+ghost use Rattle.cqf_network.specs.NetworkText.{candidates_read, duplex_at, link_read, links_from, links_read, one_direction_read, one_from, one_of_text, other_at};
 ghost use Rattle.cqf_network.specs.NetworkText.{draft_from, draft_of_text, network_with_cycles};
 
 use crate::NetworkFault;
@@ -24,7 +24,7 @@ use toml::{Table, Value};
 
 /// A link in one direction, by the names of its ends.
 #[derive(Debug, Drop)]
-pub struct OneWay {
+pub struct OneDirection {
     pub from: Name,
     pub to: Name,
     pub times: LinkTimes,
@@ -33,7 +33,7 @@ pub struct OneWay {
 /// A link of a network file, in its written direction; if it is `duplex`, also in the opposite one.
 #[derive(Debug, Drop)]
 pub struct NetworkLink {
-    pub there: OneWay,
+    pub there: OneDirection,
     pub duplex: bool,
     /// The most octets that a frame has which the station that it leaves, there or back, sends beside its streams; `None` where it sends no
     /// such frame.
@@ -119,13 +119,13 @@ const KEYS: [Key; 5] = [
 const LINK_KEYS: [Key; 4] = [Key::From, Key::To, Key::Rate, Key::Delay];
 
 /// Returns the written direction of a link's table.
-fn read_one_way(table: &Table) -> Result<OneWay, TomlFault>
-    ensures { result ≡ one_way_read (table_view table.now) }
+fn read_one_direction(table: &Table) -> Result<OneDirection, TomlFault>
+    ensures { result ≡ one_direction_read (table_view table.now) }
 {
     let from = name_at(table, Key::From)?;
     let to = name_at(table, Key::To)?;
     let times = times_at(table)?;
-    Ok(OneWay { from, to, times })
+    Ok(OneDirection { from, to, times })
 }
 
 /// Whether a value says that a link has both directions.
@@ -189,7 +189,7 @@ fn read_other(table: &Table) -> Result<Option<u32>, NetworkFault>
 fn read_link(table: &Table) -> Result<NetworkLink, NetworkFault>
     ensures { result ≡ link_read (table_view table.now) }
 {
-    let there = read_one_way(table)?;
+    let there = read_one_direction(table)?;
     let duplex = read_duplex(table)?;
     let other = read_other(table)?;
     Ok(NetworkLink {

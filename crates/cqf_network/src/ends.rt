@@ -4,11 +4,11 @@ ghost use Rattle.cqf_model.specs.Limits.{most_bridges, most_stations};
 ghost use Rattle.cqf_topology.specs.Fields.{Gives};
 ghost use Rattle.cqf_topology.specs.JoinedLink.{node_of};
 ghost use Rattle.cqf_network.specs.NetworkDomain.{EdgeInside, NodeInside, link_of, number_of, talker_of};
-ghost use Rattle.cqf_network.specs.Edges.{back_of, both_ways, edges_of, ends_of, is_misplaced, is_talkers, joined, joined_edge, may_lead, pair_of, without_other};
+ghost use Rattle.cqf_network.specs.Edges.{back_of, both_directions, edges_of, ends_of, is_misplaced, is_talkers, joined, joined_edge, may_lead, pair_of, without_other};
 
 use crate::NetworkFault;
 use crate::domain::TalkerLink;
-use crate::draft::{NetworkLink, OneWay};
+use crate::draft::{NetworkLink, OneDirection};
 use cqf_model::{Link, Node};
 use cqf_topology::{DomainFault, End, LinkTimes, NameList, end_of_name};
 use cqf_units::{Memory, Name};
@@ -53,25 +53,25 @@ fn join_edge(
     stations: &NameList,
     element: usize,
     other: Option<u32>,
-    way: &OneWay,
+    path: &OneDirection,
 ) -> Result<JoinedEdge, NetworkFault>
-    ensures { result ≡ joined_edge bridges.now.keys stations.now.keys element other way.now }
+    ensures { result ≡ joined_edge bridges.now.keys stations.now.keys element other path.now }
 {
-    let from = match end_of_name(bridges, stations, &way.from) {
+    let from = match end_of_name(bridges, stations, &path.from) {
         Some(from) => from,
-        None => return Err(NetworkFault::Domain(DomainFault::UnknownName(way.from.copied()))),
+        None => return Err(NetworkFault::Domain(DomainFault::UnknownName(path.from.copied()))),
     };
-    let to = match end_of_name(bridges, stations, &way.to) {
+    let to = match end_of_name(bridges, stations, &path.to) {
         Some(to) => to,
-        None => return Err(NetworkFault::Domain(DomainFault::UnknownName(way.to.copied()))),
+        None => return Err(NetworkFault::Domain(DomainFault::UnknownName(path.to.copied()))),
     };
     if !may_lead(from, to) {
-        return Err(NetworkFault::Domain(DomainFault::UnknownName(way.to.copied())));
+        return Err(NetworkFault::Domain(DomainFault::UnknownName(path.to.copied())));
     }
     Ok(JoinedEdge {
         from,
         to,
-        times: way.times,
+        times: path.times,
         other,
         element,
     })
@@ -194,7 +194,7 @@ fn small_node(end: End) -> Node
 
 /// Adds both directions of a link to those of others. Frames beside streams belong to the one that leaves the station.
 fn add_both(edges: &mut Vec<JoinedEdge>, edge: JoinedEdge) -> Result<(), Memory>
-    ensures { OnOk result (edges.new.items ≡ edges.old.items ++ both_ways edge) }
+    ensures { OnOk result (edges.new.items ≡ edges.old.items ++ both_directions edge) }
 {
     let back = edge.back();
     if back.is_talkers() {

@@ -19,7 +19,7 @@ pub enum NetworkFault {
     BadDuplex,
     /// The value at `other` of a link is no size of a frame.
     BadOther,
-    /// The first link that has `other` and leaves no station, there or back, by its element's place in `links`, from 0.
+    /// The first link that has `other` and leaves no station, there or back, by its element's index in `links`, from 0.
     NoAccessLink(usize),
 }
 

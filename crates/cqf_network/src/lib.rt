@@ -4,12 +4,12 @@
 //!   access link of a station; or a [`NetworkFault`], the first fault. `cycle` may be an array of candidates, a link may be `duplex`, and it may
 //!   begin at a station. `read_draft` reads the text alone, as a `NetworkDraft` of `NetworkLink`s, without names and ends.
 //! - **Streams.** [`read_network_streams`] returns those of a text, or the first fault ([`FlowsFault`]). Each is a [`Stream`] with its traffic, its
-//!   deadline, its [`Pacing`], and its [`WantedWay`]: given branches, or the ends between which they go. [`read_network_flows`] returns streams
+//!   deadline, its [`Pacing`], and its [`WantedPath`]: given branches, or the ends between which they go. [`read_network_flows`] returns streams
 //!   that leave nothing open, each a [`NetworkFlow`] from its [`Talker`] on.
-//! - **Paths.** A [`Room`] has the links of a network, what each has left, and what a stream costs. [`first_way`] finds the first of the shortest
-//!   paths from a bridge to a node on which each link has room, if there is one. [`first_ways`] finds those to several stations, which are the
-//!   branches of a tree ([`first_ways_are_a_tree`]), or a [`WaysFault`]. If there is none for want of room, [`first_short`] names the link that
-//!   lacks it on the first path of all, which is found at a cost of 0 ([`full_ways_have_a_short_link`]).
+//! - **Paths.** A [`Room`] has the links of a network, what each has left, and what a stream costs. [`first_path`] finds the first of the shortest
+//!   paths from a bridge to a node on which each link has room, if there is one. [`first_paths`] finds those to several stations, which are the
+//!   branches of a tree ([`first_paths_are_a_tree`]), or a [`PathsFault`]. If there is none for want of room, [`first_short`] names the link that
+//!   lacks it on the first path of all, which is found at a cost of 0 ([`full_paths_have_a_short_link`]).
 //!
 //! ```text
 //! cycle = [250000, 125000]
@@ -56,26 +56,26 @@ mod faults;
 mod frames;
 mod lacks;
 mod laws;
+mod link_paths;
 mod listeners;
 mod network_flows;
 mod pacing;
+mod path_ends;
 mod repeats;
 mod room;
 mod streams;
 mod talkers;
 mod wanted;
-mod way_ends;
-mod ways;
 
 pub use cqf_traffic::FlowsFault;
 pub use domain::{NetworkDomain, TalkerLink};
 pub use faults::NetworkFault;
-pub use laws::{first_ways_are_a_tree, full_ways_have_a_short_link};
-pub use listeners::{WaysFault, first_ways};
+pub use laws::{first_paths_are_a_tree, full_paths_have_a_short_link};
+pub use link_paths::{first_path, first_short};
+pub use listeners::{PathsFault, first_paths};
 pub use network_flows::{NetworkFlow, read_network_flows};
 pub use pacing::Pacing;
 pub use room::Room;
 pub use streams::{Stream, read_network_streams};
 pub use talkers::Talker;
-pub use wanted::WantedWay;
-pub use ways::{first_short, first_way};
+pub use wanted::WantedPath;

@@ -1,7 +1,7 @@
 //! Links, and what a stream to be placed costs on each.
 ghost use Rattle.std.specs.Prelude.{◌≡◌, ◌<◌, length};
 ghost use Rattle.cqf_network.specs.Ends.{open_to};
-ghost use Rattle.cqf_network.specs.Ways.{has_room, led_by};
+ghost use Rattle.cqf_network.specs.Paths.{has_room, led_by};
 
 use cqf_model::{Link, Node};
 

@@ -10,7 +10,7 @@ ghost use Rattle.cqf_network.specs.StreamsText.{octets_from, network_streams_of_
 use crate::lacks::first_lack_of;
 use crate::pacing::{Pacing, read_pacing};
 use crate::talkers::{Talker, read_listeners, read_shortest, read_talker};
-use crate::wanted::{WantedWay, read_branches, way_by};
+use crate::wanted::{WantedPath, path_by, read_branches};
 use cqf_topology::{
     Key, StreamsFault, are_all_tables, array_at, deadline_of, number_at, read_document, text_at,
     value_at,
@@ -27,7 +27,7 @@ pub struct Stream {
     /// The reservation, in octets per cycle, if the text gives it. Otherwise there is traffic.
     pub octets: Option<u32>,
     pub pacing: Pacing,
-    pub way: WantedWay,
+    pub path: WantedPath,
     /// Where the text says it.
     pub talker: Option<Talker>,
     /// Where the text says them: 1 to 64 and all different.
@@ -73,7 +73,7 @@ fn read_stream(alloc: Global, table: &Table) -> Result<Stream, FlowsFault>
     let paths = read_branches(alloc, table)?;
     let talker = read_talker(table)?;
     let listeners = read_listeners(alloc, table)?;
-    let way = way_by(alloc, paths, &talker, &listeners)?;
+    let path = path_by(alloc, paths, &talker, &listeners)?;
     let deadline = deadline_of(table)?;
     let traffic = read_traffic(table)?;
     let shortest = read_shortest(table, &traffic)?;
@@ -81,7 +81,7 @@ fn read_stream(alloc: Global, table: &Table) -> Result<Stream, FlowsFault>
         name,
         octets,
         pacing,
-        way,
+        path,
         talker,
         listeners,
         deadline,

@@ -37,8 +37,8 @@ fn talker_at_bridge(text: &[u8], at: usize) -> Option<Talker>
 }
 
 /// The place of the first `@` of a text.
-fn place_of_at(text: &[u8]) -> Option<usize>
-    ensures place { result ≡ position (λ octet. octet == 64) text.now }
+fn index_of_at(text: &[u8]) -> Option<usize>
+    ensures index { result ≡ position (λ octet. octet == 64) text.now }
     ensures inside { IfSome result (λ at. at < length text.now) }
 {
     text.iter().position(|octet| *octet == AT)
@@ -48,7 +48,7 @@ fn place_of_at(text: &[u8]) -> Option<usize>
 fn talker_of_text(text: &[u8]) -> Option<Talker>
     ensures { result ≡ talker_of_text text.now }
 {
-    match place_of_at(text) {
+    match index_of_at(text) {
         Some(at) => talker_at_bridge(text, at),
         None => {
             let node = Name::new(text)?;

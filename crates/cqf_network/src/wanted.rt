@@ -5,7 +5,7 @@ ghost use Rattle.cqf_model.specs.Domain.{is_text};
 ghost use Rattle.toml.specs.View.{table_view};
 ghost use Rattle.cqf_topology.specs.Fields.{Gives, value_at};
 ghost use Rattle.cqf_topology.specs.DomainText.{first_taken, is_among};
-ghost use Rattle.cqf_network.specs.StreamsText.{between_ends, branches_if, if_listeners, listeners_read, wanted_text, way_by};
+ghost use Rattle.cqf_network.specs.StreamsText.{between_ends, branches_if, if_listeners, listeners_read, path_by, wanted_text};
 
 use crate::lacks::has_path;
 use crate::talkers::Talker;
@@ -19,7 +19,7 @@ pub const MOST_LISTENERS: usize = 64;
 
 /// The path that a stream is to take.
 #[derive(Debug, Drop)]
-pub enum WantedWay {
+pub enum WantedPath {
     /// Along these branches, each the names of its bridges, in order, followed by that of the listener's station.
     Along(Vec<Vec<String>>),
     /// From a talker's station or an edge bridge to these listeners: 1 to 64, all different.
@@ -44,8 +44,8 @@ fn is_among(name: &Name, names: &[Name]) -> bool
 fn are_different(names: &[Name]) -> bool
     ensures { result ≡ is_none (first_taken [] names.now) }
 {
-    for place in 0..names.len() {
-        if is_among(&names[place], &names[..place]) {
+    for index in 0..names.len() {
+        if is_among(&names[index], &names[..index]) {
             return false;
         }
     }
@@ -121,12 +121,12 @@ fn copied_names(alloc: Global, names: &[Name]) -> Result<Vec<Name>, StreamsFault
     Ok(copies)
 }
 
-/// The way between a stream's talker and its listeners.
-fn way_between(
+/// The path between a stream's talker and its listeners.
+fn path_between(
     alloc: Global,
     talker: &Option<Talker>,
     listeners: &Option<Vec<Name>>,
-) -> Result<WantedWay, StreamsFault>
+) -> Result<WantedPath, StreamsFault>
     ensures { Gives StreamsFault.Memory wanted_text result (between_ends talker.now (option_map (λ names. names.items) listeners.now)) }
 {
     let Some(talker) = talker else {
@@ -136,21 +136,21 @@ fn way_between(
         return Err(StreamsFault::BadValue(Key::To));
     };
     let to = copied_names(alloc, names.as_slice())?;
-    Ok(WantedWay::Between(talker.node.copied(), to))
+    Ok(WantedPath::Between(talker.node.copied(), to))
 }
 
-/// The way of a stream: along the branches that are given, or else between its talker and its listeners.
-pub(crate) fn way_by(
+/// The path of a stream: along the branches that are given, or else between its talker and its listeners.
+pub(crate) fn path_by(
     alloc: Global,
     paths: Option<Vec<Vec<String>>>,
     talker: &Option<Talker>,
     listeners: &Option<Vec<Name>>,
-) -> Result<WantedWay, StreamsFault>
+) -> Result<WantedPath, StreamsFault>
     ensures { Gives StreamsFault.Memory wanted_text result
-        (way_by (option_map (λ paths. map (λ path. map string_bytes path.items) paths.items) paths) talker.now (option_map (λ names. names.items) listeners.now)) }
+        (path_by (option_map (λ paths. map (λ path. map string_bytes path.items) paths.items) paths) talker.now (option_map (λ names. names.items) listeners.now)) }
 {
     match paths {
-        Some(paths) => Ok(WantedWay::Along(paths)),
-        None => way_between(alloc, talker, listeners),
+        Some(paths) => Ok(WantedPath::Along(paths)),
+        None => path_between(alloc, talker, listeners),
     }
 }

@@ -149,17 +149,17 @@ other_cycle limits (Ok guard) (Ok sync) (Ok bridges) (Err e) links candidates cy
 other_cycle limits (Ok guard) (Ok sync) (Ok bridges) (Ok stations) (Err e) candidates cycle text h = absurd cc
 
 -- the keys after the cycle time
-abbrev keys_behind : List Key
-keys_behind = key.Guard ∷ key.Bridges ∷ key.Stations ∷ key.Links ∷ []
+abbrev keys_after : List Key
+keys_after = key.Guard ∷ key.Bridges ∷ key.Stations ∷ key.Links ∷ []
 
 -- none of them is absent where none of those that are owed is
-behind_none : (given : Option (List ℕ)) (table : Members) → first_absent (network_keys given) table ≡ None → first_absent keys_behind table ≡ None
-behind_none None table h = by (lacks key.Cycle table) h
+after_none : (given : Option (List ℕ)) (table : Members) → first_absent (network_keys given) table ≡ None → first_absent keys_after table ≡ None
+after_none None table h = by (lacks key.Cycle table) h
   where
-    by : (b : Bool) → cond b (Some key.Cycle) (first_absent keys_behind table) ≡ None → first_absent keys_behind table ≡ None
+    by : (b : Bool) → cond b (Some key.Cycle) (first_absent keys_after table) ≡ None → first_absent keys_after table ≡ None
     by true h = absurd cc
     by false h = h
-behind_none (Some given) table h = h
+after_none (Some given) table h = h
 
 module _ (limits : Limits) (cycle : ℕ) (filled : List FilledStream) (members streams : Members) where
   -- the table with the cycle time, and with the streams
@@ -201,8 +201,8 @@ module _ (limits : Limits) (cycle : ℕ) (filled : List FilledStream) (members s
       ∙ put_apart (key_text key.Links) (key_text key.Cycle) (integer (pos cycle)) members refl
 
   -- nothing is missing
-  behind_same : first_absent keys_behind all ≡ first_absent keys_behind members
-  behind_same =
+  after_same : first_absent keys_after all ≡ first_absent keys_after members
+  after_same =
       (λ i. cond (is_none (guard_at i) && true) (Some key.Guard) (
       cond (is_none (bridges_at i) && true) (Some key.Bridges) (
       cond (is_none (stations_at i) && true) (Some key.Stations) (
@@ -213,10 +213,10 @@ module _ (limits : Limits) (cycle : ℕ) (filled : List FilledStream) (members s
   lacks_nothing given h =
       let (own, within) = or_None (first_absent (network_keys given) members)
       (option_and_then (first_absent_within link_keys) (option_and_then as_array (value_at key.Links members))) h in
-      let behind : first_absent keys_behind all ≡ None = behind_same ∙ behind_none given members own in
+      let following : first_absent keys_after all ≡ None = after_same ∙ after_none given members own in
       let inside : option_and_then (first_absent_within link_keys) (option_and_then as_array (value_at key.Links all)) ≡ None =
       ap (λ o. option_and_then (first_absent_within link_keys) (option_and_then as_array o)) links_at ∙ within in
-      (λ i. option_or (cond (is_none (cycle_at i) && true) (Some key.Cycle) (behind i)) (inside i))
+      (λ i. option_or (cond (is_none (cycle_at i) && true) (Some key.Cycle) (following i)) (inside i))
 
   -- what is read but for the cycle time is the same
   rest_same : (candidates : List ℕ) → network_with_cycles limits all candidates ≡ network_with_cycles limits members candidates

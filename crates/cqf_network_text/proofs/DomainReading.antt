@@ -22,9 +22,9 @@ use Rattle.cqf_topology.specs.Fields.{number_from, number_if, number_if_by, read
 use Rattle.cqf_topology.specs.LinkTimes.{delays_from, rate_from, times_of, times_read}
 use Rattle.cqf_topology.specs.declared.times.LinkTimes.{LinkTimes}
 use Rattle.cqf_topology.specs.DomainText.{DomainText, IsDomain, domain_from, domain_keys, if_some, link_keys, link_read, sync_from}
-use Rattle.cqf_network_text.specs.DomainMembers.{delays_data, domain_members, link_members, megabits_of, members_of_link, some_then, sync_told}
+use Rattle.cqf_network_text.specs.DomainMembers.{delays_data, domain_members, link_members, megabits_of, members_of_link, some_then, sync_written}
 use Rattle.cqf_topology.specs.NodeNames.{name_of_node}
-use Rattle.cqf_network_text.proofs.DomainChecks.{told_domain, told_links}
+use Rattle.cqf_network_text.proofs.DomainChecks.{written_domain, written_links}
 use Rattle.cqf_network_text.proofs.StreamValues.{number_data}
 
 -- a number within its range
@@ -48,9 +48,9 @@ number_if_reads at least most members (Some n) is good =
     ap (λ o. number_if_by o at least most members) is ∙ ap (λ r. and_then r (λ number. Ok (Some number))) read
 
 -- a number that is written only if it differs from a default is read as that default if it isn't written
-pub told_or : (same : Bool) (n default : ℕ) → (same ≡ true → n ≡ default) → unwrap_or (cond same None (Some n)) default ≡ n
-told_or true n default is = sym (is refl)
-told_or false n default is = refl
+pub written_or : (same : Bool) (n default : ℕ) → (same ≡ true → n ≡ default) → unwrap_or (cond same None (Some n)) default ≡ n
+written_or true n default is = sym (is refl)
+written_or false n default is = refl
 
 -- a name, and several names
 pub name_reads : (name : List ℕ) → IsTrue (is_name name) → name_from (string name) ≡ Some name
@@ -115,7 +115,7 @@ own_at from to delays rate None = refl
 own_at from to delays rate (Some n) = refl
 
 -- and the value at the end of a domain's table
-sync_at : (told : Option ℕ) → value_at key.Sync (some_then key.Sync told no_members) ≡ option_map number_data told
+sync_at : (reported : Option ℕ) → value_at key.Sync (some_then key.Sync reported no_members) ≡ option_map number_data reported
 sync_at None = refl
 sync_at (Some n) = refl
 
@@ -186,13 +186,13 @@ module _ (d : Domain) (good : IsDomain d) where
 
   -- and each of a list of links
   links_read : (links : List Link) → ((k : ℕ) (link : Link) → slice_get links k ≡ Some link → IsAcceptedLink d link)
-      → tables_from key.Links link_read (items_of (map (λ link. table (link_members d link)) links)) ≡ Ok ((told_links d links).links)
+      → tables_from key.Links link_read (items_of (map (λ link. table (link_members d link)) links)) ≡ Ok ((written_links d links).links)
   links_read [] accepted = refl
   links_read (link ∷ links) accepted =
       let rest = links_read links (λ k other at. accepted (suc k) other at) in
       (λ i. and_first (link_reads link (accepted 0 link refl) i) (rest i))
 
-  links_all_read : (streams : Data) → tables_of_key key.Links link_read (domain_members d streams) ≡ Ok ((told_links d d.links).links)
+  links_all_read : (streams : Data) → tables_of_key key.Links link_read (domain_members d streams) ≡ Ok ((written_links d d.links).links)
   links_all_read streams =
       ap (λ b. cond b (tables_from key.Links link_read (items_of (map (λ link. table (link_members d link)) d.links))) (Err (BadValue key.Links)))
       (links_are_tables d d.links)
@@ -203,16 +203,16 @@ module _ (d : Domain) (good : IsDomain d) where
   sync_reads streams =
       let none : (d.sync == 0) ≡ true → d.sync ≡ 0 = λ is. eqb-true d.sync 0 is in
       ap (λ r. and_then r (λ sync. Ok (unwrap_or sync 0)))
-      (number_if_reads key.Sync 0 10000000 (domain_members d streams) (sync_told d.sync) (sync_at (sync_told d.sync))
-      (told_few (d.sync == 0) d.sync good.sync_most))
-      ∙ ap Ok (told_or (d.sync == 0) d.sync 0 none)
+      (number_if_reads key.Sync 0 10000000 (domain_members d streams) (sync_written d.sync) (sync_at (sync_written d.sync))
+      (written_few (d.sync == 0) d.sync good.sync_most))
+      ∙ ap Ok (written_or (d.sync == 0) d.sync 0 none)
     where
-      told_few : (same : Bool) (n : ℕ) → n ≤ 10000000 → IfSome (cond same None (Some n)) (λ n. (0 ≤ n) × (n ≤ 10000000))
-      told_few true n few = tt
-      told_few false n few = let both : (0 ≤ n) × (n ≤ 10000000) = (omega arith, few) in both
+      written_few : (same : Bool) (n : ℕ) → n ≤ 10000000 → IfSome (cond same None (Some n)) (λ n. (0 ≤ n) × (n ≤ 10000000))
+      written_few true n few = tt
+      written_few false n few = let both : (0 ≤ n) × (n ≤ 10000000) = (omega arith, few) in both
 
   -- what is read in a domain's table
-  pub domain_reads : (streams : Data) → domain_from d.limits (domain_members d streams) ≡ Ok (told_domain d)
+  pub domain_reads : (streams : Data) → domain_from d.limits (domain_members d streams) ≡ Ok (written_domain d)
   domain_reads streams =
       let cycle_is = number_reads 10000 10000000 d.cycle_time good.accepted.cycle_least good.accepted.cycle_most in
       let guard_is = number_reads 1 10000000 d.guard good.accepted.guard_some (omega (arith, good.accepted.guard_short, good.accepted.cycle_most)) in

@@ -21,7 +21,7 @@ use Rattle.cqf_traffic.specs.declared.faults.FlowsFault.TheVariants as flows_fau
 use Rattle.cqf_traffic.specs.FlowsText.{FlowText, first_lack_of, first_lack_within, flow_from, flows_from, flows_in, flows_of_text, or_streams}
 use Rattle.cqf_network_text.specs.StreamMembers.{stream_members, streams_data}
 use Rattle.cqf_network_text.specs.Plans.{IsTellable, IsWrittenPlan, WrittenPlansReadBack, plan_members, unpaced}
-use Rattle.cqf_network_text.proofs.DomainChecks.{domain_passes, told_domain}
+use Rattle.cqf_network_text.proofs.DomainChecks.{domain_passes, written_domain}
 use Rattle.cqf_network_text.proofs.DomainReading.{domain_lacks_nothing, domain_reads}
 use Rattle.cqf_network_text.proofs.StreamReading.{flow_is_read, paced_is_read, planned_is_read, request_is_read, stream_lacks_no_key, stream_lacks_nothing}
 
@@ -56,10 +56,10 @@ each_read fault reader f reads (flow ∷ flows) good =
     let rest = each_read fault reader f reads flows (λ k d inside. good (suc k) d (omega arith)) in
     (λ i. and_first (reads flow (good 0 flow (omega arith)) i) (rest i))
 
-module _ (d : Domain) (flows : List FlowText) (text : List ℕ) (told : IsWrittenPlan d flows text) where
+module _ (d : Domain) (flows : List FlowText) (text : List ℕ) (reported : IsWrittenPlan d flows text) where
   -- the text's table
   document_is : document_of text ≡ Ok (plan_members d flows)
-  document_is = (λ i. cond (told.encoded i) (ok_or (told.document i) NotToml) (Err NotToml))
+  document_is = (λ i. cond (reported.encoded i) (ok_or (reported.document i) NotToml) (Err NotToml))
 
   -- and if it lacks no key
   whole_is : (keys : List Key) (elements : Key) (within : List Key) → first_missing keys elements within (plan_members d flows) ≡ None
@@ -72,7 +72,7 @@ module _ (d : Domain) (flows : List FlowText) (text : List ℕ) (told : IsWritte
   domain_reads_back : IsDomain d → domain_within d.limits text ≡ Ok d
   domain_reads_back good =
       let whole = whole_is domain_keys key.Links link_keys (domain_lacks_nothing d (streams_data flows)) in
-      let read : read_text d.limits text ≡ Ok (told_domain d) = ap (λ r. and_then r (domain_from d.limits)) whole ∙ domain_reads d good (streams_data flows) in
+      let read : read_text d.limits text ≡ Ok (written_domain d) = ap (λ r. and_then r (domain_from d.limits)) whole ∙ domain_reads d good (streams_data flows) in
       ap (λ r. and_then (as_domain_fault r) checked) read ∙ domain_passes d good
 
   -- the streams, by a reader of their tables
@@ -96,11 +96,11 @@ module _ (d : Domain) (flows : List FlowText) (text : List ℕ) (told : IsWritte
       ∙ ap (λ all. Ok all) (map-id flows)
 
 -- a plan's text reads back
-pub told_reads_back : WrittenPlansReadBack
-told_reads_back d flows text good tellable told = record {
-  domain_is = domain_reads_back d flows text told good;
-  flows_are = flows_read_back d flows text told tellable;
-  planned_are = streams_read d flows text told planned_from (λ flow. flow.0) planned_is_read tellable;
-  paced_are = streams_read d flows text told paced_from (λ flow. flow.0.0) paced_is_read tellable;
-  requests_are = streams_read d flows text told request_from (λ flow. unpaced flow.0.0) request_is_read tellable;
+pub written_reads_back : WrittenPlansReadBack
+written_reads_back d flows text good tellable reported = record {
+  domain_is = domain_reads_back d flows text reported good;
+  flows_are = flows_read_back d flows text reported tellable;
+  planned_are = streams_read d flows text reported planned_from (λ flow. flow.0) planned_is_read tellable;
+  paced_are = streams_read d flows text reported paced_from (λ flow. flow.0.0) paced_is_read tellable;
+  requests_are = streams_read d flows text reported request_from (λ flow. unpaced flow.0.0) request_is_read tellable;
 }

@@ -73,8 +73,8 @@ abbrev pub links_data : Domain → Data
 links_data d = array (items_of (map (λ link. table (link_members d link)) d.links))
 
 -- how far clocks may differ; none if they may not
-abbrev pub sync_told : ℕ → Option ℕ
-sync_told sync = if sync == 0 then None else Some sync
+abbrev pub sync_written : ℕ → Option ℕ
+sync_written sync = if sync == 0 then None else Some sync
 
 -- a domain's table; the value at `streams` is given
 abbrev pub domain_members : Domain → Data → Members
@@ -85,4 +85,4 @@ domain_members d streams =
     member (key_text Links) (links_data d) (
     member (key_text Stations) (texts_data d.stations) (
     member (key_text Streams) streams (
-    some_then Sync (sync_told d.sync) no_members))))))
+    some_then Sync (sync_written d.sync) no_members))))))

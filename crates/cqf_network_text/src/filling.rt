@@ -3,7 +3,7 @@ ghost use Rattle.std.specs.Prelude.{◌≡◌, IfOk, IsSome, OnOk, Some, is_some
 ghost use Rattle.toml.specs.View.{items_view, table_view, view};
 ghost use Rattle.toml.specs.Data.{array, get_member};
 ghost use Rattle.cqf_topology.specs.Fields.{value_at};
-ghost use Rattle.cqf_network_text.specs.Networks.{IsFilledText, array_at, filled_item, filled_stream, filled_streams, has_branches, item_by, put_turns, table_of, with_way};
+ghost use Rattle.cqf_network_text.specs.Networks.{IsFilledText, array_at, filled_item, filled_stream, filled_streams, has_branches, item_by, put_active_cycles, table_of, with_path};
 
 use crate::ordered::text_of_network;
 use crate::streams::put_branches;
@@ -37,13 +37,13 @@ fn has_branches(table: &Table) -> bool
 }
 
 /// Puts the cycles in which a stream is offered, and the instant at which its offers begin, into its table. Fails only if memory is refused.
-fn put_turns(
+fn put_active_cycles(
     alloc: Global,
     table: &mut Table,
     request: &PacedRequest,
     offset: u32,
 ) -> Result<(), Memory>
-    ensures { OnOk result (table_view table.new ≡ put_turns request.now offset (table_view table.old)) }
+    ensures { OnOk result (table_view table.new ≡ put_active_cycles request.now offset (table_view table.old)) }
 {
     put_number(alloc, table, Key::Every.as_str(), request.every)?;
     put_number(alloc, table, Key::Phase.as_str(), request.phase)?;
@@ -52,8 +52,8 @@ fn put_turns(
 }
 
 /// Puts a stream's paths into its table, if it has none. Fails only if memory is refused.
-fn put_way(alloc: Global, table: &mut Table, filled: &FilledStream) -> Result<(), Memory>
-    ensures { OnOk result (table_view table.new ≡ with_way filled.now (table_view table.old)) }
+fn put_path(alloc: Global, table: &mut Table, filled: &FilledStream) -> Result<(), Memory>
+    ensures { OnOk result (table_view table.new ≡ with_path filled.now (table_view table.old)) }
 {
     if !has_branches(table) {
         put_branches(alloc, table, filled.request.paths.as_slice())?;
@@ -66,9 +66,9 @@ fn fill_stream(alloc: Global, table: &mut Table, filled: &FilledStream) -> Resul
     ensures { OnOk result (table_view table.new ≡ filled_stream filled.now (table_view table.old)) }
 {
     put_number(alloc, table, Key::Octets.as_str(), filled.request.octets)?;
-    put_way(alloc, table, filled)?;
+    put_path(alloc, table, filled)?;
     if let Some(offset) = filled.offset {
-        put_turns(alloc, table, &filled.request, offset)?;
+        put_active_cycles(alloc, table, &filled.request, offset)?;
     }
     Ok(())
 }
@@ -91,11 +91,11 @@ fn value_filled(
     alloc: Global,
     value: &Value,
     filled: &[FilledStream],
-    place: usize,
+    index: usize,
 ) -> Result<Value, Memory>
-    ensures { IfOk result (λ found. view found ≡ item_by (slice_get filled.now place) (view value.now)) }
+    ensures { IfOk result (λ found. view found ≡ item_by (slice_get filled.now index) (view value.now)) }
 {
-    match filled.get(place) {
+    match filled.get(index) {
         Some(one) => filled_value(alloc, value, one),
         None => {
             let copy = value.clone()?;
@@ -109,8 +109,8 @@ fn filled_values(alloc: Global, values: &[Value], filled: &[FilledStream]) -> Re
     ensures { IfOk result (λ all. view all ≡ array (filled_streams filled.now (items_view values.now))) }
 {
     let mut all = Vec::new(alloc);
-    for place in 0..values.len() {
-        let one = value_filled(alloc, &values[place], filled, place)?;
+    for index in 0..values.len() {
+        let one = value_filled(alloc, &values[index], filled, index)?;
         all.push(one)?;
     }
     Ok(Value::Array(all))

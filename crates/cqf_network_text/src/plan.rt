@@ -2,7 +2,7 @@
 ghost use Rattle.std.specs.Prelude.{◌≡◌, IfOk, map, string_bytes};
 ghost use Rattle.toml.specs.View.{table_view};
 ghost use Rattle.cqf_traffic.specs.FlowsText.{flow_text};
-ghost use Rattle.cqf_network_text.specs.DomainMembers.{sync_told};
+ghost use Rattle.cqf_network_text.specs.DomainMembers.{sync_written};
 ghost use Rattle.cqf_network_text.specs.Plans.{IsWrittenPlan, plan_members};
 
 use crate::domain::{bridges_value, links_value, stations_value};
@@ -15,8 +15,8 @@ use std::alloc::{AllocError, Global};
 use toml::Table;
 
 /// Returns how far clocks of a domain may differ; `None` if they may not.
-fn told_sync(domain: &Domain) -> Option<u32>
-    ensures { result ≡ sync_told domain.now.sync }
+fn written_sync(domain: &Domain) -> Option<u32>
+    ensures { result ≡ sync_written domain.now.sync }
 {
     domain.know();
     match domain.sync().0 as u32 {
@@ -58,7 +58,7 @@ fn network_table(alloc: Global, domain: &Domain, flows: &[Flow]) -> Result<Table
         Key::Streams.as_str(),
         streams_value(alloc, flows)?,
     )?;
-    put_some(alloc, &mut table, Key::Sync, told_sync(domain))?;
+    put_some(alloc, &mut table, Key::Sync, written_sync(domain))?;
     Ok(table)
 }
 

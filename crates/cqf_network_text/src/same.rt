@@ -171,8 +171,8 @@ fn are_same(items: &Vec<Value>, others: &Vec<Value>) -> bool
         return false;
     }
     let rest = others.as_slice();
-    for place in 0..items.len() {
-        if !is_same(&items[place], &rest[place]) {
+    for index in 0..items.len() {
+        if !is_same(&items[index], &rest[index]) {
             return false;
         }
     }

@@ -71,7 +71,7 @@ impl Stop {
     /// Returns the end with this status and text, or the end for want of memory if the text couldn't be made.
     pub fn with_text(alloc: Global, status: u8, text: Result<String, AllocError>) -> Stop
         requires { status ≢ 3 }
-        ensures told { IfOk text (λ line. EndsJustWith status (string_bytes line) result) }
+        ensures checked { IfOk text (λ line. EndsJustWith status (string_bytes line) result) }
         ensures text { MatchResult text (λ line. EndsWith status (string_bytes line) result) (λ _. result.status ≡ 3) }
         ensures memory { result.status ≡ 3 → result.text.items ≡ [] }
     {

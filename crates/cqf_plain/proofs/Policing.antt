@@ -6,12 +6,12 @@ use Rattle.std.proofs.lemmas.List.{drop_more, take-append-drop, take_all, take_m
 use Rattle.std.proofs.lemmas.List.Elements.{Contains-append_cases, Contains-get_or}
 use Rattle.std.proofs.Math.Seq.{take-append_seam}
 use Rattle.cqf_lists.proofs.Members.{contains_none, contains_one}
-use Rattle.cqf_lists.proofs.Places.{slice_get_behind}
+use Rattle.cqf_lists.proofs.Indices.{slice_get_after}
 use Rattle.cqf_model.specs.declared.topology.Row.{Row}
 use Rattle.cqf_model.specs.Domain.{Domain}
 use Rattle.cqf_model.specs.Network.{IsLoss}
 use Rattle.cqf_model.specs.Table.{table_of}
-use Rattle.cqf_model.specs.Traffic.{Policed, Received, police, police_all}
+use Rattle.cqf_model.specs.Policing.{Policed, Received, police, police_all}
 use Rattle.cqf_model.proofs.Policing.{police_more}
 use Rattle.cqf_bridge.specs.declared.cycle_gate.KeptGate.{KeptGate}
 use Rattle.cqf_bridge.specs.Gates.{HaveCounted}
@@ -91,9 +91,9 @@ module _ (d : Domain) (bridge cycle : ℕ) (rows : List Row) (frames : List Rece
           record {
             x = next tables;
             first = record {
-              place = length (done tables);
+              index = length (done tables);
               there = ap (λ (ps : List Policed). slice_get ps (length (done tables))) (parts tables)
-                  ∙ slice_get_behind (done tables) (next tables) (rest tables) (length (done tables)) refl;
+                  ∙ slice_get_after (done tables) (next tables) (rest tables) (length (done tables)) refl;
               lost = lost tables (done tables) table (h.counted tables table);
               before = λ p held. h.none_lost tables table p
                   (subst (λ (ps : List Policed). Contains ps p)

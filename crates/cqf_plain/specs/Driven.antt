@@ -93,7 +93,7 @@ pub record AreHandedOut (d : Domain) (batches : List LinkBatch) (before after : 
   pub as_many : length after ≡ length before
   pub same_bridge : (k : ℕ) (e : RunBridge) → k < length before → (slice_index_or after k e).bridge ≡ (slice_index_or before k e).bridge
   pub same_agenda : (k : ℕ) (e : RunBridge) → k < length before → (slice_index_or after k e).agenda ≡ (slice_index_or before k e).agenda
-  pub behind : (k : ℕ) (e : RunBridge) → k < length before →
+  pub following : (k : ℕ) (e : RunBridge) → k < length before →
       (slice_index_or after k e).inbox.items ≡ (slice_index_or before k e).inbox.items ++ filter (λ (x : LinkBatch). enters d x.link k) batches
 
 -- the bridges' background frames of the cycle that they have sent are listed, by link

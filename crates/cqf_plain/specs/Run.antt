@@ -6,7 +6,7 @@ use Rattle.cqf_model.specs.Book.{Contents, IsOneThreadBook}
 use Rattle.cqf_model.specs.Domain.{Domain}
 use Rattle.cqf_model.specs.Network.{IsLegalNetwork, IsLoss, IsLost, Network, compiled_lists}
 use Rattle.cqf_model.specs.Run.{Run}
-use Rattle.cqf_model.specs.Traffic.{Carried, Policed}
+use Rattle.cqf_model.specs.Policing.{Carried, Policed}
 use Rattle.cqf_laws_cycle.specs.BridgeCycle.{policed_of}
 use Rattle.cqf_admission.specs.Tables.{CycleTable}
 use Rattle.cqf_plain.specs.declared.faults.RunFault.{RunFault}
@@ -31,10 +31,10 @@ LosesNothingInside run = (net : Network) (bridge : ℕ) (policed : Policed) → 
 
 -- the first of some frames that is lost, in the order in which they are taken
 pub record IsFirstLoss (policed : List Policed) (x : Policed) : Type 0 where
-  pub place : ℕ
-  pub there : slice_get policed place ≡ Some x
+  pub index : ℕ
+  pub there : slice_get policed index ≡ Some x
   pub lost : IsLoss x.verdict
-  pub before : (p : Policed) → Contains (take place policed) p → ¬ IsLoss p.verdict
+  pub before : (p : Policed) → Contains (take index policed) p → ¬ IsLoss p.verdict
 
 -- no frame is lost sooner: in an earlier cycle, in this one at a bridge of a lower number, or at this bridge before it
 pub record IsLostFirst (run : Run) (carried : Carried) (bridge : ℕ) (x : Policed) : Type 0 where

@@ -5,7 +5,7 @@ ghost use Rattle.cqf_model.specs.Domain.{cycle_of};
 ghost use Rattle.cqf_model.specs.Network.{IsLoss, Network};
 ghost use Rattle.cqf_model.specs.Run.{Run};
 ghost use Rattle.cqf_model.specs.Table.{table_of};
-ghost use Rattle.cqf_model.specs.Traffic.{Policed, Received, police, police_all, sent_received};
+ghost use Rattle.cqf_model.specs.Policing.{Policed, Received, police, police_all, sent_received};
 ghost use Rattle.cqf_laws_cycle.specs.BridgeCycle.{policed_of};
 ghost use Rattle.cqf_laws_cycle.specs.Gathered.{IsInOrderOf};
 ghost use Rattle.cqf_bridge.specs.Batch.{LinkBatch};
@@ -33,8 +33,8 @@ fn gather_batch(domain: &Domain, batch: &Batch, frames: &mut Vec<Incoming>) -> R
     ensures { OnOk result (map received_as frames.new.items
         ≡ map received_as frames.old.items ++ map (sent_received domain.now batch.now.link) batch.now.frames) }
 {
-    for place in 0..batch.len() {
-        frames.push(Incoming::by_link(domain, batch.link(), batch.get(place)))?;
+    for index in 0..batch.len() {
+        frames.push(Incoming::by_link(domain, batch.link(), batch.get(index)))?;
     }
     Ok(())
 }

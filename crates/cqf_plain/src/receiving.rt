@@ -90,8 +90,8 @@ pub(crate) fn receive_all(
     ensures stops { IfErr result (λ fault. (run : Run) (net : Network) → IsCycleOf run net table.now.cycle → IsTableOf run table.now →
         AllStandHalfway run net table.now.cycle (all_of run net table.now.cycle) bridges.old.items → IsFaultInCycle run net table.now.cycle fault) }
 {
-    for place in 0..bridges.len() {
-        let dropped = match receive_one(alloc, &mut bridges[place], table) {
+    for index in 0..bridges.len() {
+        let dropped = match receive_one(alloc, &mut bridges[index], table) {
             Ok(dropped) => dropped,
             Err(fault) => return Err(fault),
         };

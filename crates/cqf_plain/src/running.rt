@@ -37,8 +37,8 @@ fn go_all(
     ensures stops { IfErr result (λ fault. (run : Run) (net : Network) → IsRunOver domain.now tables.now run net → IsAt run net 0 so_far.old →
         StopsRun run fault) }
 {
-    for place in 0..tables.len() {
-        match so_far.go_on(alloc, domain, &tables[place]) {
+    for index in 0..tables.len() {
+        match so_far.go_on(alloc, domain, &tables[index]) {
             Ok(()) => {}
             Err(fault) => return Err(fault),
         }

@@ -54,8 +54,8 @@ fn taken_in_turn(arrivals: &[Arrival]) -> (Progress, [Nanos; 8])
         heads: [None; 8],
     };
     let mut newest = [Nanos(0); 8];
-    for (place, arrival) in arrivals.iter().enumerate() {
-        progress = after_arrival(place, arrival.class, progress);
+    for (index, arrival) in arrivals.iter().enumerate() {
+        progress = after_arrival(index, arrival.class, progress);
         newest[usize::from(arrival.class)] = arrival.at;
     }
     (progress, newest)
@@ -220,12 +220,12 @@ impl Port {
         ensures facts { IsPort self.new }
     {
         let class = usize::from(arrival.class);
-        let place = self.arrivals.len();
+        let index = self.arrivals.len();
         if self.arrivals.push(arrival).is_err() {
             return Err(AllocError);
         }
         self.newest[class] = arrival.at;
-        self.progress = after_arrival(place, arrival.class, self.progress);
+        self.progress = after_arrival(index, arrival.class, self.progress);
         Ok(())
     }
 

@@ -24,19 +24,19 @@ fn idle_of(
 ) -> Nanos
     requires gate { class < 8 }
     requires early { t.0 < 2 ^ 63 + 2 ^ 62 }
-    requires ahead { IsAhead egress.now.schedule.now t.0 ahead.place ahead.begins ahead.again }
-    requires inside { (place : ℕ) → head ≡ Some place → place < length egress.now.arrivals.now }
-    requires of_class { (place : ℕ) → head ≡ Some place → class_of egress.now.arrivals.now place ≡ class }
-    requires waits { (place : ℕ) → head ≡ Some place → instant_of egress.now.arrivals.now place ≤ t.0 →
-        ¬ IsEligible (rules_of egress.now.schedule.now egress.now.rate) egress.now.arrivals.now place t.0 }
+    requires ahead { IsAhead egress.now.schedule.now t.0 ahead.index ahead.begins ahead.again }
+    requires inside { (index : ℕ) → head ≡ Some index → index < length egress.now.arrivals.now }
+    requires of_class { (index : ℕ) → head ≡ Some index → class_of egress.now.arrivals.now index ≡ class }
+    requires waits { (index : ℕ) → head ≡ Some index → instant_of egress.now.arrivals.now index ≤ t.0 →
+        ¬ IsEligible (rules_of egress.now.schedule.now egress.now.rate) egress.now.arrivals.now index t.0 }
     ensures later { t.0 < result.0 }
     ensures idle { IsIdleOf (rules_of egress.now.schedule.now egress.now.rate) egress.now.arrivals.now head t.0 result.0 }
     ensures turns { result.0 < last → Turns (rules_of egress.now.schedule.now egress.now.rate) egress.now.arrivals.now head result.0 }
 {
     match head {
         None => Nanos(u64::MAX),
-        Some(place) => {
-            let arrival = egress.arrivals[place];
+        Some(index) => {
+            let arrival = egress.arrivals[index];
             if t < arrival.at {
                 return arrival.at;
             }

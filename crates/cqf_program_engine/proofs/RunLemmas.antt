@@ -15,10 +15,10 @@ use Rattle.cqf_output.specs.Edge.{Writing}
 use Rattle.cqf_output.specs.Kinds.{NoKind, SomeKind}
 use Rattle.cqf_program_engine.specs.Run.{first_line, input_of, version_line, words_of, AskForVersion, Ends}
 use Rattle.cqf_program_engine.specs.Run.{EndsByStatus, EndsFaulty, EndsInput, EndsRead, HandsOver, HasCause, HasFault}
-use Rattle.cqf_program_engine.specs.Run.{HasRun, HasWords, most_line, IsBehindWords, IsDone, IsEnd, IsFailure, IsOutput}
-use Rattle.cqf_program_engine.specs.Run.{IsFailedRun, IsMisuse, IsRefusedRun, TellsPlainly}
-use Rattle.cqf_program_engine.specs.Run.{IsRefusal, IsStopped, StopsWithAnswer, IsToldOutput, IsTooLong, IsWithin, most_bytes}
-use Rattle.cqf_program_engine.specs.Run.{FaultIsOfThreads, FaultIsOfThreadsOrOutput, TellsStop, TellsFaultAlone}
+use Rattle.cqf_program_engine.specs.Run.{HasRun, HasWords, most_line, IsAfterWords, IsDone, IsEnd, IsFailure, IsOutput}
+use Rattle.cqf_program_engine.specs.Run.{IsFailedRun, IsMisuse, IsRefusedRun, WritesPlainly}
+use Rattle.cqf_program_engine.specs.Run.{IsRefusal, IsStopped, StopsWithAnswer, IsWrittenOutput, IsTooLong, IsWithin, most_bytes}
+use Rattle.cqf_program_engine.specs.Run.{FaultIsOfThreads, FaultIsOfThreadsOrOutput, WritesStop, WritesFaultAlone}
 use Rattle.cqf_program_engine.specs.Run.{IsRunOf, IsThreadedRun, LeavesThreads, OnlyThreadsAreLeft, is_threaded}
 use Rattle.cqf_program_engine.specs.Prepared.{Begins}
 use Rattle.cqf_program_engine.specs.declared.begun.Begun.{Begun}
@@ -31,19 +31,19 @@ use Rattle.cqf_program_engine.specs.declared.heard.ReadFailure.{ReadFailure}
 use Rattle.cqf_program_engine.specs.declared.heard.ReadFailure.TheVariants.{Memory, Fault}
 use Rattle.cqf_program_words.specs.declared.words.Format.TheVariants as form
 use Rattle.cqf_program_words.specs.declared.words.Job.{Job}
-use Rattle.cqf_program_words.specs.declared.words.Job.TheVariants.{Check, Compile, Deliveries, Hops, Latency, Line, Load, Offers, Plan, Port, Report, Run, Summary}
+use Rattle.cqf_program_words.specs.declared.words.Job.TheVariants.{Check, Compile, Deliveries, Diff, Hops, Latency, Line, Load, Offers, Plan, Port, Report, Run, Summary}
 
 -- given words that mean no job stop the run before anything is read
 pub IsStopped-by_words : (words : List (List ℕ)) (input : Reading) (stop : Stop) → words ≢ [] → input.failed ≡ false → EndsWords words stop
-    → ¬ AskForVersion words → ShowsWords words stop → TellsPlainly words stop → IsStopped words input stop
-IsStopped-by_words [] input stop some sound e no_version shows tells = absurd (some refl)
-IsStopped-by_words (word ∷ words) input stop some sound e no_version shows tells = elim e.statuses [
+    → ¬ AskForVersion words → ShowsWords words stop → WritesPlainly words stop → IsStopped words input stop
+IsStopped-by_words [] input stop some sound e no_version shows reports = absurd (some refl)
+IsStopped-by_words (word ∷ words) input stop some sound e no_version shows reports = elim e.statuses [
   | inl zero_is ↦ inl (zero_is, record { answered = inl (e.help zero_is); at_end = λ none. absurd (some none); sound = sound })
   | inr (inl two) ↦
       let misused : IsMisuse (word ∷ words) input.bytes stop = record {
         status = two;
         short = λ none. absurd (some none);
-        cause = inr (inr ((λ none. absurd (some none)), e.mistake two, e.no_job (λ three. omega arith), no_version, (shows, tells)));
+        cause = inr (inr ((λ none. absurd (some none)), e.mistake two, e.no_job (λ three. omega arith), no_version, (shows, reports)));
       } in
       inr (inr (inl (two, record { misused = misused; at_end = λ none. absurd (some none); sound = sound })))
   | inr (inr three) ↦ inr (inr (inr (inl (three, e.memory three))))
@@ -65,20 +65,20 @@ no_words_ask (inr same) = (cc)
 
 -- words of the first line that mean no job stop it too
 pub HasCause-by_line : (bytes : List ℕ) (stop : Stop) → length bytes ≤ most_bytes [] → HasWords bytes → EndsWords (words_of [] bytes) stop
-    → ShowsLine (first_line bytes) stop → (is_shown_whole (first_line bytes) ≡ true → TellsPlainly (words_of [] bytes) stop) → HasCause [] bytes stop
-HasCause-by_line bytes stop short text e shows tells = elim e.statuses [
+    → ShowsLine (first_line bytes) stop → (is_shown_whole (first_line bytes) ≡ true → WritesPlainly (words_of [] bytes) stop) → HasCause [] bytes stop
+HasCause-by_line bytes stop short text e shows reports = elim e.statuses [
   | inl zero_is ↦ inl (zero_is, inl (e.help zero_is))
   | inr (inl two) ↦
-      inr (inr (inl (record { status = two; short = λ none. short; cause = inr (inr ((λ none. text), e.mistake two, e.no_job (λ three. omega arith), no_words_ask, (shows, tells))) })))
+      inr (inr (inl (record { status = two; short = λ none. short; cause = inr (inr ((λ none. text), e.mistake two, e.no_job (λ three. omega arith), no_words_ask, (shows, reports))) })))
   | inr (inr three) ↦ inr (inr (inr (inl (three, e.memory three))))
 ]
 
 -- the report about a line's words, for the same line and words under other names
-pub TellsPlainly-of : {line first : List ℕ} {words taken : List (List ℕ)} (stop : Stop) → line ≡ first → words ≡ taken →
-    (is_shown_whole line ≡ true → TellsPlainly words stop) → is_shown_whole first ≡ true → TellsPlainly taken stop
-TellsPlainly-of {line} {first} {words} {taken} stop same_line same_words tells =
-    subst (λ (text : List ℕ). is_shown_whole text ≡ true → TellsPlainly taken stop) same_line
-    (subst (λ (those : List (List ℕ)). is_shown_whole line ≡ true → TellsPlainly those stop) same_words tells)
+pub WritesPlainly-of : {line first : List ℕ} {words taken : List (List ℕ)} (stop : Stop) → line ≡ first → words ≡ taken →
+    (is_shown_whole line ≡ true → WritesPlainly words stop) → is_shown_whole first ≡ true → WritesPlainly taken stop
+WritesPlainly-of {line} {first} {words} {taken} stop same_line same_words reports =
+    subst (λ (text : List ℕ). is_shown_whole text ≡ true → WritesPlainly taken stop) same_line
+    (subst (λ (those : List (List ℕ)). is_shown_whole line ≡ true → WritesPlainly those stop) same_words reports)
 
 -- a first line that isn't text stops it
 pub HasCause-by_bytes : (bytes : List ℕ) (stop : Stop) → length bytes ≤ most_bytes [] → ¬ IsUtf8 (first_line bytes)
@@ -156,7 +156,8 @@ refusal_statuses limits (Check cycles) input stop h = h.statuses
 refusal_statuses limits (Summary cycles) input stop h = h.statuses
 refusal_statuses limits (Offers cycles seed) input stop h = h.statuses
 refusal_statuses limits (Hops cycles stream frame) input stop h = h.statuses
-refusal_statuses limits (Plan table given verbose) input stop h = h.statuses
+refusal_statuses limits (Plan options) input stop h = h.statuses
+refusal_statuses limits (Diff quiet) input stop h = h.statuses
 
 -- a refused input with status 3 has no text
 refusal_memory : (limits : Limits) (job : Job) (input : List ℕ) (stop : Stop) → IsRefusal limits job input stop → stop.status ≡ 3 → stop.text.items ≡ []
@@ -176,7 +177,8 @@ refusal_memory limits (Check cycles) input stop h = h.memory
 refusal_memory limits (Summary cycles) input stop h = h.memory
 refusal_memory limits (Offers cycles seed) input stop h = h.memory
 refusal_memory limits (Hops cycles stream frame) input stop h = h.memory
-refusal_memory limits (Plan table given verbose) input stop h = h.memory
+refusal_memory limits (Plan options) input stop h = h.memory
+refusal_memory limits (Diff quiet) input stop h = h.memory
 
 -- a job that fails has status 4
 failure_status : (limits : Limits) (job : Job) (input : List ℕ) (stop : Stop) → IsFailure limits job input stop → stop.status ≡ 4
@@ -193,7 +195,8 @@ failure_status limits (Check cycles) input stop h = absurd h
 failure_status limits (Summary cycles) input stop h = absurd h
 failure_status limits (Offers cycles seed) input stop h = absurd h
 failure_status limits (Hops cycles stream frame) input stop h = absurd h
-failure_status limits (Plan table given verbose) input stop h = absurd h
+failure_status limits (Plan options) input stop h = absurd h
+failure_status limits (Diff quiet) input stop h = absurd h
 
 -- an input that is refused stops it
 HasCause-by_refusal : (words : List (List ℕ)) (bytes : List ℕ) (job : Job) (stop : Stop) → length bytes ≤ most_bytes words
@@ -223,21 +226,21 @@ HasCause-by_end words bytes job stop short text means (inr h) = HasCause-by_fail
 pub IsDone-by_line : (bytes rest output : List ℕ) (words : List (List ℕ)) (limits : Limits) (job : Job) → length bytes ≤ most_bytes [] → HasWords bytes
     → words ≡ words_of [] bytes → limits ≡ limits_of (words_of [] bytes) → rest ≡ input_of [] bytes → Mean words job → IsOutput limits job rest output
     → IsDone [] bytes output
-IsDone-by_line bytes rest output words limits job short text same within behind means h = record {
+IsDone-by_line bytes rest output words limits job short text same within following means h = record {
   short = short;
   text = λ _. text;
   job = job;
   means = subst (λ (those : List (List ℕ)). Mean those job) same means;
-  is_output = subst₂ (λ (set : Limits) (input : List ℕ). IsOutput set job input output) within behind h;
+  is_output = subst₂ (λ (set : Limits) (input : List ℕ). IsOutput set job input output) within following h;
 }
 
 -- and one that ends without its output is stopped
 pub HasCause-by_line_end : (bytes rest : List ℕ) (words : List (List ℕ)) (limits : Limits) (job : Job) (stop : Stop) → length bytes ≤ most_bytes []
     → HasWords bytes → words ≡ words_of [] bytes → limits ≡ limits_of (words_of [] bytes) → rest ≡ input_of [] bytes → Mean words job
     → IsEnd limits job rest stop → HasCause [] bytes stop
-HasCause-by_line_end bytes rest words limits job stop short text same within behind means h =
+HasCause-by_line_end bytes rest words limits job stop short text same within following means h =
     HasCause-by_end [] bytes job stop short (λ _. text) (subst (λ (those : List (List ℕ)). Mean those job) same means)
-    (subst₂ (λ (set : Limits) (input : List ℕ). IsEnd set job input stop) within behind h)
+    (subst₂ (λ (set : Limits) (input : List ℕ). IsEnd set job input stop) within following h)
 
 -- if words are given, they are the run's
 means_given : (words : List (List ℕ)) (bytes : List ℕ) (job : Job) → words ≢ [] → Mean words job → Mean (words_of words bytes) job
@@ -290,18 +293,18 @@ answer_of words input stop (inr (inr (inr (inr e)))) none = absurd (omega (arith
 module _ (fails refuses : ErrorKind → Type 0) (words : List (List ℕ)) (input : Reading) (output faults : Writing)
     (may_fail : input.failed ≡ true → SomeKind fails) (may_refuse : output.refused ≡ true → SomeKind refuses) where
   -- a run that writes its output ends with that, or with the output's fault
-  Ends-told : (text : List ℕ) (status : ℕ) → IsHeard (most_bytes words) input → IsBehindWords words input → IsToldOutput words input text → input.failed ≡ false
+  Ends-reported : (text : List ℕ) (status : ℕ) → IsHeard (most_bytes words) input → IsAfterWords words input → IsWrittenOutput words input text → input.failed ≡ false
       → HandsOver text output faults status → Ends fails refuses words input output faults status
-  Ends-told text status heard behind_words is_output sound h = record {
+  Ends-reported text status heard after_words is_output sound h = record {
     heard = heard;
-    behind_words = behind_words;
+    after_words = after_words;
     by_status = elim h.statuses [
       | inl none ↦ inl (
         none,
         record {
           text = text;
           is_output = is_output;
-          written = Appends-whole output text h.told (h.done none).0;
+          written = Appends-whole output text h.reported (h.done none).0;
           clean = (h.done none).1;
           sound = sound;
           accepted = (h.done none).0;
@@ -315,7 +318,7 @@ module _ (fails refuses : ErrorKind → Type 0) (words : List (List ℕ)) (input
           sound = sound;
           text = text;
           is_output = is_output;
-          told = h.told;
+          reported = h.reported;
           line = (h.fault four).1;
         })),
       ))))
@@ -323,45 +326,45 @@ module _ (fails refuses : ErrorKind → Type 0) (words : List (List ℕ)) (input
   }
 
   -- a run that is done ends with its output
-  pub Ends-ran : (text : List ℕ) (status : ℕ) → IsHeard (most_bytes words) input → IsBehindWords words input → HasRun words input text → HandsOver text output faults status
+  pub Ends-ran : (text : List ℕ) (status : ℕ) → IsHeard (most_bytes words) input → IsAfterWords words input → HasRun words input text → HandsOver text output faults status
       → Ends fails refuses words input output faults status
-  Ends-ran text status heard behind_words ran h = Ends-told text status heard behind_words (inl (ran.is_done, ran.at_end)) ran.sound h
+  Ends-ran text status heard after_words ran h = Ends-reported text status heard after_words (inl (ran.is_done, ran.at_end)) ran.sound h
 
   -- a run that is stopped with status 4 ends with the fault of the reader, or of the run
-  fault_told : (stop : Stop) → HasFault words input stop → TellsFaultAlone stop.text.items output faults
+  fault_written : (stop : Stop) → HasFault words input stop → WritesFaultAlone stop.text.items output faults
       → EndsFaulty fails refuses words input output faults
-  fault_told stop (inl h) told = inl (record {
+  fault_written stop (inl h) reported = inl (record {
     failed = h.0;
     may = may_fail h.0;
-    told = subst (λ text. TellsFaultAlone text output faults) h.1 told;
+    reported = subst (λ text. WritesFaultAlone text output faults) h.1 reported;
   })
-  fault_told stop (inr h) told = inr (inr (record { sound = h.0; at_end = h.1; stop = stop; failed = h.2; told = told }))
+  fault_written stop (inr h) reported = inr (inr (record { sound = h.0; at_end = h.1; stop = stop; failed = h.2; reported = reported }))
 
   -- the one case of a run that is stopped by its own line
-  barred_by_status : (stop : Stop) → IsStopped words input stop → stop.status ≢ 0 → stop.status ≢ 3 → TellsFaultAlone stop.text.items output faults
+  barred_by_status : (stop : Stop) → IsStopped words input stop → stop.status ≢ 0 → stop.status ≢ 3 → WritesFaultAlone stop.text.items output faults
       → EndsByStatus fails refuses words input output faults stop.status
-  barred_by_status stop (inl e) some known told = absurd (some e.0)
-  barred_by_status stop (inr (inl e)) some known told =
-      inr (inl (e.0, record { stop = stop; refused = e.1.refused; told = told; whole = e.1.whole; sound = e.1.sound }))
-  barred_by_status stop (inr (inr (inl e))) some known told =
-      inr (inr (inl (e.0, record { stop = stop; misused = e.1.misused; told = told; at_end = e.1.at_end; sound = e.1.sound })))
-  barred_by_status stop (inr (inr (inr (inl e)))) some known told = absurd (known e.0)
-  barred_by_status stop (inr (inr (inr (inr e)))) some known told = inr (inr (inr (inr (e.0, fault_told stop e.1 told))))
+  barred_by_status stop (inl e) some known reported = absurd (some e.0)
+  barred_by_status stop (inr (inl e)) some known reported =
+      inr (inl (e.0, record { stop = stop; refused = e.1.refused; reported = reported; whole = e.1.whole; sound = e.1.sound }))
+  barred_by_status stop (inr (inr (inl e))) some known reported =
+      inr (inr (inl (e.0, record { stop = stop; misused = e.1.misused; reported = reported; at_end = e.1.at_end; sound = e.1.sound })))
+  barred_by_status stop (inr (inr (inr (inl e)))) some known reported = absurd (known e.0)
+  barred_by_status stop (inr (inr (inr (inr e)))) some known reported = inr (inr (inr (inr (e.0, fault_written stop e.1 reported))))
 
   -- a run that is stopped ends as it was stopped
-  pub Ends-stopped : (stop : Stop) (status : ℕ) → IsHeard (most_bytes words) input → IsBehindWords words input → IsStopped words input stop
-      → TellsStop stop output faults status → Ends fails refuses words input output faults status
-  Ends-stopped stop status heard behind_words s (inl t) =
+  pub Ends-stopped : (stop : Stop) (status : ℕ) → IsHeard (most_bytes words) input → IsAfterWords words input → IsStopped words input stop
+      → WritesStop stop output faults status → Ends fails refuses words input output faults status
+  Ends-stopped stop status heard after_words s (inl t) =
       let answer = answer_of words input stop s t.0 in
-      Ends-told stop.text.items status heard behind_words (inr (answer.answered, answer.at_end)) answer.sound t.1
-  Ends-stopped stop status heard behind_words s (inr (inl t)) = record {
+      Ends-reported stop.text.items status heard after_words (inr (answer.answered, answer.at_end)) answer.sound t.1
+  Ends-stopped stop status heard after_words s (inr (inl t)) = record {
     heard = heard;
-    behind_words = behind_words;
+    after_words = after_words;
     by_status = inr (inr (inr (inl (t.1, t.2))));
   }
-  Ends-stopped stop status heard behind_words s (inr (inr t)) = record {
+  Ends-stopped stop status heard after_words s (inr (inr t)) = record {
     heard = heard;
-    behind_words = behind_words;
+    after_words = after_words;
     by_status = subst (λ (given : ℕ). EndsByStatus fails refuses words input output faults given) (sym t.2) (barred_by_status stop s t.0 t.1 t.3);
   }
 
@@ -384,15 +387,15 @@ faulty_of fails refuses words input output faults e = elim e.by_status [
 pub faults-read : (fails refuses : ErrorKind → Type 0) → NoKind fails → FaultIsOfThreadsOrOutput fails refuses
 faults-read fails refuses none words input output faults e = elim (faulty_of fails refuses words input output faults e) [
   | inl read ↦ absurd (none_of fails none read.may)
-  | inr (inl told) ↦ inr told
+  | inr (inl reported) ↦ inr reported
   | inr (inr run) ↦ inl run
 ]
 
 -- and one of threads, if the output refuses nothing
-pub faults-told : (fails refuses : ErrorKind → Type 0) → NoKind fails → NoKind refuses → FaultIsOfThreads fails refuses
-faults-told fails refuses none nothing words input output faults e = elim (faults-read fails refuses none words input output faults e) [
+pub faults-reported : (fails refuses : ErrorKind → Type 0) → NoKind fails → NoKind refuses → FaultIsOfThreads fails refuses
+faults-reported fails refuses none nothing words input output faults e = elim (faults-read fails refuses none words input output faults e) [
   | inl run ↦ run
-  | inr told ↦ absurd (none_of refuses nothing told.may)
+  | inr reported ↦ absurd (none_of refuses nothing reported.may)
 ]
 
 -- a number that is read from a text is at most the limit
@@ -414,7 +417,8 @@ job_within (Check cycles) name rows is = number_within 1 100000 cycles (first_of
 job_within (Summary cycles) name rows is = number_within 1 100000 cycles (first_of (codes "cycles") rows) is.1
 job_within (Offers cycles seed) name rows is = number_within 1 100000 cycles (first_of (codes "cycles") rows) is.1
 job_within (Hops cycles stream frame) name rows is = number_within 1 100000 cycles (first_of (codes "cycles") rows) is.1
-job_within (Plan table given verbose) name rows is = tt
+job_within (Plan options) name rows is = tt
+job_within (Diff quiet) name rows is = tt
 
 -- the numbers of a job that options give are within their ranges
 found_within : (job : Job) (found : Option (Text × List Row)) → IsJob job found → IsWithin job
@@ -433,7 +437,7 @@ no_words (word ∷ words) none = absurd (omega (arith, none))
 -- the result of a run has a property that follows from another
 pub Begins-weaker : {A B : List ℕ → Type 0} {P Q : ThreadedRun → Type 0} (begun : Begun) → ((text : List ℕ) → A text → B text)
     → ((threaded : ThreadedRun) → P threaded → Q threaded) → Begins A P begun → Begins B Q begun
-Begins-weaker (Ready output) outputs runs told = (told.0, told.1, outputs told.0 told.2)
+Begins-weaker (Ready output) outputs runs reported = (reported.0, reported.1, outputs reported.0 reported.2)
 Begins-weaker (Threads threaded) outputs runs left = runs threaded left
 
 -- a job that is a run on threads leaves it, if its words are given
@@ -519,7 +523,8 @@ no_threads (Check own) name rows cycles is other h = not_both name (codes "check
 no_threads (Summary own) name rows cycles is other h = not_both name (codes "summary") (codes "run") is.0 h.0 (λ e. omega (arith, e))
 no_threads (Offers own seed) name rows cycles is other h = not_both name (codes "offers") (codes "run") is.0 h.0 (λ e. omega (arith, e))
 no_threads (Hops own stream frame) name rows cycles is other h = not_both name (codes "hops") (codes "run") is.0 h.0 (λ e. omega (arith, e))
-no_threads (Plan table given verbose) name rows cycles is other h = not_both name (codes "plan") (codes "run") is.0 h.0 (λ e. omega (arith, e))
+no_threads (Plan options) name rows cycles is other h = not_both name (codes "plan") (codes "run") is.0 h.0 (λ e. omega (arith, e))
+no_threads (Diff quiet) name rows cycles is other h = not_both name (codes "diff") (codes "run") is.0 h.0 (λ e. omega (arith, e))
 
 -- what is read from words isn't both
 no_threads_found : (job : Job) (found : Option (Text × List Row)) (cycles : ℕ) → IsJob job found → is_threaded job ≡ false → IsJob (Run cycles true) found → ⊥

@@ -3,7 +3,7 @@
 use crate::given::CommandInput;
 use crate::places::Grouped;
 use crate::reading::{domain_at, edge_traffic, read_network, request_of};
-use crate::told::ToldLines;
+use crate::reported::ReportedLines;
 use crate::written::{KeyOwner, WrittenItem};
 use cqf_admission::{Admission, budget_on, guard_on};
 use cqf_model::{LEAST_OCTETS, LONGEST_CYCLE, Link, MOST_OCTETS, Node, Refused};
@@ -235,9 +235,9 @@ fn remedy_of(
 }
 
 /// Reports a stream for which a link has too little left.
-fn tell_short(
+fn report_short(
     given: &CommandInput<'_>,
-    told: &mut ToldLines,
+    reported: &mut ReportedLines,
     granted: &Granted,
     item: &WrittenItem<'_>,
     short: Short,
@@ -260,15 +260,15 @@ fn tell_short(
         Grouped(u64::from(budget_on(domain, short.link).0)),
     );
     let (place, label) = (item.place_of("octets"), item.counted(alloc)?);
-    told.tell(format!(in alloc;
+    reported.report(format!(in alloc;
         "{place}: {label} needs {cost} octets a cycle on {from}>{to}, {left} are left of {budget}{remedy}"
     )?)
 }
 
 /// Reports each stream for which a link has too little left beside the streams that are granted before it.
-pub(crate) fn tell_short_streams(
+pub(crate) fn report_short_streams(
     given: &CommandInput<'_>,
-    told: &mut ToldLines,
+    reported: &mut ReportedLines,
 ) -> Result<(), AllocError> {
     let alloc = given.alloc;
     let Some(network) = read_network(given)? else {
@@ -287,8 +287,8 @@ pub(crate) fn tell_short_streams(
         let request = request_of(alloc, item)?;
         match answer_to(&mut admission, &request)? {
             Answer::Granted => granted.requests.push(request)?,
-            Answer::Short(short) if !told.is_counted() => {
-                tell_short(given, told, &granted, item, short)?;
+            Answer::Short(short) if !reported.is_counted() => {
+                report_short(given, reported, &granted, item, short)?;
             }
             _ => {}
         }

@@ -140,7 +140,7 @@ pub(crate) fn is_name(value: &Value) -> bool {
 }
 
 /// Returns a value as it may be written.
-pub(crate) fn told_value(alloc: Global, value: &Value) -> Result<String, AllocError> {
+pub(crate) fn reported_value(alloc: Global, value: &Value) -> Result<String, AllocError> {
     if let Some(number) = value.as_integer() {
         return format!(in alloc; "{number}");
     }
@@ -164,7 +164,7 @@ pub(crate) fn told_value(alloc: Global, value: &Value) -> Result<String, AllocEr
 pub(crate) fn written(alloc: Global, found: &FoundKey<'_>) -> Result<String, AllocError> {
     let text = before_comment(found.text).trim_ascii();
     if text.is_empty() {
-        told_value(alloc, found.value)
+        reported_value(alloc, found.value)
     } else {
         shown(alloc, text)
     }

@@ -7,12 +7,12 @@ ghost use Rattle.cqf_program_explanations.specs.Explanations.{AreNotes};
 use crate::explaining::NamedFile;
 use crate::given::given_of;
 use crate::planning::is_in_step;
-use crate::told::ToldLines;
+use crate::reported::ReportedLines;
 use crate::written::{KeyOwner, WrittenItem};
 use cqf_edge::{EdgeFault, EdgeStreams, edge_streams, read_streams_are_written};
 use cqf_model::{LEAST_OCTETS, LONGEST_CYCLE, Limits};
 use cqf_network::{
-    FlowsFault, NetworkDomain, NetworkFault, Pacing, Stream, WantedWay, read_network_streams,
+    FlowsFault, NetworkDomain, NetworkFault, Pacing, Stream, WantedPath, read_network_streams,
 };
 use cqf_topology::{DomainFault, StreamsFault};
 use cqf_traffic::Traffic;
@@ -66,7 +66,7 @@ impl fmt::Display for DataRate {
     }
 }
 
-/// A plan as it is read: its streams at their edge bridges, and what their talkers promise at the hand-over, by the same places.
+/// A plan as it is read: its streams at their edge bridges, and what their talkers promise at the hand-over, by the same indices.
 #[derive(Drop)]
 struct ReadPlan {
     /// In nanoseconds.
@@ -160,9 +160,9 @@ fn read_plan(alloc: Global, limits: Limits, plan: &[u8]) -> Result<Option<ReadPl
 }
 
 /// Returns how many bridges the longest path of a stream has; 0 if it has none yet.
-fn bridges_on(way: &WantedWay) -> u64 {
+fn bridges_on(path: &WantedPath) -> u64 {
     let mut most: u64 = 0;
-    if let WantedWay::Along(paths) = way {
+    if let WantedPath::Along(paths) = path {
         for path in paths {
             most = most.max((path.len() as u64).saturating_sub(1));
         }
@@ -198,7 +198,7 @@ impl ReadPlan {
             least,
             most,
             deadline: stream.deadline,
-            bridges: bridges_on(&stream.way),
+            bridges: bridges_on(&stream.path),
         })
     }
 }
@@ -299,17 +299,17 @@ fn cheaper_forms(
 /// Notes a stream if it reserves much more than it sends.
 fn note_stream(
     alloc: Global,
-    told: &mut ToldLines,
+    reported: &mut ReportedLines,
     item: &WrittenItem<'_>,
     planned: &PlannedStream,
 ) -> Result<(), AllocError> {
     let (reserved, sent) = (planned.reserved(), planned.sent());
-    if !reserved.is_above(MOST_TIMES, sent) || told.is_counted() {
+    if !reserved.is_above(MOST_TIMES, sent) || reported.is_counted() {
         return Ok(());
     }
     let (place, label) = (item.place_of("interval"), item.label(alloc)?);
     let forms = cheaper_forms(alloc, item, planned)?;
-    told.tell(format!(in alloc;
+    reported.report(format!(in alloc;
         "{place}: {label} reserves {reserved} for {sent} of traffic{forms}"
     )?)
 }
@@ -327,15 +327,15 @@ pub fn plan_notes(
 ) -> Result<Vec<u8>, AllocError>
     ensures { IfOk result (λ text. AreNotes text.items) }
 {
-    let mut told = ToldLines::new(alloc);
+    let mut reported = ReportedLines::new(alloc);
     if let Some(read) = read_plan(alloc, limits, plan)? {
         let given = given_of(alloc, "plan", None, &[], limits, sources, "note")?;
         // the plan has the streams of all files in their order
         for (place, item) in given.written.items(KeyOwner::Stream)?.iter().enumerate() {
             if let Some(planned) = read.stream_at(place) {
-                note_stream(alloc, &mut told, item, &planned)?;
+                note_stream(alloc, &mut reported, item, &planned)?;
             }
         }
     }
-    told.text("note: ")
+    reported.text("note: ")
 }

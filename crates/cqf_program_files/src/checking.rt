@@ -5,7 +5,7 @@ ghost use Rattle.cqf_output.specs.Stops.{EndsWith};
 ghost use Rattle.cqf_program_files.specs.Keys.{strange_key};
 ghost use Rattle.cqf_program_files.specs.Opening.{count_of_network, count_of_plain, open_refusal, open_refusal_of};
 ghost use Rattle.cqf_program_files.specs.Files.{EndsBy, EndsFiles, EndsTogether, EndsUnwritten, IsCheckedJoint, IsNetworkText, IsTextOf};
-ghost use Rattle.cqf_program_files.specs.Files.{first_long_among, first_refusal, first_strange_among, is_plain, joint_refusal, most_shown};
+ghost use Rattle.cqf_program_files.specs.Files.{alone_refusal, first_long_among, first_refusal, first_strange_among, is_plain, joint_refusal, most_shown};
 ghost use Rattle.cqf_program_files.specs.Files.{plain_fault, files_fault_line};
 ghost use Rattle.cqf_program_files.specs.Files.{shown_key, shown_octet, strange_in, table_of, tables_of, tables_refusal, texts_refusal, toml_text, toml_texts};
 
@@ -118,8 +118,8 @@ fn toml_texts<'t>(
         ≡ toml_texts (map (λ name. name.now) names.now) (map (λ text. text.now) texts.now)) }
 {
     let mut found = Vec::new(alloc);
-    for place in 0..names.len() {
-        put_toml(&mut found, names[place], texts[place])?;
+    for position in 0..names.len() {
+        put_toml(&mut found, names[position], texts[position])?;
     }
     Ok(found)
 }
@@ -301,6 +301,16 @@ fn check_first(alloc: Global, names: &[&str], texts: &[&[u8]]) -> Result<(), Sto
         Ok(Some(fault)) => Err(stop_of(alloc, &fault)),
         Err(_) => Err(Stop::memory(alloc)),
     }
+}
+
+/// Checks a file that is a network by itself. Returns `Err` if it is refused, or if an allocation fails.
+pub(crate) fn check_alone(alloc: Global, names: &[&str], texts: &[&[u8]]) -> Result<(), Stop>
+    requires { length names.now ≡ length texts.now }
+    ensures ok { OnOk result (alone_refusal (map (λ name. name.now) names.now) (map (λ text. text.now) texts.now) ≡ None) }
+    ensures err { IfErr result (EndsBy (alone_refusal (map (λ name. name.now) names.now) (map (λ text. text.now) texts.now))) }
+{
+    check_texts(alloc, names, texts)?;
+    check_first(alloc, names, texts)
 }
 
 /// Checks the files of a plan, and returns the text of their one plan if the first of them are 2 to 16 TOML files. Returns `Err` with

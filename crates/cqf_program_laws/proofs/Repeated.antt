@@ -18,11 +18,11 @@ use Rattle.cqf_model.specs.History.{Asked, held_in, refused_if}
 use Rattle.cqf_model.specs.Limits.{most_every, streams_within}
 use Rattle.cqf_model.specs.Table.{cost_on, link_cost}
 use Rattle.cqf_admission.specs.Judging.{form_refusal}
-use Rattle.cqf_admission.specs.Turns.{AreOfGoodPaces, IsOfGoodPace}
+use Rattle.cqf_admission.specs.ActiveCycles.{AreOfGoodPaces, IsOfGoodPace}
 use Rattle.cqf_admission.proofs.GrantLemmas.{form_paced}
 use Rattle.cqf_admission.proofs.Paced.{good_held}
-use Rattle.cqf_admission.proofs.TurnLemmas.{asked_is_good}
-use Rattle.cqf_laws_history.proofs.Turns.{uses_again}
+use Rattle.cqf_admission.proofs.ActiveCycleLemmas.{asked_is_good}
+use Rattle.cqf_laws_history.proofs.ActiveCycles.{uses_again}
 use Rattle.cqf_program_plans.specs.Compile.Output.{stream_line}
 use Rattle.cqf_program_plans.specs.Load.Listing.{listed_row, listing_refusal}
 use Rattle.cqf_program_plans.specs.Load.Output.{listed_from}

@@ -10,7 +10,7 @@ use Rattle.cqf_model.specs.Table.{link_cost}
 use Rattle.cqf_program_placing.specs.declared.branched.Branched.{Branched}
 use Rattle.cqf_program_placing.specs.declared.rooms.Emptiest.{Emptiest}
 use Rattle.cqf_program_placing.specs.declared.rooms.Rooms.{Rooms}
-use Rattle.cqf_program_placing.specs.Turns.{IsGoodEvery, lefts_on}
+use Rattle.cqf_program_placing.specs.ActiveCycles.{IsGoodEvery, lefts_on}
 
 -- there is a number for each link
 pub record IsFilled (d : Domain) (emptiest : Emptiest) : Type 0 where
@@ -26,9 +26,9 @@ abbrev pub AreKnown : Domain → List Row → Rooms → Type 0
 AreKnown d rows rooms = All (IsKnown d rows) rooms.known.items
 
 -- the numbers for this `every` are at an index
-pub record IsKnownAt (rooms : Rooms) (every place : ℕ) : Type 0 where
-  pub within : place < length rooms.known.items
-  pub is : (none : Emptiest) → (get_or rooms.known.items place none).every ≡ every
+pub record IsKnownAt (rooms : Rooms) (every index : ℕ) : Type 0 where
+  pub within : index < length rooms.known.items
+  pub is : (none : Emptiest) → (get_or rooms.known.items index none).every ≡ every
 
 -- at the numbers of some links there is the present value, or the former one; at all others the former one
 pub record AreRenewed (now : ℕ → ℕ) (links before after : List ℕ) : Type 0 where

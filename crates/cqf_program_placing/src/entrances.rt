@@ -5,7 +5,7 @@ ghost use Rattle.cqf_network.specs.StreamsText.{wanted_text};
 ghost use Rattle.cqf_program_placing.specs.Settled.{entrance_at, talker_of_stream};
 
 use cqf_model::Node;
-use cqf_network::{NetworkDomain, TalkerLink, WantedWay};
+use cqf_network::{NetworkDomain, TalkerLink, WantedPath};
 use cqf_topology::Domain;
 use cqf_units::Name;
 
@@ -64,12 +64,12 @@ pub(crate) fn find_entrance(at: OpenNetwork, name: &Name) -> Option<Entrance>
 }
 
 /// Returns the talker's link on which a stream reaches its edge bridge; none for a stream with given branches, or from a bridge.
-pub(crate) fn find_talker(at: OpenNetwork, way: &WantedWay) -> Option<TalkerLink>
-    ensures { result ≡ talker_of_stream at.entry.network.now at.entry.plan.now (wanted_text way.now) }
+pub(crate) fn find_talker(at: OpenNetwork, path: &WantedPath) -> Option<TalkerLink>
+    ensures { result ≡ talker_of_stream at.entry.network.now at.entry.plan.now (wanted_text path.now) }
 {
-    match way {
-        WantedWay::Along(_) => None,
-        WantedWay::Between(from, _) => match find_entrance(at, from) {
+    match path {
+        WantedPath::Along(_) => None,
+        WantedPath::Between(from, _) => match find_entrance(at, from) {
             Some(entrance) => entrance.talker,
             None => None,
         },

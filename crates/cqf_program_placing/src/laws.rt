@@ -2,7 +2,7 @@
 ghost use Rattle.cqf_program_placing.specs.Room.{PlacedWhereThereIsRoom};
 
 use cqf_laws_history::state_follows_history;
-use cqf_network::first_ways_are_a_tree;
+use cqf_network::first_paths_are_a_tree;
 
 /// Streams of a network file that are placed on a cycle time one after the other are each placed if there is room with those that are
 /// placed before it.
@@ -23,5 +23,5 @@ pub fn placed_where_there_is_room()
     ensures { PlacedWhereThereIsRoom }
 {
     state_follows_history();
-    first_ways_are_a_tree();
+    first_paths_are_a_tree();
 }

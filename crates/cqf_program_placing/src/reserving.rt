@@ -4,7 +4,7 @@ ghost use Rattle.cqf_model.specs.Limits.{most_reserved};
 ghost use Rattle.cqf_program_placing.specs.Placing.{reserved_by, reserved_on};
 ghost use Rattle.cqf_program_placing.specs.Settled.{are_reservable, settled_value};
 
-use crate::turns::can_step;
+use crate::active_cycles::can_step;
 use crate::{PlanFault, Settled};
 use cqf_admission::MOST_OCTETS;
 use cqf_topology::Domain;

@@ -5,7 +5,7 @@ ghost use Rattle.cqf_model.specs.declared.topology.Row.{Row};
 ghost use Rattle.cqf_model.specs.History.{held_in, seals};
 ghost use Rattle.cqf_model.specs.Table.{links_in};
 ghost use Rattle.cqf_program_placing.specs.Known.{AreKnown, AreRenewed, IsFilled, IsKnown, IsKnownAt, TakesNothingOff};
-ghost use Rattle.cqf_program_placing.specs.Turns.{IsGoodEvery, left_emptiest, lefts_on, pace_by};
+ghost use Rattle.cqf_program_placing.specs.ActiveCycles.{IsGoodEvery, left_emptiest, lefts_on, pace_by};
 
 use cqf_admission::Admission;
 use cqf_model::{Hop, Pace};
@@ -33,7 +33,7 @@ fn left_on(domain: &Domain, admission: &Admission, link: u16, every: u8) -> u32
 {
     let hop = Hop {
         link,
-        depth: 0,
+        hop_number: 0,
         from: None,
     };
     let mut most: u32 = 0;
@@ -116,12 +116,12 @@ impl Rooms {
         ensures known { AreKnown domain.now (held_in domain.now admission.now.entries (seals admission.now.entries)) self.new }
         ensures there { IfOk result (IsKnownAt self.new every) }
     {
-        let place = self
+        let index = self
             .known
             .iter()
             .position(|emptiest| emptiest.every == every);
-        if let Some(place) = place {
-            return Ok(place);
+        if let Some(index) = index {
+            return Ok(index);
         }
         let left = lefts(alloc, domain, admission, every)?;
         self.known.push(Emptiest { every, left })?;
@@ -129,11 +129,11 @@ impl Rooms {
     }
 
     /// Returns what each link has left in its emptiest phase of `every`, by number, which is at this index.
-    pub(crate) fn lefts_at(&self, place: usize, every: u8) -> &[u32]
-        requires { IsKnownAt self.now every place }
+    pub(crate) fn lefts_at(&self, index: usize, every: u8) -> &[u32]
+        requires { IsKnownAt self.now every index }
         ensures { (d : Domain) (rows : List Row) → AreKnown d rows self.now → result.now ≡ lefts_on d rows every }
     {
-        self.known[place].left.as_slice()
+        self.known[index].left.as_slice()
     }
 
     /// Recomputes what the links of a tree's hops have left, after a stream was placed along them.

@@ -8,7 +8,7 @@ use std::alloc::AllocFailed;
 
 /// The path of a stream.
 #[derive(Debug, Drop)]
-pub enum StreamWay {
+pub enum StreamPath {
     /// Along these branches of a tree, each the names of its bridges, in order, and then of the listener's station.
     Along(Vec<Vec<String>>),
     /// From the bridge of this number to the stations of these numbers, in their order, by paths that are still to be found.
@@ -23,7 +23,7 @@ pub struct Settled {
     pub octets: Option<u32>,
     /// Given cycles are such that a stream may have them.
     pub pacing: Pacing,
-    pub way: StreamWay,
+    pub path: StreamPath,
     /// In nanoseconds, from the edge bridge on; at least 1.
     pub deadline: Option<u32>,
     pub traffic: Option<Traffic>,

@@ -25,9 +25,9 @@ use Rattle.cqf_edge.specs.declared.edge.Passage.{Passage}
 use Rattle.cqf_edge.specs.declared.entrances.Entrance.{Entrance}
 use Rattle.cqf_edge.specs.declared.uses.AccessBound.{AccessBound}
 use Rattle.cqf_edge.specs.declared.uses.Handed.{Handed}
-use Rattle.cqf_edge.specs.Edge.{left_behind, times_on}
-use Rattle.cqf_edge.specs.EdgeFlows.{EdgeFlowsText, at_edges, edge_flows, edges_with, flow_behind, flows_behind, handed_of_all, passage_of}
-use Rattle.cqf_edge.specs.EdgeStreams.{entrances_of, handed_at, handed_at_each, stream_behind, streams_behind}
+use Rattle.cqf_edge.specs.Edge.{left_after, times_on}
+use Rattle.cqf_edge.specs.EdgeFlows.{EdgeFlowsText, at_edges, edge_flows, edges_with, flow_at_edge, flows_at_edge, handed_of_all, passage_of}
+use Rattle.cqf_edge.specs.EdgeStreams.{entrances_of, handed_at, handed_at_each, stream_at_edge, streams_at_edge}
 use Rattle.cqf_edge.specs.Uses.{bounds_of, full_station}
 use Rattle.cqf_network_text.specs.declared.filling.FilledStream.{FilledStream}
 use Rattle.cqf_network_text.specs.NetworkLaws.{AreChoices, IsChoice, chosen_flow, chosen_network_flow, chosen_stream, each_chosen, every_of, phase_of, with_cycle}
@@ -38,15 +38,15 @@ use Rattle.cqf_program_plans.specs.Compile.Output.{admitted_from, with_asked}
 use Rattle.cqf_admission.specs.Asking.{asked_by}
 use Rattle.cqf_program_offers.specs.OffersOutput.{asked_in}
 use Rattle.cqf_network.proofs.StreamParts.{and_first-Ok}
-use Rattle.cqf_program_placing.specs.Placing.{is_chosen_on, turns_on}
-use Rattle.cqf_program_placing.specs.Turns.{IsGoodEvery}
-use Rattle.cqf_program_placing.proofs.Stepping.{every_is_good_in, turns_good}
-use Rattle.cqf_program_placing.specs.Settled.{SettledStream, open_domain, refusal_behind, settled_behind, settled_next}
+use Rattle.cqf_program_placing.specs.Placing.{active_cycles_on, is_chosen_on}
+use Rattle.cqf_program_placing.specs.ActiveCycles.{IsGoodEvery}
+use Rattle.cqf_program_placing.proofs.Stepping.{active_cycles_good, every_is_good_in}
+use Rattle.cqf_program_placing.specs.Settled.{SettledStream, open_domain, refusal_after, settled_after, settled_next}
 use Rattle.cqf_program_placing.proofs.SettledLemmas.{settled_by}
 use Rattle.cqf_program_planning.specs.PlanLaws.{IsSoundPlan, ReservesEnough, deadlines_of}
 use Rattle.cqf_program_planning.specs.ReadPlans.{ComeAsPlaced, ComesAsPlaced, ComesIn, IsGoodPlan}
 use Rattle.cqf_program_planning.specs.Steps.{IsTurned}
-use Rattle.cqf_program_planning.proofs.ComesBack.{behind_again, behind_request, choice_kept, comes_back, enters_again, erased_back, handed_back, none_handed, some_left}
+use Rattle.cqf_program_planning.proofs.ComesBack.{after_again, after_request, choice_kept, comes_back, enters_again, erased_back, handed_back, none_handed, some_left}
 use Rattle.cqf_program_planning.proofs.Again.{IsAllowed, allowed_by, settled_again, settled_flow}
 use Rattle.cqf_program_planning.proofs.Erased.{all_erased, bounds_alike}
 use Rattle.cqf_program_planning.proofs.Ones.{IsOne, One}
@@ -120,7 +120,7 @@ module _ (network : NetworkDomain) (talkers : HasTalkerLinks network) (cycle_tim
 
     -- one at its edge bridge
     abbrev pub at_edge : One → FlowText
-    at_edge o = flow_behind (passage_of network bounds (hands_of o)) (read_of o).flow
+    at_edge o = flow_at_edge (passage_of network bounds (hands_of o)) (read_of o).flow
 
     all_handed : (ones : List One) → All Is ones → handed_of_all (with_cycle cycle_time network) (map read_of ones) ≡ Ok (map hands_of ones)
     all_handed [] each = refl
@@ -136,16 +136,16 @@ module _ (network : NetworkDomain) (talkers : HasTalkerLinks network) (cycle_tim
         let rest = all_alike ones (All-tail Is o ones each) in
         (λ i. first i ∷ rest i)
 
-    all_behind : (ones : List One) → flows_behind (map (passage_of network bounds) (map hands_of ones)) (map read_of ones) ≡ map at_edge ones
-    all_behind [] = refl
-    all_behind (o ∷ ones) = ap (λ xs. at_edge o ∷ xs) (all_behind ones)
+    all_after : (ones : List One) → flows_at_edge (map (passage_of network bounds) (map hands_of ones)) (map read_of ones) ≡ map at_edge ones
+    all_after [] = refl
+    all_after (o ∷ ones) = ap (λ xs. at_edge o ∷ xs) (all_after ones)
 
     -- each is offered in one of some cycles
     one_turned : (o : One) → Is o → IsTurned o.flow
     one_turned o is =
         let good_every : IsGoodEvery o.flow.0.0.every =
         subst IsGoodEvery (sym is.taken.every)
-        (every_is_good_in (turns_on cycle_time o.settled) (turns_good cycle_time o.settled.pacing o.settled.traffic is.settles.paced)) in
+        (every_is_good_in (active_cycles_on cycle_time o.settled) (active_cycles_good cycle_time o.settled.pacing o.settled.traffic is.settles.paced)) in
         record { some = good_every.some; few = good_every.few }
 
     pub all_turned : (ones : List One) → All Is ones → All IsTurned (flows_of ones)
@@ -164,16 +164,16 @@ module _ (network : NetworkDomain) (talkers : HasTalkerLinks network) (cycle_tim
     one_comes : (o : One) → 0 < cycle_time → Is o → IsTurned o.flow → ComesAsPlaced cycle_time o.settled o.flow (at_edge o)
     one_comes o some is turned = comes_back network talkers cycle_time good bounds o is (some_round o.flow turned some)
 
-    each_comes : (ones : List One) → 0 < cycle_time → All Is ones → All IsTurned (flows_of ones) → (place : ℕ) (stream : SettledStream) (flow one : FlowText) →
-        slice_get (settled_of_ones ones) place ≡ Some stream → slice_get (flows_of ones) place ≡ Some flow → slice_get (map at_edge ones) place ≡ Some one →
+    each_comes : (ones : List One) → 0 < cycle_time → All Is ones → All IsTurned (flows_of ones) → (index : ℕ) (stream : SettledStream) (flow one : FlowText) →
+        slice_get (settled_of_ones ones) index ≡ Some stream → slice_get (flows_of ones) index ≡ Some flow → slice_get (map at_edge ones) index ≡ Some one →
         ComesAsPlaced cycle_time stream flow one
-    each_comes [] some each turned place stream flow one a b c = absurd cc
+    each_comes [] some each turned index stream flow one a b c = absurd cc
     each_comes (o ∷ ones) some each turned zero stream flow one a b c =
         let first = one_comes o some (All-head Is o ones each) (All-head IsTurned o.flow (flows_of ones) turned) in
         subst (λ (x : SettledStream). ComesAsPlaced cycle_time x flow one) (same_Some o.settled stream a)
         (subst₂ (λ (x y : FlowText). ComesAsPlaced cycle_time o.settled x y) (same_Some o.flow flow b) (same_Some (at_edge o) one c) first)
-    each_comes (o ∷ ones) some each turned (suc place) stream flow one a b c =
-        each_comes ones some (All-tail Is o ones each) (All-tail IsTurned o.flow (flows_of ones) turned) place stream flow one a b c
+    each_comes (o ∷ ones) some each turned (suc index) stream flow one a b c =
+        each_comes ones some (All-tail Is o ones each) (All-tail IsTurned o.flow (flows_of ones) turned) index stream flow one a b c
 
     pub all_come : (ones : List One) → 0 < cycle_time → All Is ones → All IsTurned (flows_of ones) →
         ComeAsPlaced cycle_time (settled_of_ones ones) (flows_of ones) (map at_edge ones)
@@ -224,15 +224,15 @@ module _ (network : NetworkDomain) (talkers : HasTalkerLinks network) (cycle_tim
 
     -- ---- what was chosen may be written
 
-    each_kept : (ones : List One) → 0 < cycle_time → cycle_time ≤ 10000000 → All Is ones → All IsTurned (flows_of ones) → (place : ℕ) (one : FilledStream)
-        (s : StreamText) → slice_get (filled_of ones) place ≡ Some one → slice_get (streams_of ones) place ≡ Some s → IsChoice one s
-    each_kept [] some short each turned place one s a b = absurd cc
+    each_kept : (ones : List One) → 0 < cycle_time → cycle_time ≤ 10000000 → All Is ones → All IsTurned (flows_of ones) → (index : ℕ) (one : FilledStream)
+        (s : StreamText) → slice_get (filled_of ones) index ≡ Some one → slice_get (streams_of ones) index ≡ Some s → IsChoice one s
+    each_kept [] some short each turned index one s a b = absurd cc
     each_kept (o ∷ ones) some short each turned zero one s a b =
         let here = All-head IsTurned o.flow (flows_of ones) turned in
         let first = choice_kept network talkers cycle_time good bounds o (All-head Is o ones each) here.few short (some_round o.flow here some) in
         subst₂ (λ (x : FilledStream) (y : StreamText). IsChoice x y) (same_Some o.filled one a) (same_Some o.stream s b) first
-    each_kept (o ∷ ones) some short each turned (suc place) one s a b =
-        each_kept ones some short (All-tail Is o ones each) (All-tail IsTurned o.flow (flows_of ones) turned) place one s a b
+    each_kept (o ∷ ones) some short each turned (suc index) one s a b =
+        each_kept ones some short (All-tail Is o ones each) (All-tail IsTurned o.flow (flows_of ones) turned) index one s a b
 
     pub all_kept : (ones : List One) → 0 < cycle_time → cycle_time ≤ 10000000 → All Is ones → All IsTurned (flows_of ones) →
         AreChoices (filled_of ones) (streams_of ones)
@@ -261,8 +261,8 @@ module _ (network : NetworkDomain) (talkers : HasTalkerLinks network) (cycle_tim
     pub flows_found : (ones : List One) → All Is ones → bounds ≡ bounds_of network (handed_at_each (streams_of ones) (entrances_of_ones ones)) →
         (all_at_edge ones).flows ≡ map at_edge ones
     flows_found ones each is =
-        ap (λ (bs : List AccessBound). flows_behind (map (passage_of network bs) (map hands_of ones)) (map read_of ones)) (bounds_found ones each is)
-        ∙ all_behind ones
+        ap (λ (bs : List AccessBound). flows_at_edge (map (passage_of network bs) (map hands_of ones)) (map read_of ones)) (bounds_found ones each is)
+        ∙ all_after ones
 
     pub none_found_full : (ones : List One) → All Is ones → bounds ≡ bounds_of network (handed_at_each (streams_of ones) (entrances_of_ones ones)) →
         full_station network bounds ≡ None → (all_at_edge ones).full ≡ None
@@ -271,12 +271,12 @@ module _ (network : NetworkDomain) (talkers : HasTalkerLinks network) (cycle_tim
     -- ---- where no station has an access link, each begins at its edge bridge
 
     plain_flows : (bs : List AccessBound) (ones : List One) → network.talkers ≡ [] → All Is ones →
-        map (λ (one : NetworkFlowText). one.flow) (map read_of ones) ≡ flows_behind (map (passage_of network bs) (map hands_of ones)) (map read_of ones)
+        map (λ (one : NetworkFlowText). one.flow) (map read_of ones) ≡ flows_at_edge (map (passage_of network bs) (map hands_of ones)) (map read_of ones)
     plain_flows bs [] none each = refl
     plain_flows bs (o ∷ ones) none each =
         let first = none_handed network talkers cycle_time good bounds o (All-head Is o ones each) none in
         let rest = plain_flows bs ones none (All-tail Is o ones each) in
-        (λ i. flow_behind (passage_of network bs (sym first i)) (read_of o).flow ∷ rest i)
+        (λ i. flow_at_edge (passage_of network bs (sym first i)) (read_of o).flow ∷ rest i)
 
     plain_times : (bs : List AccessBound) (ones : List One) → network.talkers ≡ [] → All Is ones →
         map (λ (flow : FlowText). None) (map (λ (one : NetworkFlowText). one.flow) (map read_of ones))
@@ -315,13 +315,13 @@ module _ (network : NetworkDomain) (talkers : HasTalkerLinks network) (cycle_tim
 
     -- ---- their deadlines
 
-    left_by : (q : Option Passage) (flow : FlowText) → ((x : ℕ) → (flow_behind q flow).0.1 ≡ Some x → 1 ≤ x) →
-        IsLeft flow.0.1 (flow_behind q flow).0.1 (option_map times_on q)
+    left_by : (q : Option Passage) (flow : FlowText) → ((x : ℕ) → (flow_at_edge q flow).0.1 ≡ Some x → 1 ≤ x) →
+        IsLeft flow.0.1 (flow_at_edge q flow).0.1 (option_map times_on q)
     left_by None flow some = refl
     left_by (Some q) flow some = by flow.0.1 some
       where
-        by : (written : Option ℕ) → ((x : ℕ) → option_map (left_behind (times_on q)) written ≡ Some x → 1 ≤ x) →
-            IsLeft written (option_map (left_behind (times_on q)) written) (Some (times_on q))
+        by : (written : Option ℕ) → ((x : ℕ) → option_map (left_after (times_on q)) written ≡ Some x → 1 ≤ x) →
+            IsLeft written (option_map (left_after (times_on q)) written) (Some (times_on q))
         by None some = refl
         by (Some deadline) some = (refl, some (deadline - (times_on q).most) refl)
 
@@ -334,7 +334,7 @@ module _ (network : NetworkDomain) (talkers : HasTalkerLinks network) (cycle_tim
     AllLeft bs ones n =
         let ps = map (passage_of network bs) (map hands_of ones) in
         IsLeft (deadline_of (map (λ (one : NetworkFlowText). one.flow.0.1) (map read_of ones)) n)
-        (deadline_of (deadlines_of (flows_behind ps (map read_of ones))) n) (times_of (map (option_map times_on) ps) n)
+        (deadline_of (deadlines_of (flows_at_edge ps (map read_of ones))) n) (times_of (map (option_map times_on) ps) n)
 
     left_there : (ones : List One) → 0 < cycle_time → All Is ones → All IsTurned (flows_of ones) → (n : ℕ) → AllLeft bounds ones n
     left_there [] some each turned n = refl
@@ -377,7 +377,7 @@ module _ (network : NetworkDomain) (talkers : HasTalkerLinks network) (cycle_tim
       name = o.stream.name;
       octets = Some o.filled.request.octets;
       pacing = Given (every_of (again_of o).pacing) (phase_of (again_of o).pacing);
-      way = Along (read_of o).flow.0.0.paths;
+      path = Along (read_of o).flow.0.0.paths;
       talker = o.stream.talker;
       listeners = o.stream.listeners;
       deadline = (at_edge o).0.1;
@@ -386,59 +386,59 @@ module _ (network : NetworkDomain) (talkers : HasTalkerLinks network) (cycle_tim
     }
 
     pub all_arriving : (ones : List One) → All Is ones →
-        streams_behind (with_cycle cycle_time network) (entrances_of_ones ones) (map (passage_of network bounds) (map hands_of ones)) (map again_of ones)
+        streams_at_edge (with_cycle cycle_time network) (entrances_of_ones ones) (map (passage_of network bounds) (map hands_of ones)) (map again_of ones)
         ≡ map arriving ones
     all_arriving [] each = refl
     all_arriving (o ∷ ones) each =
-        let first = behind_again network talkers cycle_time good bounds o (All-head Is o ones each) in
+        let first = after_again network talkers cycle_time good bounds o (All-head Is o ones each) in
         let rest = all_arriving ones (All-tail Is o ones each) in
         (λ i. first i ∷ rest i)
 
     -- no name was taken before
     abbrev pub AreApart : List (List ℕ) → List One → Type 0
     AreApart before [] = Unit {0}
-    AreApart before (o ∷ ones) = (refusal_behind (open_domain network) before o.stream.name ≡ None) × AreApart (before ++ o.stream.name ∷ []) ones
+    AreApart before (o ∷ ones) = (refusal_after (open_domain network) before o.stream.name ≡ None) × AreApart (before ++ o.stream.name ∷ []) ones
 
-    abbrev planned_behind : One → StreamText
-    planned_behind o = stream_behind network o.entrance (passage_of network bounds (handed_at o.stream o.entrance)) o.stream
+    abbrev planned_after : One → StreamText
+    planned_after o = stream_at_edge network o.entrance (passage_of network bounds (handed_at o.stream o.entrance)) o.stream
 
-    behind_named : (o : One) → (planned_behind o).name ≡ o.stream.name
-    behind_named o = by o.entrance
+    after_named : (o : One) → (planned_after o).name ≡ o.stream.name
+    after_named o = by o.entrance
       where
-        by : (e : Option Entrance) → (stream_behind network e (passage_of network bounds (handed_at o.stream o.entrance)) o.stream).name ≡ o.stream.name
+        by : (e : Option Entrance) → (stream_at_edge network e (passage_of network bounds (handed_at o.stream o.entrance)) o.stream).name ≡ o.stream.name
         by None = refl
         by (Some e) = refl
 
     pub all_apart : (before : List (List ℕ)) (ones : List One) (settled : List SettledStream) →
-        settled_behind network (open_domain network) before (streams_behind network (entrances_of_ones ones)
+        settled_after network (open_domain network) before (streams_at_edge network (entrances_of_ones ones)
         (map (passage_of network bounds) (handed_at_each (streams_of ones) (entrances_of_ones ones))) (streams_of ones)) ≡ Ok settled → AreApart before ones
     all_apart before [] settled h = tt
     all_apart before (o ∷ ones) settled h =
-        let more = streams_behind network (entrances_of_ones ones)
+        let more = streams_at_edge network (entrances_of_ones ones)
         (map (passage_of network bounds) (handed_at_each (streams_of ones) (entrances_of_ones ones))) (streams_of ones) in
-        let both = and_first-Ok (settled_next network (open_domain network) before (planned_behind o))
-        (settled_behind network (open_domain network) (before ++ (planned_behind o).name ∷ []) more) settled h in
-        let own = settled_by network (open_domain network) before (planned_behind o) both.one both.first_is in
-        let named = behind_named o in
-        let rest = ap (λ (n : List ℕ). settled_behind network (open_domain network) (before ++ n ∷ []) more) (sym named) ∙ both.others_are in
-        (ap (refusal_behind (open_domain network) before) (sym named) ∙ own.stands, all_apart (before ++ o.stream.name ∷ []) ones both.more rest)
+        let both = and_first-Ok (settled_next network (open_domain network) before (planned_after o))
+        (settled_after network (open_domain network) (before ++ (planned_after o).name ∷ []) more) settled h in
+        let own = settled_by network (open_domain network) before (planned_after o) both.one both.first_is in
+        let named = after_named o in
+        let rest = ap (λ (n : List ℕ). settled_after network (open_domain network) (before ++ n ∷ []) more) (sym named) ∙ both.others_are in
+        (ap (refusal_after (open_domain network) before) (sym named) ∙ own.stands, all_apart (before ++ o.stream.name ∷ []) ones both.more rest)
 
     -- so all are settled again
     abbrev d : Domain
     d = domain_at network cycle_time
 
     settled_one : (before : List (List ℕ)) (o : One) → 0 < cycle_time → Is o → IsTurned o.flow → IsAllowed d (at_edge o).0.0 →
-        refusal_behind d before o.stream.name ≡ None → settled_next (with_cycle cycle_time network) d before (arriving o) ≡ Ok (settled_flow (at_edge o))
+        refusal_after d before o.stream.name ≡ None → settled_next (with_cycle cycle_time network) d before (arriving o) ≡ Ok (settled_flow (at_edge o))
     settled_one before o some is turned allowed apart =
-        let same = behind_request (passage_of network bounds (hands_of o)) (read_of o).flow in
+        let same = after_request (passage_of network bounds (hands_of o)) (read_of o).flow in
         let name : o.stream.name ≡ (at_edge o).0.0.name = ap (λ (r : PacedText). r.name) (sym same) in
         settled_again (with_cycle cycle_time network) d before (arriving o) (at_edge o).0.0 name (ap (λ (r : PacedText). Some r.octets) (sym same))
         (ap (λ (r : PacedText). Given r.every r.phase) (sym same)) (ap (λ (r : PacedText). Along r.paths) (sym same)) allowed
-        (ap (refusal_behind d before) (sym name) ∙ apart) (one_left o some is turned)
+        (ap (refusal_after d before) (sym name) ∙ apart) (one_left o some is turned)
 
     pub all_settled : (before : List (List ℕ)) (ones : List One) (entries : List Recorded) → 0 < cycle_time → All Is ones → All IsTurned (flows_of ones) →
         AreGranted d entries (map asked_in (map at_edge ones)) → AreApart before ones →
-        settled_behind (with_cycle cycle_time network) d before (map arriving ones) ≡ Ok (map settled_flow (map at_edge ones))
+        settled_after (with_cycle cycle_time network) d before (map arriving ones) ≡ Ok (map settled_flow (map at_edge ones))
     all_settled before [] entries some each turned granted apart = refl
     all_settled before (o ∷ ones) entries some each turned granted apart =
         let is = All-head Is o ones each in

@@ -19,7 +19,7 @@ use Rattle.cqf_model.specs.History.{Asked, is_pace, left_on, most_beside, pace_o
 use Rattle.cqf_model.specs.declared.topology.Hop.{Hop}
 use Rattle.cqf_model.specs.declared.topology.Pace.{Pace}
 use Rattle.cqf_model.specs.Limits.{most_reserved, streams_within}
-use Rattle.cqf_model.specs.Paces.{each_cycle, is_turn}
+use Rattle.cqf_model.specs.Paces.{each_cycle, is_active}
 use Rattle.cqf_model.specs.Table.{cost_on, link_cost, links_in, uses}
 use Rattle.cqf_model.proofs.Hops.{hops_inside}
 use Rattle.cqf_admission.specs.Branches.{tree_refusal}
@@ -95,15 +95,15 @@ module _ (d : Domain) (rows : List Row) (asked : Asked) (h : listing_refusal d r
   form : form_refusal d asked ≡ None
   form = first_none (form_refusal d asked) (or_else held many) h
 
-  behind : or_else held many ≡ None
-  behind = second_none (form_refusal d asked) (or_else held many) h
+  following : or_else held many ≡ None
+  following = second_none (form_refusal d asked) (or_else held many) h
 
   free : list_any (λ (row : Row). is_text row.name asked.name) rows ≡ false
-  free = not_due _ NameHeld (first_none held many behind)
+  free = not_due _ NameHeld (first_none held many following)
 
   few : length rows < streams_within d.limits
   few = leb-false (streams_within d.limits) (length rows)
-      (not_due (nat_le (streams_within d.limits) (length rows)) TooManyStreams (second_none held many behind))
+      (not_due (nat_le (streams_within d.limits) (length rows)) TooManyStreams (second_none held many following))
 
   in_range : (nat_le 64 asked.octets ≡ true) × (nat_le asked.octets most_reserved ≡ true)
   in_range = both (nat_le 64 asked.octets) (nat_le asked.octets most_reserved)
@@ -162,21 +162,21 @@ accepted_listed d rows asked none =
     let many = refused_if (nat_le (streams_within d.limits) (length rows)) TooManyStreams in
     let short = short_refusal d rows (cost_of asked.octets) (pace_of asked) (tree_of d asked.paths) in
     let parted : or_else form (or_else held (or_else many short)) ≡ None = sym (refusal_in_two d rows asked) ∙ none in
-    let behind = second_none form (or_else held (or_else many short)) parted in
+    let following = second_none form (or_else held (or_else many short)) parted in
     ap (λ o. or_else o (or_else held many)) (first_none form (or_else held (or_else many short)) parted)
-    ∙ ap (λ o. or_else o many) (first_none held (or_else many short) behind)
-    ∙ first_none many short (second_none held (or_else many short) behind)
+    ∙ ap (λ o. or_else o many) (first_none held (or_else many short) following)
+    ∙ first_none many short (second_none held (or_else many short) following)
 
 -- the greater of two numbers within a bound is within the bound
 within_both : (a b most : ℕ) → a ≤ most → b ≤ most → max a b ≤ most
 within_both a b most first second = omega arith
 
--- the greatest of the costs in some turns is within a bound if each of them is
-pub most_taken : (test : ℕ → Bool) (costs : ℕ → ℕ) (most : ℕ) → ((turn : ℕ) → test turn ≡ true → costs turn ≤ most) → (n : ℕ) →
-    fold max 0 (each_below (λ turn. if test turn then costs turn ∷ [] else []) n) ≤ most
+-- the greatest of the costs in some active cycles is within a bound if each of them is
+pub most_taken : (test : ℕ → Bool) (costs : ℕ → ℕ) (most : ℕ) → ((active_cycle : ℕ) → test active_cycle ≡ true → costs active_cycle ≤ most) → (n : ℕ) →
+    fold max 0 (each_below (λ active_cycle. if test active_cycle then costs active_cycle ∷ [] else []) n) ≤ most
 most_taken test costs most each zero = omega arith
 most_taken test costs most each (suc n) =
-    let before : List ℕ = each_below (λ turn. if test turn then costs turn ∷ [] else []) n in
+    let before : List ℕ = each_below (λ active_cycle. if test active_cycle then costs active_cycle ∷ [] else []) n in
     let so_far : fold max 0 before ≤ most = most_taken test costs most each n in
     elim (cases_Bool (test n)) [
       | inl on ↦
@@ -187,8 +187,8 @@ most_taken test costs most each (suc n) =
           (subst (λ (xs : List ℕ). fold max 0 xs ≤ most) (sym (append-nil before)) so_far)
     ]
 
--- the most that streams cost of a link in the turns of another stream is within a bound if their cost in each of these turns is
-pub most_within : (rows : List Row) (tree : List Hop) (pace : Pace) (l most : ℕ) → ((turn : ℕ) → uses tree pace l turn ≡ true → link_cost rows l turn ≤ most) →
+-- the most that streams cost of a link in the active cycles of another stream is within a bound if their cost in each of these cycles is
+pub most_within : (rows : List Row) (tree : List Hop) (pace : Pace) (l most : ℕ) → ((active_cycle : ℕ) → uses tree pace l active_cycle ≡ true → link_cost rows l active_cycle ≤ most) →
     most_beside rows tree pace l ≤ most
 most_within rows tree pace l most each = most_taken (uses tree pace l) (link_cost rows l) most each 80
 
@@ -200,38 +200,38 @@ room_beside : (held mine cost beside most : ℕ) → held + mine ≤ most → mi
 room_beside held mine cost beside most room is low = omega arith
 
 -- a stream uses each link of its tree in some cycle
-in_a_turn : (tree : List Hop) (pace : Pace) (k : ℕ) (none : Hop) → k < length tree → (turn : ℕ) × (uses tree pace (get_or tree k none).link turn ≡ true)
-in_a_turn tree pace k none inside =
+in_an_active_cycle : (tree : List Hop) (pace : Pace) (k : ℕ) (none : Hop) → k < length tree → (active_cycle : ℕ) × (uses tree pace (get_or tree k none).link active_cycle ≡ true)
+in_an_active_cycle tree pace k none inside =
     let hop : Hop = get_or tree k none in
-    let turn : ℕ = pace.phase + hop.depth in
-    let test : Hop → Bool = λ h. (h.link == hop.link) && is_turn pace h.depth turn in
+    let active_cycle : ℕ = pace.phase + hop.hop_number in
+    let test : Hop → Bool = λ h. (h.link == hop.link) && is_active pace h.hop_number active_cycle in
     let here : test hop ≡ true =
-    and_from (hop.link == hop.link) (is_turn pace hop.depth turn) (eq-eqb hop.link hop.link refl)
-    (eq-eqb (turn % (pace.pause + 1)) (turn % (pace.pause + 1)) refl) in
-    (turn, list_any_at test tree k none inside here)
+    and_from (hop.link == hop.link) (is_active pace hop.hop_number active_cycle) (eq-eqb hop.link hop.link refl)
+    (eq-eqb (active_cycle % (pace.pause + 1)) (active_cycle % (pace.pause + 1)) refl) in
+    (active_cycle, list_any_at test tree k none inside here)
 
 -- and a stream that is listed is accepted if each link has room for it
 pub accepted_where_room : (d : Domain) (rows : List Row) (asked : Asked) → listing_refusal d rows asked ≡ None →
-    ((l turn : ℕ) → l < length d.links → link_cost rows l turn + cost_on (listed_row d rows asked) l turn ≤ budget d l) → refusal_of d rows asked ≡ None
+    ((l active_cycle : ℕ) → l < length d.links → link_cost rows l active_cycle + cost_on (listed_row d rows asked) l active_cycle ≤ budget d l) → refusal_of d rows asked ≡ None
 accepted_where_room d rows asked h room =
     let tree = tree_of d asked.paths in
     let links = links_in tree in
-    let first : Hop = record { link = 0; depth = 0; from = None } in
+    let first : Hop = record { link = 0; hop_number = 0; from = None } in
     let inside : (k other : ℕ) → k < length links → get_or links k other < length d.links =
     λ k other low. (let below : k < length tree = omega (arith, low, length-map tree (λ (hop : Hop). hop.link)) in
     omega (arith, hops_inside d asked.paths k first below, get_or-map (λ (hop : Hop). hop.link) tree k first other below)) in
     let enough : All (λ l. is_short d rows asked h l ≡ false) links =
     λ k other low. (let l = get_or links k other in
     let pace = pace_of asked in
-    let cost : (turn : ℕ) → uses tree pace l turn ≡ true → cost_on (listed_row d rows asked) l turn ≡ cost_of asked.octets =
-    λ turn on. ap {B = ℕ} (λ (b : Bool). if b then cost_of asked.octets else 0) on in
+    let cost : (active_cycle : ℕ) → uses tree pace l active_cycle ≡ true → cost_on (listed_row d rows asked) l active_cycle ≡ cost_of asked.octets =
+    λ active_cycle on. ap {B = ℕ} (λ (b : Bool). if b then cost_of asked.octets else 0) on in
     let new = listed_row d rows asked in
     let most = most_within rows tree pace l (budget d l - cost_of asked.octets)
-    (λ turn on. beside_cost (link_cost rows l turn) (cost_on new l turn) (cost_of asked.octets) (budget d l) (room l turn (inside k other low)) (cost turn on)) in
+    (λ active_cycle on. beside_cost (link_cost rows l active_cycle) (cost_on new l active_cycle) (cost_of asked.octets) (budget d l) (room l active_cycle (inside k other low)) (cost active_cycle on)) in
     let below : k < length tree = omega (arith, low, length-map tree (λ (hop : Hop). hop.link)) in
-    let on : (turn : ℕ) × (uses tree pace l turn ≡ true) =
-    subst (λ n. (turn : ℕ) × (uses tree pace n turn ≡ true)) (sym (get_or-map (λ (hop : Hop). hop.link) tree k first other below))
-    (in_a_turn tree pace k first below) in
+    let on : (active_cycle : ℕ) × (uses tree pace l active_cycle ≡ true) =
+    subst (λ n. (active_cycle : ℕ) × (uses tree pace n active_cycle ≡ true)) (sym (get_or-map (λ (hop : Hop). hop.link) tree k first other below))
+    (in_an_active_cycle tree pace k first below) in
     le-ltb (left_on d rows tree pace l) (cost_of asked.octets)
     (room_beside (link_cost rows l on.0) (cost_on new l on.0) (cost_of asked.octets) (most_beside rows tree pace l) (budget d l)
     (room l on.0 (inside k other low)) (cost on.0 on.1) most)) in

@@ -15,9 +15,9 @@ use Rattle.cqf_model.specs.History.{Asked, is_pace, refused_if}
 use Rattle.cqf_model.specs.Limits.{most_reserved, streams_within}
 use Rattle.cqf_model.specs.Table.{links_of}
 use Rattle.cqf_units.specs.Name.{is_name}
-use Rattle.cqf_admission.proofs.TurnLemmas.{asked_is_good}
+use Rattle.cqf_admission.proofs.ActiveCycleLemmas.{asked_is_good}
 use Rattle.cqf_admission.specs.Branches.{tree_refusal}
-use Rattle.cqf_admission.specs.Turns.{IsOfGoodPace}
+use Rattle.cqf_admission.specs.ActiveCycles.{IsOfGoodPace}
 use Rattle.cqf_program_plans.proofs.Fits.{first_none, not_due, second_none}
 use Rattle.cqf_program_plans.specs.Load.Listing.{IsListed, listed_row}
 

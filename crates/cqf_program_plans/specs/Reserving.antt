@@ -18,22 +18,22 @@ flows_line fault = fault_line (codes "streams") (flows_fault_text fault)
 
 -- the lack of a stream at this position, from 1, that reserves this number of octets, if its traffic needs more per cycle
 abbrev pub lack_at : ℕ → ℕ → ℕ → Option TrafficText → Option Lack
-lack_at cycle_time place octets None = None
-lack_at cycle_time place octets (Some t) =
+lack_at cycle_time index octets None = None
+lack_at cycle_time index octets (Some t) =
     if nat_lt octets (needed cycle_time (promise_of t))
-    then Some (record { place = place; octets = octets; needed = needed cycle_time (promise_of t) })
+    then Some (record { index = index; octets = octets; needed = needed cycle_time (promise_of t) })
     else None
 
 -- the lack of the first of these streams that reserves too little, where the first one has this position; each stream is given by its
 -- octets and its traffic
 abbrev pub first_lack : ℕ → ℕ → List (ℕ × Option TrafficText) → Option Lack
-first_lack cycle_time place [] = None
-first_lack cycle_time place (stream ∷ more) = option_or (lack_at cycle_time place stream.0 stream.1) (first_lack cycle_time (place + 1) more)
+first_lack cycle_time index [] = None
+first_lack cycle_time index (stream ∷ more) = option_or (lack_at cycle_time index stream.0 stream.1) (first_lack cycle_time (index + 1) more)
 
 -- the line for a stream that reserves too little
 abbrev pub lack_line : Lack → List ℕ
 lack_line lack =
-    line_of (codes "cqf: stream " ++ (decimal lack.place ++ (codes ": BelowTraffic " ++ (decimal lack.octets ++ (codes " " ++ decimal lack.needed)))))
+    line_of (codes "cqf: stream " ++ (decimal lack.index ++ (codes ": BelowTraffic " ++ (decimal lack.octets ++ (codes " " ++ decimal lack.needed)))))
 
 -- the streams of a text for a domain, or the line of the first fault: of the text, then of the first stream that reserves less than its
 -- traffic needs

@@ -20,7 +20,7 @@ use std::alloc::Global;
 /// its traffic needs.
 #[derive(Clone, Copy, Debug)]
 pub(crate) struct Lack {
-    place: usize,
+    index: usize,
     octets: u32,
     needed: u128,
 }
@@ -37,9 +37,9 @@ pub fn flows_stop(alloc: Global, fault: FlowsFault) -> Stop
     }
 }
 
-/// Returns the lack of a stream at position `place`, from 1, that reserves `octets` octets per cycle, or `None` if it reserves enough.
-fn lack_at(cycle_time: Nanos, place: usize, octets: u32, traffic: Option<Traffic>) -> Option<Lack>
-    ensures { result ≡ lack_at cycle_time.0 place octets traffic }
+/// Returns the lack of a stream at position `index`, from 1, that reserves `octets` octets per cycle, or `None` if it reserves enough.
+fn lack_at(cycle_time: Nanos, index: usize, octets: u32, traffic: Option<Traffic>) -> Option<Lack>
+    ensures { result ≡ lack_at cycle_time.0 index octets traffic }
 {
     let Some(traffic) = traffic else {
         return None;
@@ -47,7 +47,7 @@ fn lack_at(cycle_time: Nanos, place: usize, octets: u32, traffic: Option<Traffic
     let needed = traffic.needed(cycle_time);
     if u128::from(octets) < needed {
         return Some(Lack {
-            place,
+            index,
             octets,
             needed,
         });
@@ -59,9 +59,9 @@ fn lack_at(cycle_time: Nanos, place: usize, octets: u32, traffic: Option<Traffic
 fn first_lack(cycle_time: Nanos, flows: &[PacedFlow]) -> Option<Lack>
     ensures { result ≡ first_lack cycle_time.0 1 (map reserved_octets (map paced_flow_text flows.now)) }
 {
-    for place in 0..flows.len() {
-        let flow = &flows[place];
-        let lack = lack_at(cycle_time, place + 1, flow.request.octets, flow.traffic);
+    for index in 0..flows.len() {
+        let flow = &flows[index];
+        let lack = lack_at(cycle_time, index + 1, flow.request.octets, flow.traffic);
         if lack.is_some() {
             return lack;
         }
@@ -73,10 +73,10 @@ fn first_lack(cycle_time: Nanos, flows: &[PacedFlow]) -> Option<Lack>
 fn first_planned_lack(cycle_time: Nanos, flows: &[Flow]) -> Option<Lack>
     ensures { result ≡ first_lack cycle_time.0 1 (map planned_octets (map flow_text flows.now)) }
 {
-    for place in 0..flows.len() {
-        let flow = &flows[place];
+    for index in 0..flows.len() {
+        let flow = &flows[index];
         let octets = flow.planned.request.octets;
-        let lack = lack_at(cycle_time, place + 1, octets, flow.traffic);
+        let lack = lack_at(cycle_time, index + 1, octets, flow.traffic);
         if lack.is_some() {
             return lack;
         }
@@ -89,11 +89,11 @@ fn line_of_lack(alloc: Global, lack: Lack) -> Result<String, Memory>
     ensures { IfOk result (λ line. string_bytes line ≡ lack_line lack) }
 {
     let Lack {
-        place,
+        index,
         octets,
         needed,
     } = lack;
-    let line = format!(in alloc; "cqf: stream {place}: BelowTraffic {octets} {needed}\n")?;
+    let line = format!(in alloc; "cqf: stream {index}: BelowTraffic {octets} {needed}\n")?;
     Ok(line)
 }
 

@@ -1,6 +1,6 @@
 //! The cost of a row's stream, in sums by link and cycle.
 ghost use Rattle.cqf_admission.specs.Rows.{IsCountable};
-ghost use Rattle.cqf_admission.specs.Turns.{AreMoreIn, HasRoomFor, IsOfGoodPace};
+ghost use Rattle.cqf_admission.specs.ActiveCycles.{AreMoreIn, HasRoomFor, IsOfGoodPace};
 ghost use Rattle.cqf_units.specs.Timing.{cost_of};
 
 use cqf_admission::CycleSums;

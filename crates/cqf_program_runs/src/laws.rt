@@ -1,12 +1,12 @@
 //! Laws about deliveries, verdicts and books.
-ghost use Rattle.cqf_program_runs.specs.Deliveries.ArrivalLaws.{ArrivalsAreTheShift, EachIsToldOnce, EachListenerIsToldOnce};
-ghost use Rattle.cqf_program_runs.specs.Deliveries.BookLaws.{VerdictsTellDeliveries};
+ghost use Rattle.cqf_program_runs.specs.Deliveries.ArrivalLaws.{ArrivalsAreTheShift, EachIsWrittenOnce, EachListenerIsWrittenOnce};
+ghost use Rattle.cqf_program_runs.specs.Deliveries.BookLaws.{VerdictsGiveDeliveries};
 ghost use Rattle.cqf_program_runs.specs.Check.Laws.{CheckIsWellExactly};
 
 /// Law: if a book says the shift, its deliveries are those by the verdicts on the offers. A covered offer goes to each
 /// listener of the row that covers it, and every other is dropped for the first reason that applies.
-pub fn verdicts_tell_deliveries()
-    ensures { VerdictsTellDeliveries }
+pub fn verdicts_give_deliveries()
+    ensures { VerdictsGiveDeliveries }
 {}
 
 /// Law: if a book says the shift, a check reports that all is well if and only if there is an offer, no call of the
@@ -25,7 +25,7 @@ pub fn arrivals_are_the_shift()
 /// Law: if a book says the shift and an offer is of a cycle that is run, its deliveries are one to each listener of the
 /// row that covers it, and nothing else, or its one drop. In a well-formed domain exactly one of them has the name of
 /// each listener.
-pub fn each_is_told_once()
-    ensures once { EachIsToldOnce }
-    ensures listeners { EachListenerIsToldOnce }
+pub fn each_is_written_once()
+    ensures once { EachIsWrittenOnce }
+    ensures listeners { EachListenerIsWrittenOnce }
 {}

@@ -46,7 +46,7 @@ fn carry_out(ledger: &mut Ledger<'_>, order: Ordered) -> Result<(), Memory>
 {
     state_follows_history();
     match order.what {
-        What::Admit(place) => entered(ledger.admit(order.seat, place)),
+        What::Admit(index) => entered(ledger.admit(order.seat, index)),
         What::Withdraw { from, octets } => entered(ledger.withdraw(order.seat, from, octets)),
         What::Seal => close(ledger, order.seat),
     }

@@ -7,7 +7,7 @@
 //! - **The parts of an input**. A reader that refuses a part returns the end of the run: status 1 and the line of the first fault. [`one_part`],
 //!   [`two_parts`] and [`run_parts`] divide an input, the last one into [`RunParts`]. [`domain_part`], [`streams_part`], [`planned_part`],
 //!   [`script_part`], [`offers_part`] and `background_part` read a part.
-//! - **Scenarios.** [`read_given`] reads the scenario of an input, a [`RunInput`], and [`read_behind`] the rest of one whose domain and streams
+//! - **Scenarios.** [`read_given`] reads the scenario of an input, a [`RunInput`], and [`read_after`] the rest of one whose domain and streams
 //!   were read otherwise. [`outcome_of`] returns the outcome of its calls and offers, a [`ScenarioOutcome`], without running the network: the log
 //!   of its history, the streams that the history granted, and the verdict on each offer by these streams. [`pass_of_outcome`] runs the network
 //!   from that. [`read_opened`] reads a scenario whose cycles are closed while it runs: what its bridges and administrators begin with ([`Opened`]).
@@ -44,7 +44,7 @@ mod readers;
 
 pub use exact::{book_of_outcome, pass_of_outcome};
 pub use exact_books::ExactBook;
-pub use given::{RunInput, read_behind, read_given};
+pub use given::{RunInput, read_after, read_given};
 pub use opening::{Opened, read_opened};
 pub use outcomes::{ScenarioOutcome, outcome_of};
 pub use parts::{RunParts, one_part, run_parts, two_parts};

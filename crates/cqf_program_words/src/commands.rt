@@ -8,9 +8,9 @@ ghost use Rattle.cqf_program_words.specs.Commands.{command_app, cqf_app, does_wa
 ghost use Rattle.cqf_program_words.specs.Operands.{is_command, wants_value};
 
 use crate::help::{
-    CHECK_INPUT, COMPILE_INPUT, DELIVERIES_INPUT, HOPS_INPUT, LATENCY_INPUT, LINE_INPUT,
-    LOAD_INPUT, MORE_WORDS, OFFERS_INPUT, PLAN_INPUT, PORT_INPUT, REPORT_INPUT, RUN_INPUT,
-    SUMMARY_INPUT,
+    CHECK_INPUT, COMPILE_INPUT, DELIVERIES_INPUT, DIFF_INPUT, HOPS_INPUT, LATENCY_INPUT,
+    LINE_INPUT, LOAD_INPUT, MORE_WORDS, OFFERS_INPUT, PLAN_INPUT, PORT_INPUT, REPORT_INPUT,
+    RUN_INPUT, SUMMARY_INPUT,
 };
 use crate::options::{CommandOption, argument};
 use clap::Command;
@@ -43,12 +43,14 @@ pub(crate) enum Subcommand {
     Hops,
     /// `offers --cycles N [--seed S] [--large]`.
     Offers,
-    /// `plan [--table] [--cycle WORD] [--verbose] [--large]`.
+    /// `plan [--table] [--cycle WORD] [--tries N] [--best] [--without LINK].. [--verbose] [--large]`.
     Plan,
+    /// `diff [--quiet] [--large]`.
+    Diff,
 }
 
 /// The commands, in the order of the help.
-const COMMANDS: [Subcommand; 13] = [
+const COMMANDS: [Subcommand; 14] = [
     Subcommand::Port,
     Subcommand::Line,
     Subcommand::Compile,
@@ -62,6 +64,7 @@ const COMMANDS: [Subcommand; 13] = [
     Subcommand::Hops,
     Subcommand::Offers,
     Subcommand::Plan,
+    Subcommand::Diff,
 ];
 
 impl Subcommand {
@@ -83,6 +86,7 @@ impl Subcommand {
             Subcommand::Hops => "hops",
             Subcommand::Offers => "offers",
             Subcommand::Plan => "plan",
+            Subcommand::Diff => "diff",
         }
     }
 
@@ -125,9 +129,13 @@ impl Subcommand {
             Subcommand::Plan => &[
                 CommandOption::Table,
                 CommandOption::Cycle,
+                CommandOption::Tries,
+                CommandOption::Best,
+                CommandOption::Without,
                 CommandOption::Verbose,
                 CommandOption::Large,
             ],
+            Subcommand::Diff => &[CommandOption::Quiet, CommandOption::Large],
         }
     }
 
@@ -148,6 +156,7 @@ impl Subcommand {
             Subcommand::Hops => "the book of a run by frame: when each is on which link",
             Subcommand::Offers => "the offers that the streams of a plan make",
             Subcommand::Plan => "a plan of a network: its cycle time, paths and reservations",
+            Subcommand::Diff => "what differs between two plans, by name",
         }
     }
 
@@ -167,6 +176,7 @@ impl Subcommand {
             Subcommand::Hops => HOPS_INPUT,
             Subcommand::Offers => OFFERS_INPUT,
             Subcommand::Plan => PLAN_INPUT,
+            Subcommand::Diff => DIFF_INPUT,
         }
     }
 

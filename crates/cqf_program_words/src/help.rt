@@ -51,8 +51,8 @@ programs.
 
 With --edge-gates each stream has a gate only at the bridge where it enters. The
 gates of the other bridges drop nothing, so they may be left out. These bridges
-must still give streams' frames class 6 in even cycles and class 7 in odd ones,
-and lose the gates that an earlier script has set."
+must still give streams' frames class 6 in even cycles and class 7 in odd ones.
+Remove there the gates that an earlier script has set."
 );
 
 /// The help of `load` about standard input and its output.
@@ -61,9 +61,9 @@ pub(crate) const LOAD_INPUT: &str = network_input!(
     r"
 
 The output has a line for each link: its rate in Mb/s, its budget, how much of
-it the streams hold and how much is left, the greatest reservation in each cycle
-that still fits, the number of streams that use it, and the share of the budget
-that is held, in percent. Budget, held and left are octets per cycle on the
+it the streams hold and how much is left, the greatest reservation of one more
+stream in each cycle, the number of streams that use it, and the share of the
+budget that is held, in percent. Budget, held and left are octets per cycle on the
 wire, in the fullest cycle. They count what is reserved, not what is sent. A
 plan that exceeds a budget is shown too: left is then below 0. Stations' access
 links come last, with what their streams send in a mean cycle.
@@ -128,8 +128,7 @@ pub(crate) const REPORT_INPUT: &str =
   cqf report --cycles 5 plan.toml calls.txt offers.csv
 
 The output has a line for each link: its frames, their octets, and the most
-octets that it starts in one cycle. Background frames don't count. No network is
-run.";
+octets that it starts in one cycle. Background frames don't count.";
 
 /// The help of `deliveries` about standard input and its output.
 pub(crate) const DELIVERIES_INPUT: &str =
@@ -240,12 +239,28 @@ in which the stream's links are least full.
 
 The output is the file with what the plan decides put in, for the first cycle
 time at which each stream has room and each deadline is kept. If there is none,
-the status is 1, and standard error says what is wrong at the cycle time that
-places most streams. With --table the output has a line for each cycle time
-instead.
+the status is 1, and standard error has the fault of the cycle time that misses
+least: fewest streams without room and deadlines missed. With --table the output
+has a line for each cycle time instead.
 
-With --verbose notes on the plan go to standard error even if that is no
-terminal."#;
+Streams are placed in the order of the file. If a stream whose path is open has
+no room, up to --tries N other orders are tried, in which it comes before the
+others whose paths are open. With --best the plan is for the cycle time whose
+tightest deadline has the most slack, not for the first good one. With --without
+'FROM>TO' the plan does without this link, as after a failure: streams whose
+path has it get another path, all others keep theirs. With --verbose notes on
+the plan go to standard error even if that is no terminal."#;
+
+/// The help of `diff` about standard input and its output.
+pub(crate) const DIFF_INPUT: &str =
+    r"Standard input has two parts with a line of %% between them: a plan, and a later
+one. Two files can be given instead:
+  cqf diff old.toml new.toml
+
+The output is what differs, by name: the domain, its links and its streams; then
+the latencies of streams and the loads of links that differ. It is empty if
+nothing differs. With --quiet, or -q, standard output stays empty, and the
+status is 1 if something differs.";
 
 /// The program's help about files and its version.
 pub(crate) const MORE_WORDS: &str =

@@ -4,7 +4,7 @@
 //!   text or by a line that says which value is wrong and what is wanted; with status 0 for a request for help. [`ask_for_large`] returns
 //!   whether they request large plans, and [`limits_of`] the limits within which their plans are read.
 //! - **Files.** `split_operands` separates the words that name files from the other words. [`check_files`] refuses standard input that is
-//!   named twice. [`composed`] returns the input that is made from the files' texts, for a job.
+//!   named twice, and other than two files of `diff`. [`composed`] returns the input that is made from the files' texts, for a job.
 //! - **Lines** that show a text with any content end a run by [`stop_of_file`], [`stop_of_line`] and [`stop_of_long_line`].
 //!
 //! `specs/Commands.antt` defines the commands, and `specs/Options.antt` their options, once: what `clap` takes, and which words have their
@@ -14,7 +14,7 @@
 //! ```text
 //! read_words(alloc, &["port", "--until", "5"]) is Ok(Job::Port { until: 5, rate: Rate::Mb1000 })
 //! read_words(alloc, &["port", "--until", "0"]) ends with status 2
-//! composed(alloc, &Job::Load, &["domain.toml", "streams.toml"], &[b"cycle = 125000", b"streams = []\n"])
+//! composed(alloc, &Job::Load { streams: false }, &["domain.toml", "streams.toml"], &[b"cycle = 125000", b"streams = []\n"])
 //!     is Ok(b"cycle = 125000\n%%\nstreams = []\n")
 //! ```
 #![tactic(auto)]
@@ -25,20 +25,24 @@ mod composing;
 mod endings;
 mod help;
 mod laws;
+mod links;
 mod mistakes;
 mod naming;
 mod operands;
 mod options;
+mod plan_words;
 mod shown;
 mod words;
 
 pub use candidates::Candidates;
 pub use composing::{
-    composed, composed_behind, composed_between, is_network, is_toml, is_undivided, joined,
+    composed, composed_after, composed_between, is_network, is_toml, is_undivided, joined,
 };
 pub use laws::words_are_read_as_clap_has_them;
+pub use links::{LinkName, link_named};
 pub use naming::candidates_named;
 pub(crate) use operands::split_operands;
 pub use operands::{Operands, STANDARD, check_files, operands_of};
+pub use plan_words::PlanOptions;
 pub use shown::{stop_of_file, stop_of_line, stop_of_long_line};
 pub use words::{Format, Job, ask_for_large, limits_of, read_words};

@@ -1,5 +1,5 @@
 //! Quantities and lanes, whose calls allocate no memory.
-use crate::{Told, looked_at};
+use crate::{Reported, looked_at};
 use cqf_lanes::{
     eligible, eligible_plain, highest, highest_plain, octet_sum, octet_sum_plain, open_run,
     open_run_plain,
@@ -33,7 +33,7 @@ fn are_timed() -> bool {
         && idle_from(Nanos(0), frame, Rate::Mb1000) == Nanos(672)
 }
 
-pub(crate) fn units_told(alloc: Global) -> Option<Told> {
+pub(crate) fn units_reported(alloc: Global) -> Option<Reported> {
     Some(looked_at!(alloc, is_name() && are_reserved() && are_timed()))
 }
 
@@ -55,6 +55,6 @@ fn are_chosen() -> bool {
         && highest_plain(0x41) == Some(6)
 }
 
-pub(crate) fn lanes_told(alloc: Global) -> Option<Told> {
+pub(crate) fn lanes_reported(alloc: Global) -> Option<Reported> {
     Some(looked_at!(alloc, are_summed() && are_chosen()))
 }

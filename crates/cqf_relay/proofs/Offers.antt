@@ -13,11 +13,11 @@ use Rattle.cqf_model.specs.declared.topology.Row.{Row}
 use Rattle.cqf_model.specs.Book.{drop_by}
 use Rattle.cqf_model.specs.Domain.{Domain}
 use Rattle.cqf_model.specs.Table.{begins_at, is_live, reserved_in, row_named}
-use Rattle.cqf_model.specs.Traffic.{DroppedFor, Queued, Verdict, edge_verdict, offer_received}
+use Rattle.cqf_model.specs.Policing.{DroppedFor, Queued, Verdict, edge_verdict, offer_received}
 use Rattle.cqf_relay.specs.declared.edge.Edge.{Edge}
 use Rattle.cqf_relay.specs.declared.edge.Used.{Used}
-use Rattle.cqf_relay.specs.Offering.{CountsUpto, DropsOf, Going, IsSameEdge, JudgesOne, JudgesRow, TakesOffers, came_of_going, covered_behind}
-use Rattle.cqf_relay.specs.Offering.{dropped_behind, going_by, more_of, octets_of, reason_against, taken_by, used_at, verdict_with}
+use Rattle.cqf_relay.specs.Offering.{CountsUpto, DropsOf, Going, IsSameEdge, JudgesOne, JudgesRow, TakesOffers, came_of_going, covered_after}
+use Rattle.cqf_relay.specs.Offering.{dropped_after, going_by, more_of, octets_of, reason_against, taken_by, used_at, verdict_with}
 
 -- the same is used of each row in each cycle
 abbrev pub AreUsedAlike : List Used → List Used → Type 0
@@ -108,24 +108,24 @@ octets_of-append xs ys k =
 
 -- one more offer is covered after the earlier ones, or not
 covered-push : (d : Domain) (bridge cycle : ℕ) (table : List Row) (earlier : List Going) (xs : List Offered) (x : Offered) →
-    covered_behind d bridge cycle table earlier (xs ++ x ∷ [])
-    ≡ covered_behind d bridge cycle table earlier xs
-    ++ going_by x (verdict_with d bridge cycle table (octets_of (earlier ++ covered_behind d bridge cycle table earlier xs)) x)
+    covered_after d bridge cycle table earlier (xs ++ x ∷ [])
+    ≡ covered_after d bridge cycle table earlier xs
+    ++ going_by x (verdict_with d bridge cycle table (octets_of (earlier ++ covered_after d bridge cycle table earlier xs)) x)
 covered-push d bridge cycle table earlier [] x =
     append-nil (going_by x (verdict_with d bridge cycle table (octets_of earlier) x))
     ∙ ap (λ gs. going_by x (verdict_with d bridge cycle table (octets_of gs) x)) (sym (append-nil earlier))
 covered-push d bridge cycle table earlier (y ∷ ys) x =
     let goings = going_by y (verdict_with d bridge cycle table (octets_of earlier) y) in
-    let rest = covered_behind d bridge cycle table (earlier ++ goings) ys in
+    let rest = covered_after d bridge cycle table (earlier ++ goings) ys in
     ap (λ gs. goings ++ gs) (covered-push d bridge cycle table (earlier ++ goings) ys x)
     ∙ ap (λ gs. goings ++ (rest ++ going_by x (verdict_with d bridge cycle table (octets_of gs) x))) (append_assoc earlier goings rest)
     ∙ sym (append_assoc goings rest (going_by x (verdict_with d bridge cycle table (octets_of (earlier ++ (goings ++ rest))) x)))
 
 -- and so it is dropped, or not
 dropped-push : (d : Domain) (bridge cycle : ℕ) (table : List Row) (earlier : List Going) (xs : List Offered) (x : Offered) →
-    dropped_behind d bridge cycle table earlier (xs ++ x ∷ [])
-    ≡ dropped_behind d bridge cycle table earlier xs
-    ++ drop_by cycle bridge (offer_received x) (verdict_with d bridge cycle table (octets_of (earlier ++ covered_behind d bridge cycle table earlier xs)) x)
+    dropped_after d bridge cycle table earlier (xs ++ x ∷ [])
+    ≡ dropped_after d bridge cycle table earlier xs
+    ++ drop_by cycle bridge (offer_received x) (verdict_with d bridge cycle table (octets_of (earlier ++ covered_after d bridge cycle table earlier xs)) x)
 dropped-push d bridge cycle table earlier [] x =
     append-nil (drop_by cycle bridge (offer_received x) (verdict_with d bridge cycle table (octets_of earlier) x))
     ∙ ap (λ gs. drop_by cycle bridge (offer_received x) (verdict_with d bridge cycle table (octets_of gs) x)) (sym (append-nil earlier))
@@ -133,21 +133,21 @@ dropped-push d bridge cycle table earlier (y ∷ ys) x =
     let verdict = verdict_with d bridge cycle table (octets_of earlier) y in
     let goings = going_by y verdict in
     let own = drop_by cycle bridge (offer_received y) verdict in
-    let rest = dropped_behind d bridge cycle table (earlier ++ goings) ys in
+    let rest = dropped_after d bridge cycle table (earlier ++ goings) ys in
     ap (λ ds. own ++ ds) (dropped-push d bridge cycle table (earlier ++ goings) ys x)
     ∙ ap (λ gs. own ++ (rest ++ drop_by cycle bridge (offer_received x) (verdict_with d bridge cycle table (octets_of gs) x)))
-    (append_assoc earlier goings (covered_behind d bridge cycle table (earlier ++ goings) ys))
+    (append_assoc earlier goings (covered_after d bridge cycle table (earlier ++ goings) ys))
     ∙ sym (append_assoc own rest (drop_by cycle bridge (offer_received x) (verdict_with d bridge cycle table
-    (octets_of (earlier ++ (goings ++ covered_behind d bridge cycle table (earlier ++ goings) ys))) x)))
+    (octets_of (earlier ++ (goings ++ covered_after d bridge cycle table (earlier ++ goings) ys))) x)))
 
 -- the result for the first offers of a cycle, one after the other
 pub record HasJudged (d : Domain) (cycle : ℕ) (table : List Row) (offers : List Offered) (before now : Edge) : Type 0 where
   pub same : IsSameEdge before now
   pub kept : CountsUpto cycle before.used.items →
-      now.log.frames.items ≡ before.log.frames.items ++ map (came_of_going d cycle) (covered_behind d before.number cycle table [] offers)
-  pub fresh : CountsUpto cycle before.used.items → now.fresh.items ≡ dropped_behind d before.number cycle table [] offers
+      now.log.frames.items ≡ before.log.frames.items ++ map (came_of_going d cycle) (covered_after d before.number cycle table [] offers)
+  pub fresh : CountsUpto cycle before.used.items → now.fresh.items ≡ dropped_after d before.number cycle table [] offers
   pub used : CountsUpto cycle before.used.items → (k : ℕ) →
-      used_at now.used.items cycle k ≡ octets_of (covered_behind d before.number cycle table [] offers) k
+      used_at now.used.items cycle k ≡ octets_of (covered_after d before.number cycle table [] offers) k
   pub later : CountsUpto cycle before.used.items → CountsUpto (cycle + 1) now.used.items
 
 -- at first there is none
@@ -175,8 +175,8 @@ one_more_judged d cycle table offers x before now after has one = record {
   fresh = λ first.
       one.fresh
       ∙ ap (λ drops. drops ++ drop_by cycle now.number (offer_received x) one.verdict) (has.fresh first)
-      ∙ ap (λ n. dropped_behind d before.number cycle table [] offers ++ drop_by cycle n (offer_received x) one.verdict) has.same.number
-      ∙ ap (λ v. dropped_behind d before.number cycle table [] offers ++ drop_by cycle before.number (offer_received x) v) (is_verdict first)
+      ∙ ap (λ n. dropped_after d before.number cycle table [] offers ++ drop_by cycle n (offer_received x) one.verdict) has.same.number
+      ∙ ap (λ v. dropped_after d before.number cycle table [] offers ++ drop_by cycle before.number (offer_received x) v) (is_verdict first)
       ∙ sym (dropped-push d before.number cycle table [] offers x);
   used = λ first k.
       one.used k
@@ -187,7 +187,7 @@ one_more_judged d cycle table offers x before now after has one = record {
 }
   where
     covered : List Going
-    covered = covered_behind d before.number cycle table [] offers
+    covered = covered_after d before.number cycle table [] offers
 
     is_verdict : CountsUpto cycle before.used.items → one.verdict ≡ verdict_with d before.number cycle table (octets_of covered) x
     is_verdict first =
@@ -196,7 +196,7 @@ one_more_judged d cycle table offers x before now after has one = record {
         ∙ same_verdict d before.number cycle table (used_at now.used.items cycle) (octets_of covered) x (has.used first)
 
     covered_more : CountsUpto cycle before.used.items →
-        covered ++ going_by x one.verdict ≡ covered_behind d before.number cycle table [] (offers ++ x ∷ [])
+        covered ++ going_by x one.verdict ≡ covered_after d before.number cycle table [] (offers ++ x ∷ [])
     covered_more first =
         ap (λ v. covered ++ going_by x v) (is_verdict first) ∙ sym (covered-push d before.number cycle table [] offers x)
 
@@ -205,11 +205,11 @@ pub all_judged : (d : Domain) (cycle : ℕ) (table : List Row) (offers : List Of
     HasJudged d cycle table offers before now → after.number ≡ now.number → after.log ≡ now.log → after.used ≡ now.used →
     after.drops.items ≡ now.drops.items ++ fresh → IsPermutation now.fresh.items fresh → IsNonDecreasingBy (λ (dropped : Dropped). dropped.frame) fresh →
     TakesOffers d cycle table offers before after
-all_judged d cycle table offers before now after fresh has same_number same_log same_used behind moved by_frame = record {
+all_judged d cycle table offers before now after fresh has same_number same_log same_used following moved by_frame = record {
   number = same_number ∙ has.same.number;
   kept = λ first. ap (λ log. log.frames.items) same_log ∙ has.kept first;
   fresh = fresh;
-  behind = behind ∙ ap (λ drops. drops.items ++ fresh) has.same.drops;
+  following = following ∙ ap (λ drops. drops.items ++ fresh) has.same.drops;
   are_drops = λ first. subst (λ (drops : List Dropped). IsPermutation drops fresh) (has.fresh first) moved;
   by_frame = by_frame;
   later = λ first. subst (λ used. CountsUpto (cycle + 1) used.items) (sym same_used) (has.later first);

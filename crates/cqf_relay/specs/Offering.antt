@@ -10,7 +10,7 @@ use Rattle.cqf_model.specs.declared.topology.Row.{Row}
 use Rattle.cqf_model.specs.Book.{drop_by}
 use Rattle.cqf_model.specs.Domain.{Domain}
 use Rattle.cqf_model.specs.Table.{begins_at, is_live, reserved_in, row_named}
-use Rattle.cqf_model.specs.Traffic.{DroppedFor, ExceedsGate, LacksRow, Queued, Received, Verdict, edge_verdict, offer_received}
+use Rattle.cqf_model.specs.Policing.{DroppedFor, ExceedsGate, LacksRow, Queued, Received, Verdict, edge_verdict, offer_received}
 use Rattle.cqf_relay.specs.declared.edge.Edge.{Edge}
 use Rattle.cqf_relay.specs.declared.edge.Used.{Used}
 use Rattle.cqf_relay.specs.declared.log.ArrivedFrame.{ArrivedFrame}
@@ -43,16 +43,16 @@ going_by x LacksRow = []
 going_by x ExceedsGate = []
 
 -- the covered ones of a cycle's offers at a bridge, after the earlier ones
-abbrev pub covered_behind : Domain → ℕ → ℕ → List Row → List Going → List Offered → List Going
-covered_behind d bridge cycle table earlier [] = []
-covered_behind d bridge cycle table earlier (x ∷ xs) = let goings = going_by x (verdict_with d bridge cycle table (octets_of earlier) x) in
-    goings ++ covered_behind d bridge cycle table (earlier ++ goings) xs
+abbrev pub covered_after : Domain → ℕ → ℕ → List Row → List Going → List Offered → List Going
+covered_after d bridge cycle table earlier [] = []
+covered_after d bridge cycle table earlier (x ∷ xs) = let goings = going_by x (verdict_with d bridge cycle table (octets_of earlier) x) in
+    goings ++ covered_after d bridge cycle table (earlier ++ goings) xs
 
 -- and the drops of the others
-abbrev pub dropped_behind : Domain → ℕ → ℕ → List Row → List Going → List Offered → List Dropped
-dropped_behind d bridge cycle table earlier [] = []
-dropped_behind d bridge cycle table earlier (x ∷ xs) = let verdict = verdict_with d bridge cycle table (octets_of earlier) x in
-    drop_by cycle bridge (offer_received x) verdict ++ dropped_behind d bridge cycle table (earlier ++ going_by x verdict) xs
+abbrev pub dropped_after : Domain → ℕ → ℕ → List Row → List Going → List Offered → List Dropped
+dropped_after d bridge cycle table earlier [] = []
+dropped_after d bridge cycle table earlier (x ∷ xs) = let verdict = verdict_with d bridge cycle table (octets_of earlier) x in
+    drop_by cycle bridge (offer_received x) verdict ++ dropped_after d bridge cycle table (earlier ++ going_by x verdict) xs
 
 -- the arrival in a cycle of a frame that goes on by a row
 abbrev pub came_of_going : Domain → ℕ → Going → ArrivedFrame
@@ -132,9 +132,9 @@ pub record JudgesOne (d : Domain) (cycle : ℕ) (table : List Row) (x : Offered)
 pub record TakesOffers (d : Domain) (cycle : ℕ) (table : List Row) (offers : List Offered) (before after : Edge) : Type 0 where
   pub number : after.number ≡ before.number
   pub kept : CountsUpto cycle before.used.items →
-      after.log.frames.items ≡ before.log.frames.items ++ map (came_of_going d cycle) (covered_behind d before.number cycle table [] offers)
+      after.log.frames.items ≡ before.log.frames.items ++ map (came_of_going d cycle) (covered_after d before.number cycle table [] offers)
   pub fresh : List Dropped
-  pub behind : after.drops.items ≡ before.drops.items ++ fresh
-  pub are_drops : CountsUpto cycle before.used.items → IsPermutation (dropped_behind d before.number cycle table [] offers) fresh
+  pub following : after.drops.items ≡ before.drops.items ++ fresh
+  pub are_drops : CountsUpto cycle before.used.items → IsPermutation (dropped_after d before.number cycle table [] offers) fresh
   pub by_frame : IsNonDecreasingBy (λ (dropped : Dropped). dropped.frame) fresh
   pub later : CountsUpto cycle before.used.items → CountsUpto (cycle + 1) after.used.items

@@ -53,12 +53,12 @@ fn count(
             octets: 0,
         })?;
     }
-    let place = number as usize;
-    let sum = u64::from(octets_in(&used[place], cycle)) + u64::from(octets);
+    let index = number as usize;
+    let sum = u64::from(octets_in(&used[index], cycle)) + u64::from(octets);
     if sum > u64::from(most) {
         return Ok(false);
     }
-    used[place] = Used {
+    used[index] = Used {
         cycle,
         octets: sum as u32,
     };
@@ -83,7 +83,7 @@ fn judge_row(
     if !begins_at(domain, row, bridge) {
         return Ok(Some(Reason::OtherBridge));
     }
-    let most = row.reserved_behind(None, u64::from(cycle.0));
+    let most = row.reserved_after(None, u64::from(cycle.0));
     if !count(used, row.no, cycle.0, octets, most)? {
         return Ok(Some(Reason::Octets));
     }

@@ -27,7 +27,7 @@ pub struct Outlet {
     leads: Leads,
     /// The cycles up to which it has sent, and has handed on, exclusive.
     sent: u32,
-    told: u32,
+    reported: u32,
     pending: Pending,
     trace: Trace,
 }
@@ -53,7 +53,7 @@ impl Outlet {
             },
             leads: Leads::new(alloc),
             sent: 0,
-            told: 0,
+            reported: 0,
             pending: Pending::new(alloc),
             trace: Trace::new(alloc, number),
         }
@@ -74,10 +74,10 @@ impl Outlet {
     }
 
     /// Returns the cycle up to which the link has handed on what it sent, exclusive.
-    pub fn told(&self) -> u32
-        ensures { result ≡ self.now.told }
+    pub fn reported(&self) -> u32
+        ensures { result ≡ self.now.reported }
     {
-        self.told
+        self.reported
     }
 
     /// Returns whether the link ends in another bridge.
@@ -91,18 +91,18 @@ impl Outlet {
     /// the last of `cycles` cycles, that it is over.
     pub fn has_news(&self, cycles: u32) -> bool
         ensures onward { result ≡ true → self.now.wire.onward ≡ true }
-        ensures more { result ≡ true → self.now.told < self.now.sent }
+        ensures more { result ≡ true → self.now.reported < self.now.sent }
     {
-        self.wire.onward && self.sent > self.told && (self.leads.used() || self.sent == cycles)
+        self.wire.onward && self.sent > self.reported && (self.leads.used() || self.sent == cycles)
     }
 
     /// Returns whether the link has sent all of `cycles` cycles, and has handed them on if it ends in another bridge.
     pub(crate) fn is_over(&self, cycles: u32) -> bool
         ensures sent { result ≡ true → cycles ≤ self.now.sent }
-        ensures told { result ≡ true → self.now.wire.onward ≡ true → cycles ≤ self.now.told }
+        ensures reported { result ≡ true → self.now.wire.onward ≡ true → cycles ≤ self.now.reported }
         ensures some { result ≡ false → 0 < cycles }
     {
-        self.sent >= cycles && (!self.wire.onward || self.told >= cycles)
+        self.sent >= cycles && (!self.wire.onward || self.reported >= cycles)
     }
 
     /// Returns the cycle up to which the link may send now, no matter what has arrived.
@@ -210,7 +210,7 @@ impl Outlet {
     pub(crate) fn segment(&mut self, alloc: Global) -> Segment
         ensures { TakesPending self.old self.new result }
     {
-        self.told = self.sent;
+        self.reported = self.sent;
         Segment {
             from: self.pending.base,
             upto: self.sent,
@@ -219,11 +219,11 @@ impl Outlet {
     }
 
     /// Takes back the last segment, which couldn't be handed on. The link is then as before that segment was taken, when it had handed on
-    /// up to `told`.
-    pub(crate) fn keep_back(&mut self, told: u32, segment: Segment)
-        ensures { KeepsSegmentBack told segment self.old self.new }
+    /// up to `reported`.
+    pub(crate) fn keep_back(&mut self, reported: u32, segment: Segment)
+        ensures { KeepsSegmentBack reported segment self.old self.new }
     {
-        self.told = told;
+        self.reported = reported;
         self.pending = Pending {
             base: segment.from,
             frames: segment.frames,

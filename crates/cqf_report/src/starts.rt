@@ -7,7 +7,7 @@ ghost use Rattle.cqf_report.specs.Written.{line_of_fields};
 ghost use Rattle.cqf_report.specs.Starts.{lines_of_port, start_fields, start_header, text_of_starts};
 
 use cqf_model::Start;
-use cqf_output::{Buffer, Sink, Told, Writer, told_text};
+use cqf_output::{Buffer, CheckedSink, Sink, Writer, written_text};
 use cqf_units::{Memory, Octets, Rate, end_of};
 use std::alloc::Global;
 
@@ -50,10 +50,10 @@ pub fn write_starts(alloc: Global, starts: &[Start], rate: Rate) -> Result<Vec<u
     requires { All (λ start. start.start.0 < 2 ^ 63) starts.now }
     ensures { IfOk result (λ text. text.items ≡ text_of_starts (ticks_of_octet rate) starts.now) }
 {
-    let mut told = Told::new(Vec::new(alloc));
-    let mut writer = Writer::new(&mut told, Buffer::new(alloc)?);
+    let mut reported = CheckedSink::new(Vec::new(alloc));
+    let mut writer = Writer::new(&mut reported, Buffer::new(alloc)?);
     put_port_header(&mut writer);
     put_each(&mut writer, starts, rate);
-    let _told = writer.close();
-    told_text(told)
+    let _written = writer.close();
+    written_text(reported)
 }

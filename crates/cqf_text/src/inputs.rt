@@ -48,11 +48,11 @@ fn split_part(input: &[u8]) -> (&[u8], Option<&[u8]>)
     }
     let mut rest = input;
     while !rest.is_empty() {
-        let (line, behind) = split_whole_line(rest);
+        let (line, following) = split_whole_line(rest);
         if divides(line) {
-            return (&input[..input.len() - rest.len()], Some(behind));
+            return (&input[..input.len() - rest.len()], Some(following));
         }
-        rest = behind;
+        rest = following;
     }
     (input, None)
 }
@@ -67,9 +67,9 @@ pub fn parts(alloc: Global, input: &[u8]) -> Result<Vec<&[u8]>, Memory>
     let mut parts = Vec::new(alloc);
     let mut rest = Some(input);
     while let Some(text) = rest {
-        let (part, behind) = split_part(text);
+        let (part, following) = split_part(text);
         parts.push(part)?;
-        rest = behind;
+        rest = following;
     }
     Ok(parts)
 }

@@ -98,15 +98,15 @@ apart name link from to =
     else Ok (link_with from to link.times)
 
 -- the index of a name in a list of names
-abbrev pub place_of : List ℕ → List (List ℕ) → Option ℕ
-place_of name names = position (λ other. is_text other name) names
+abbrev pub index_of : List ℕ → List (List ℕ) → Option ℕ
+index_of name names = position (λ other. is_text other name) names
 
 -- a link of the text with the numbers of its ends, or the first of its names that is no such end: `from` must name a bridge, and `to` a
 -- node other than that bridge
 abbrev pub joined_link : List (List ℕ) → List (List ℕ) → DraftLink → Result Link DomainFault
 joined_link bridges stations link =
-    and_then (ok_or (place_of link.from bridges) (fault.UnknownName link.from)) (λ from.
-    and_then (ok_or (node_or (place_of link.to bridges) (place_of link.to stations)) (fault.UnknownName link.to)) (λ to.
+    and_then (ok_or (index_of link.from bridges) (fault.UnknownName link.from)) (λ from.
+    and_then (ok_or (node_or (index_of link.to bridges) (index_of link.to stations)) (fault.UnknownName link.to)) (λ to.
     apart link.to link from to))
 
 -- the links of the text with the numbers of their ends, or the first fault

@@ -2,7 +2,7 @@
 ghost use Rattle.std.specs.Prelude.{◌≡◌, ◌&&◌, None};
 ghost use Rattle.std.specs.List.{list_any};
 ghost use Rattle.cqf_model.specs.Domain.{leaves};
-ghost use Rattle.cqf_model.specs.Table.{begins_at, same_way};
+ghost use Rattle.cqf_model.specs.Table.{begins_at, same_ingress};
 
 use crate::domain::Domain;
 use cqf_model::{Hop, Row};
@@ -16,7 +16,7 @@ fn leaves(domain: &Domain, link: u16, bridge: u16) -> bool
 
 /// Returns whether a hop is the first of its tree at a bridge.
 fn begins(domain: &Domain, hop: &Hop, bridge: u16) -> bool
-    ensures { result ≡ (same_way hop.now.from None && leaves domain.now hop.now.link bridge) }
+    ensures { result ≡ (same_ingress hop.now.from None && leaves domain.now hop.now.link bridge) }
 {
     match hop.from {
         None => leaves(domain, hop.link, bridge),
@@ -26,7 +26,7 @@ fn begins(domain: &Domain, hop: &Hop, bridge: u16) -> bool
 
 /// Returns whether one of the hops is the first of its tree at a bridge.
 fn one_begins(domain: &Domain, hops: &[Hop], bridge: u16) -> bool
-    ensures { result ≡ list_any (λ hop. same_way hop.from None && leaves domain.now hop.link bridge) hops.now }
+    ensures { result ≡ list_any (λ hop. same_ingress hop.from None && leaves domain.now hop.link bridge) hops.now }
 {
     hops.iter().any(|hop| begins(domain, hop, bridge))
 }

@@ -1,6 +1,6 @@
 //! Names by number.
 ghost use Rattle.std.specs.Prelude.{◌≡◌, ◌<◌, [], ◌∷◌, ◌++◌, false, IfOk, IfSome, OnErr, OnOk, length};
-ghost use Rattle.cqf_topology.specs.DomainText.{is_among, place_of};
+ghost use Rattle.cqf_topology.specs.DomainText.{index_of, is_among};
 
 use cqf_units::{Memory, Name};
 use std::alloc::Global;
@@ -63,7 +63,7 @@ impl NameList {
 
     /// Returns the name's number, or `None` if it isn't among these names.
     pub fn number_of(&self, name: &Name) -> Option<usize>
-        ensures number { result ≡ place_of name.now self.now.keys }
+        ensures number { result ≡ index_of name.now self.now.keys }
         ensures within { IfSome result (λ number. number < length self.now.keys) }
     {
         self.numbers.get(name).copied()

@@ -1,5 +1,5 @@
 //! Laws about what streams offer.
-ghost use Rattle.cqf_traffic.specs.Conforming.{OffersComeInTurns, OffersConform};
+ghost use Rattle.cqf_traffic.specs.Conforming.{OffersComeInActiveCycles, OffersConform};
 
 use cqf_laws_timing::conforming_offers_fit_a_cycle;
 
@@ -14,6 +14,6 @@ pub fn offers_conform()
 /// Law: what is offered of a stream comes in every `every`-th cycle alone, for every seed and without one. This holds if no two streams
 /// have the same name, if its interval is a multiple of `every` cycles long, and if no frame is so late that it comes in a later cycle than
 /// on the grid. It holds by each clock that differs from the talker's so little that each frame stays in its cycle.
-pub fn offers_come_in_turns()
-    ensures { OffersComeInTurns }
+pub fn offers_come_in_active_cycles()
+    ensures { OffersComeInActiveCycles }
 {}

@@ -15,7 +15,7 @@ use Rattle.cqf_worker_loops.specs.Commands.{HasCalled, HasLeftOff}
 use Rattle.cqf_worker_loops.specs.GivingUp.{HasGivenUp}
 use Rattle.cqf_worker_loops.specs.Handing.{HasBrokenOff, HasSealed, TableEnd}
 use Rattle.cqf_worker_loops.specs.Workers.{MayWork, Works}
-use Rattle.cqf_worker.specs.Telling.{MayBeTold}
+use Rattle.cqf_worker.specs.Reporting.{MayBeReported}
 use Rattle.cqf_model.specs.Limits.{most_cycles}
 
 -- what a worker's thread answers: the worker that has done its part, or what a worker that gives up returns, with the number of the
@@ -52,4 +52,4 @@ pub record IsEnded (cycles : ℕ) (r : ReadyRun) (e : EndedRun) : Type 0 where
 
 -- what the run answers: that the threads have ended so, or a fault that may be reported
 abbrev pub RunAnswers : ℕ → ReadyRun → Result EndedRun ConductFault → Type 0
-RunAnswers cycles r answer = IfOk answer (IsEnded cycles r) × IfErr answer (MayBeTold cycles r)
+RunAnswers cycles r answer = IfOk answer (IsEnded cycles r) × IfErr answer (MayBeReported cycles r)

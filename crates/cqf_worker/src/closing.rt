@@ -100,7 +100,7 @@ fn take_apart(alloc: Global, workers: Vec<Worker>) -> Result<Parts, Memory>
 }
 
 /// Returns the index of the first putting end of a link.
-fn place_of(outs: &[LinkEnd<PipeIn<Carried<Segment>>>], link: u16) -> Option<usize>
+fn index_of(outs: &[LinkEnd<PipeIn<Carried<Segment>>>], link: u16) -> Option<usize>
     ensures { result ≡ position (λ (out : SegmentPort). out.link == link) outs.now }
 {
     outs.iter().position(|out| out.link == link)
@@ -116,8 +116,8 @@ fn take_partner(
     ensures one { IfSome result (λ end. HasLostOne link outs.old.items outs.new.items) }
     ensures none { IfNone result (count_on link outs.old.items ≡ 0) }
 {
-    match place_of(outs.as_slice(), link) {
-        Some(place) => Some(outs.remove(place).pipe),
+    match index_of(outs.as_slice(), link) {
+        Some(index) => Some(outs.remove(index).pipe),
         None => None,
     }
 }

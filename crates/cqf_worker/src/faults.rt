@@ -66,7 +66,7 @@ impl<T: Drop> From<AllocFailed<T>> for ConductFault {
 }
 
 /// Returns a fault's rank in the order in which faults are reported.
-fn place_of(fault: ConductFault) -> u8
+fn index_of(fault: ConductFault) -> u8
     ensures { result ≡ rank fault }
 {
     match fault {
@@ -85,7 +85,7 @@ fn comes_before(one: ConductFault, other: ConductFault) -> bool
 {
     match (one, other) {
         (ConductFault::Bridge(bridge, _), ConductFault::Bridge(another, _)) => bridge < another,
-        _ => place_of(one) < place_of(other),
+        _ => index_of(one) < index_of(other),
     }
 }
 
@@ -129,8 +129,8 @@ impl Faults {
     }
 
     /// Returns the fault to report, if anything has gone wrong. If no thread failed but one ended early, this is `ChannelLost`.
-    pub fn told(self) -> Option<ConductFault>
-        ensures told { result ≡ is_noted self }
+    pub fn reported(self) -> Option<ConductFault>
+        ensures reported { result ≡ is_noted self }
         ensures clean { IfNone result (IsClean self) }
     {
         match self.first {

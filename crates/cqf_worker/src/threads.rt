@@ -10,7 +10,7 @@ ghost use Rattle.cqf_worker_loops.specs.declared.worker.Worker.{Worker};
 ghost use Rattle.cqf_worker.specs.Faults.{IsClean, is_noted};
 ghost use Rattle.cqf_worker.specs.Noting.{NotesFault, NotesAll, KeepsGiven, fault_of_caller, fault_of_conductor, fault_of_worker, noted, noted_with};
 ghost use Rattle.cqf_worker.specs.Running.{AnswersWorker, BreaksOff, CallAnswers, CallsOf, IsEnded, IsReadyWorker, RunAnswers};
-ghost use Rattle.cqf_worker.specs.Telling.{IsStartFault, MayBeTold};
+ghost use Rattle.cqf_worker.specs.Reporting.{IsStartFault, MayBeReported};
 ghost use Rattle.cqf_model.specs.Limits.{most_cycles};
 
 use crate::faults::{ConductFault, Faults};
@@ -180,7 +180,7 @@ fn start_administrators<'s, E, R: Threads + Wait + Sync, P: Pace>(
 /// Notes why a bridge's worker gave up: no fault of its own if it was stopped.
 fn note_worker(faults: &mut Faults, why: GaveUp)
     ensures some { IsClean faults.new → ⊥ }
-    ensures told { faults.new ≡ noted faults.old (fault_of_worker why) }
+    ensures reported { faults.new ≡ noted faults.old (fault_of_worker why) }
 {
     match why.fault {
         WorkerFault::Memory => faults.note(ConductFault::Memory),
@@ -191,7 +191,7 @@ fn note_worker(faults: &mut Faults, why: GaveUp)
 /// Notes why an administrator gave up.
 fn note_caller(faults: &mut Faults, why: Unmade)
     ensures some { IsClean faults.new → ⊥ }
-    ensures told { faults.new ≡ noted faults.old (fault_of_caller why) }
+    ensures reported { faults.new ≡ noted faults.old (fault_of_caller why) }
 {
     match why.fault {
         CallFault::HistoryFull => faults.note(ConductFault::DeskDisagrees),
@@ -202,7 +202,7 @@ fn note_caller(faults: &mut Faults, why: Unmade)
 /// Notes why the conductor gave up: no fault of its own if a worker had ended before.
 fn note_conductor(faults: &mut Faults, fault: SealingFault)
     ensures some { IsClean faults.new → ⊥ }
-    ensures told { faults.new ≡ noted faults.old (fault_of_conductor fault) }
+    ensures reported { faults.new ≡ noted faults.old (fault_of_conductor fault) }
 {
     match fault {
         SealingFault::Memory => faults.note(ConductFault::Memory),
@@ -351,7 +351,7 @@ fn run_in<'s, E, R: Threads + Wait + Sync, P: Pace>(
 ) -> Result<EndedRun, ConductFault>
     requires { IsReadyWorker shared.cycles ready }
     ensures ok { IfOk result (IsEnded shared.entry.cycles ready) }
-    ensures err { IfErr result (MayBeTold shared.entry.cycles ready) }
+    ensures err { IfErr result (MayBeReported shared.entry.cycles ready) }
 {
     let ReadyRun {
         workers,
@@ -388,10 +388,10 @@ fn all_ended(
     sealed: Result<Sealed, SealingFault>,
 ) -> Result<EndedRun, ConductFault>
     ensures all { IfOk result (λ all. IsClean faults × (all.workers ≡ workers) × (all.seats ≡ seats) × (sealed ≡ Ok all.sealed)) }
-    ensures told { IfErr result (λ fault. is_noted (noted_with faults sealed) ≡ Some fault) }
+    ensures reported { IfErr result (λ fault. is_noted (noted_with faults sealed) ≡ Some fault) }
 {
     match sealed {
-        Ok(sealed) => match faults.told() {
+        Ok(sealed) => match faults.reported() {
             Some(fault) => Err(fault),
             None => Ok(EndedRun {
                 workers,
@@ -401,8 +401,8 @@ fn all_ended(
         },
         Err(fault) => {
             note_conductor(&mut faults, fault);
-            match faults.told() {
-                Some(told) => Err(told),
+            match faults.reported() {
+                Some(reported) => Err(reported),
                 None => unreachable!(),
             }
         }
@@ -424,7 +424,7 @@ pub fn run_threads<R: Threads + Wait + Sync, P: Pace>(
 ) -> Result<EndedRun, ConductFault>
     requires { IsReadyWorker cycles ready }
     ensures ok { IfOk result (IsEnded cycles ready) }
-    ensures err { IfErr result (MayBeTold cycles ready) }
+    ensures err { IfErr result (MayBeReported cycles ready) }
 {
     thread::scope(
         thread::scope_env(),

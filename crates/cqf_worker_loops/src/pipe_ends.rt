@@ -229,16 +229,16 @@ impl<T: Drop> PipeIn<T> {
         &mut self,
         rt: &R,
         first: T,
-        behind: VecDeque<T>,
+        following: VecDeque<T>,
     ) -> Result<(), (T, VecDeque<T>)>
-        requires room { length self.old.items + length behind.items < most_items }
+        requires room { length self.old.items + length following.items < most_items }
         ensures pipe { self.new.pipe ≡ self.old.pipe }
-        ensures ok { OnOk result (self.new.items ≡ self.old.items ++ first ∷ behind.items) }
+        ensures ok { OnOk result (self.new.items ≡ self.old.items ++ first ∷ following.items) }
         ensures err { IfErr result (λ back. self.new.items ≡ self.old.items) }
-        ensures back { IfErr result (λ back. (back.0 ≡ first) × (back.1.items ≡ behind.items)) }
+        ensures back { IfErr result (λ back. (back.0 ≡ first) × (back.1.items ≡ following.items)) }
     {
-        let count = behind.len() as u64 + 1;
-        let bundle = Bundle { first, behind };
+        let count = following.len() as u64 + 1;
+        let bundle = Bundle { first, following };
         match self.sender.send_as::<Puts, R>(rt, &mut self.pass, bundle) {
             Ok(()) => {
                 self.puts += count;
@@ -246,8 +246,8 @@ impl<T: Drop> PipeIn<T> {
                 Ok(())
             }
             Err(refused) => {
-                let Bundle { first, behind } = refused.into_inner();
-                Err((first, behind))
+                let Bundle { first, following } = refused.into_inner();
+                Err((first, following))
             }
         }
     }
@@ -263,7 +263,7 @@ impl<T: Drop> PipeIn<T> {
     {
         let bundle = Bundle {
             first: item,
-            behind: VecDeque::new(self.alloc),
+            following: VecDeque::new(self.alloc),
         };
         match self
             .sender
@@ -277,14 +277,14 @@ impl<T: Drop> PipeIn<T> {
             Err(TrySendError::Full(back)) => {
                 let Bundle {
                     first,
-                    behind: _none,
+                    following: _none,
                 } = back;
                 Err(NotPut::Full(first))
             }
             Err(refused) => {
                 let Bundle {
                     first,
-                    behind: _none,
+                    following: _none,
                 } = refused.into_inner();
                 Err(NotPut::Gone(first))
             }
@@ -332,8 +332,8 @@ impl<T: Drop> PipeOut<T> {
         }
         match self.receiver.try_recv_as::<Takes, R>(rt, &mut self.pass) {
             Ok(bundle) => {
-                let Bundle { first, behind } = bundle;
-                self.waiting = behind;
+                let Bundle { first, following } = bundle;
+                self.waiting = following;
                 self.takes += 1;
                 self.streak = self.streak.saturating_add(1);
                 FoundItem::Item(first)
@@ -367,8 +367,8 @@ impl<T: Drop> PipeOut<T> {
             self.takes += 1;
             return Some(item);
         }
-        let Bundle { first, behind } = receive(rt, &self.receiver, &mut self.pass)?;
-        self.waiting = behind;
+        let Bundle { first, following } = receive(rt, &self.receiver, &mut self.pass)?;
+        self.waiting = following;
         self.takes += 1;
         Some(first)
     }

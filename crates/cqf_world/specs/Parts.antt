@@ -48,7 +48,7 @@ links_taken w bridge = filter (λ l. nat_lt (cycle_of_bridge w bridge) (taken_fr
 -- network's
 pub record IsDriven (run : Run) (sealed : ℕ) (net : Network) (bridge cycle : ℕ) (links : List ℕ) (s : WorldBridge) : Type 0 where
   pub in_cycle : s.posted ≡ cycle
-  pub not_behind : s.posted ≤ s.sent
+  pub not_after : s.posted ≤ s.sent
   pub with_table : s.sent ≤ s.given
   pub not_ahead : s.given ≤ s.posted + 1
   pub closed : s.given ≤ sealed
@@ -115,7 +115,7 @@ pub record ClosesInWorld (old new : Administration) (seat : ℕ) (before after :
   pub table : CycleTable
   pub of_cycle : table.cycle ≡ seals old.entries
   pub rows : table.rows ≡ table_at old.domain new.entries (seals old.entries)
-  pub behind : after ≡ before ++ table ∷ []
+  pub following : after ≡ before ++ table ∷ []
 
 -- the oldest batch under way on a link goes to the bridge, where it is inserted by link number
 pub record Moves (line line_after : Line) (bridge_driven driven_after : WorldBridge) : Type 0 where
@@ -136,7 +136,7 @@ pub record SendsItsCycle (before after : WorldBridge) (batches : List LinkBatch)
 pub record AreComing (d : Domain) (batches : List LinkBatch) (before after : List Line) : Type 0 where
   pub as_many : length after ≡ length before
   pub counts : map taken_of after ≡ map taken_of before
-  pub behind : (link bridge : ℕ) (x : Line) → enters d link bridge ≡ true →
+  pub following : (link bridge : ℕ) (x : Line) → enters d link bridge ≡ true →
       (slice_index_or after link x).waiting.items
       ≡ (slice_index_or before link x).waiting.items ++ filter (λ (b : LinkBatch). b.link == link) batches
 

@@ -28,17 +28,17 @@ pub(crate) fn bridge_at_end(domain: &Domain, link: u16) -> Option<u16>
 }
 
 /// Returns how many of the batches are of links with a lower number.
-fn place_of(taken: &[Batch], link: u16) -> usize
+fn index_of(taken: &[Batch], link: u16) -> usize
     ensures value { result ≡ length (filter (λ (x : LinkBatch). nat_lt x.link link) taken.now) }
     ensures within { result ≤ length taken.now }
 {
-    let mut place = 0;
+    let mut index = 0;
     for other in taken {
         if other.link() < link {
-            place += 1;
+            index += 1;
         }
     }
-    place
+    index
 }
 
 /// Inserts a batch among those that were taken, by link number.
@@ -46,8 +46,8 @@ pub(crate) fn put_in(taken: &mut Vec<Batch>, batch: Batch) -> Result<(), Memory>
     ensures { OnOk result (taken.new.items
         ≡ insert taken.old.items (length (filter (λ (x : LinkBatch). nat_lt x.link batch.link) taken.old.items)) batch) }
 {
-    let place = place_of(taken.as_slice(), batch.link());
-    taken.insert(place, batch)?;
+    let index = index_of(taken.as_slice(), batch.link());
+    taken.insert(index, batch)?;
     Ok(())
 }
 

@@ -46,15 +46,15 @@ unloaded network cycle_time link = record {
   streams = 0;
 }
 
--- an access link, with what one stream more takes; and links, with what a stream takes of the one at a place, if there is one
+-- an access link, with what one stream more takes; and links, with what a stream takes of the one at an index, if there is one
 abbrev pub loaded_by : ℕ → AccessLoad → AccessLoad
 loaded_by taken load =
     record { from = load.from; to = load.to; rate = load.rate; budget = load.budget; held = load.held + taken; streams = load.streams + 1 }
 
 abbrev pub added_load : List AccessLoad → ℕ → ℕ → List AccessLoad
-added_load [] place taken = []
+added_load [] index taken = []
 added_load (load ∷ loads) zero taken = loaded_by taken load ∷ loads
-added_load (load ∷ loads) (suc place) taken = load ∷ added_load loads place taken
+added_load (load ∷ loads) (suc index) taken = load ∷ added_load loads index taken
 
 -- links, with what streams take, each of the link to which it is handed
 abbrev pub loads_with : ℕ → List AccessLoad → List (Option Handed) → List FlowText → List AccessLoad
@@ -62,7 +62,7 @@ loads_with cycle_time loads [] flows = loads
 loads_with cycle_time loads (one ∷ more) [] = loads
 loads_with cycle_time loads (None ∷ more) (flow ∷ flows) = loads_with cycle_time loads more flows
 loads_with cycle_time loads (Some handed ∷ more) (flow ∷ flows) =
-    loads_with cycle_time (added_load loads handed.place (taken_by cycle_time handed flow.0.0.octets flow.0.0.every)) more flows
+    loads_with cycle_time (added_load loads handed.index (taken_by cycle_time handed flow.0.0.octets flow.0.0.every)) more flows
 
 abbrev pub access_loads : NetworkDomain → ℕ → List (Option Handed) → List FlowText → List AccessLoad
 access_loads network cycle_time handed flows = loads_with cycle_time (map (unloaded network cycle_time) network.talkers) handed flows

@@ -30,7 +30,7 @@ AreAdmitted d streams rows = (entries : List Recorded) × (admitted_from d [] 1 
 
 abbrev pub PlanFits : Type 0
 PlanFits = (d : Domain) (streams : List Asked) (rows : List Row) → listed_from d [] streams ≡ Ok rows →
-    AreAdmitted d streams rows ↔ ((l turn : ℕ) → l < length d.links → link_cost rows l turn ≤ budget d l)
+    AreAdmitted d streams rows ↔ ((l active_cycle : ℕ) → l < length d.links → link_cost rows l active_cycle ≤ budget d l)
 
 -- streams that are all admitted are listed
 abbrev pub AdmittedAreListed : Type 0
@@ -40,6 +40,6 @@ AdmittedAreListed = (d : Domain) (streams : List Asked) (entries : List Recorded
 -- what is written of a link is the most that all listed streams cost of it: no table of a history that admits only streams of this list
 -- costs more of the link in any cycle, even if the plan exceeds the budget
 abbrev pub NoneHoldsMore : Type 0
-NoneHoldsMore = (d : Domain) (streams : List Asked) (rows : List Row) (entries : List Recorded) (cycles cycle link turn : ℕ) →
+NoneHoldsMore = (d : Domain) (streams : List Asked) (rows : List Row) (entries : List Recorded) (cycles cycle link active_cycle : ℕ) →
     listed_from d [] streams ≡ Ok rows → IsLegalHistory d entries → cycles ≤ seals entries → AdmitsOnly streams entries →
-    link_cost (table_of (tables_of d entries cycles) cycle) link turn ≤ link_cost rows link turn
+    link_cost (table_of (tables_of d entries cycles) cycle) link active_cycle ≤ link_cost rows link active_cycle

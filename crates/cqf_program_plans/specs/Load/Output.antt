@@ -18,7 +18,7 @@ use Rattle.cqf_program_plans.specs.declared.load.shares.AccessShare.{AccessShare
 use Rattle.cqf_program_plans.specs.Compile.Output.{stream_line}
 use Rattle.cqf_program_plans.specs.Edges.{edges_of_part, has_access}
 use Rattle.cqf_program_plans.specs.Load.Access.{access_loads, most_taken}
-use Rattle.cqf_program_plans.specs.Load.Told.{text_of_load}
+use Rattle.cqf_program_plans.specs.Load.Written.{text_of_load}
 use Rattle.cqf_program_plans.specs.Load.Streams.{StreamLoads, access_shares, greatest_first, text_of_streams}
 use Rattle.cqf_program_plans.specs.Reserving.{requests_at, requests_in}
 use Rattle.cqf_program_plans.specs.Load.Listing.{listed_row, listing_refusal}

@@ -1,11 +1,11 @@
 //! The latencies of the streams of a table to their listeners.
 ghost use Rattle.std.specs.Prelude.{ℕ, ◌≡◌, ◌*◌, ◌<◌, ◌≤◌, ◌^◌, ◌++◌, Contains, IfOk, OnOk, Some, None, if◌then◌else◌, length, map};
 ghost use Rattle.cqf_admission.specs.Rows.{IsCountable};
-ghost use Rattle.cqf_admission.specs.Turns.{AreOfGoodPaces, IsOfGoodPace};
+ghost use Rattle.cqf_admission.specs.ActiveCycles.{AreOfGoodPaces, IsOfGoodPace};
 ghost use Rattle.cqf_laws_history.specs.StateLaws.{AreHeld};
 ghost use Rattle.cqf_laws_timing.specs.Latency.{least_of, most_of, window_of};
 ghost use Rattle.cqf_program_plans.specs.EndNames.{name_of_end};
-ghost use Rattle.cqf_program_plans.specs.Latency.Text.{deadline_of, is_station, latencies_from, latencies_of, latencies_of_row, latency_behind, latency_to, times_of};
+ghost use Rattle.cqf_program_plans.specs.Latency.Text.{deadline_of, is_station, latencies_from, latencies_of, latencies_of_row, latency_from_talker, latency_to, times_of};
 ghost use Rattle.cqf_model.specs.Domain.{end_of};
 ghost use Rattle.cqf_model.specs.History.{most_beside};
 
@@ -19,27 +19,27 @@ use std::alloc::Global;
 
 /// Returns the least time that a frame takes to the end of a link at this hop number, for all clocks and link delays within what the domain
 /// states.
-fn least_to(domain: &Domain, link: u16, depth: u8) -> u64
+fn least_to(domain: &Domain, link: u16, hop_number: u8) -> u64
     requires { link < length domain.now.links }
-    ensures value { result ≡ least_of domain.now link depth }
+    ensures value { result ≡ least_of domain.now link hop_number }
     ensures range { result < 2 ^ 63 }
 {
     let (cycle_time, ends) = (domain.cycle_time().0, domain.link(link));
-    let waits = u64::from(depth.saturating_sub(1)) * cycle_time;
+    let waits = u64::from(hop_number.saturating_sub(1)) * cycle_time;
     let whole = waits + 1 + time_of(72, ends.rate) + u64::from(ends.least);
     whole.saturating_sub(domain.sync().0)
 }
 
 /// Returns the most time, in nanoseconds, that a frame takes to the end of a link at this hop number, if the streams cost `cost` octets of
 /// the link, for all clocks and link delays within what the domain states.
-pub fn most_to(domain: &Domain, link: u16, depth: u8, cost: u64) -> u64
+pub fn most_to(domain: &Domain, link: u16, hop_number: u8, cost: u64) -> u64
     requires link { link < length domain.now.links }
     requires cost { cost ≤ 2 ^ 29 * 2000000 }
-    ensures value { result ≡ most_of domain.now link depth cost }
+    ensures value { result ≡ most_of domain.now link hop_number cost }
     ensures range { result < 2 ^ 63 }
 {
     let (cycle_time, ends) = (domain.cycle_time().0, domain.link(link));
-    let waits = u64::from(depth) * cycle_time;
+    let waits = u64::from(hop_number) * cycle_time;
     let gap = 12 * octet_ticks(ends.rate) / 25;
     let busy = span(cost, ends.rate).saturating_sub(gap);
     waits + busy + u64::from(ends.delay) + domain.sync().0
@@ -84,23 +84,23 @@ fn latency_to(
     ensures least { result.least < 2 ^ 63 }
     ensures most { result.most < 2 ^ 63 }
 {
-    let (link, depth) = (hop.link, hop.depth);
+    let (link, hop_number) = (hop.link, hop.hop_number);
     Latency {
         stream: row.name.copied(),
         listener,
-        bridges: depth,
-        least: least_to(domain, link, depth),
-        most: most_to(domain, link, depth, u64::from(cost)),
+        bridges: hop_number,
+        least: least_to(domain, link, hop_number),
+        most: most_to(domain, link, hop_number, u64::from(cost)),
         window: window_at(domain, link, cost),
         deadline,
     }
 }
 
 /// Returns a latency from the hand-over, with the time that frames take from there to their edge bridge.
-fn latency_behind(mut latency: Latency, times: Option<AccessTimes>) -> Latency
+fn latency_from_talker(mut latency: Latency, times: Option<AccessTimes>) -> Latency
     requires least { latency.least < 2 ^ 63 }
     requires most { latency.most < 2 ^ 63 }
-    ensures { result ≡ latency_behind times latency }
+    ensures { result ≡ latency_from_talker times latency }
 {
     match times {
         Some(times) => {
@@ -126,15 +126,15 @@ fn latency_at(costs: &Costs<'_>, row: &Row, ends: StreamEnds, hop: &Hop) -> Opti
     requires countable { IsCountable (length costs.now.domain.links) row.now }
     requires good { IsOfGoodPace row.now }
     ensures { let cost = most_beside costs.now.rows row.now.tree.items row.now.pace hop.now.link in
-        let told = latency_behind ends.times (latency_to costs.now.domain cost row.now ends.deadline hop.now) in
-        result ≡ (if is_station (end_of costs.now.domain hop.now.link) then Some told else None) }
+        let reported = latency_from_talker ends.times (latency_to costs.now.domain cost row.now ends.deadline hop.now) in
+        result ≡ (if is_station (end_of costs.now.domain hop.now.link) then Some reported else None) }
 {
     let domain = costs.domain();
     match listener_at(domain, hop.link) {
         Some(listener) => {
             let cost = costs.at_hop(row, hop);
             let latency = latency_to(domain, cost, row, ends.deadline, hop, listener);
-            Some(latency_behind(latency, ends.times))
+            Some(latency_from_talker(latency, ends.times))
         }
         None => None,
     }
@@ -149,8 +149,8 @@ fn push_listeners(
 ) -> Result<(), Memory>
     requires countable { IsCountable (length costs.now.domain.links) row.now }
     requires good { IsOfGoodPace row.now }
-    ensures { let told = latencies_of_row costs.now.domain costs.now.rows row.now ends.deadline in
-        OnOk result (latencies.new.items ≡ latencies.old.items ++ map (latency_behind ends.times) told) }
+    ensures { let reported = latencies_of_row costs.now.domain costs.now.rows row.now ends.deadline in
+        OnOk result (latencies.new.items ≡ latencies.old.items ++ map (latency_from_talker ends.times) reported) }
 {
     for hop in row.tree.as_slice() {
         if let Some(latency) = latency_at(costs, row, ends, hop) {

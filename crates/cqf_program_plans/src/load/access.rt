@@ -132,20 +132,20 @@ fn all_unloaded(
 fn add_load(loads: &mut Vec<AccessLoad>, cycle_time: Nanos, handed: &Handed, request: &PacedRequest)
     requires short { cycle_time.0 ≤ longest_cycle }
     requires few { (count : ℕ) × (count < 2 ^ 64 - 1) × All (IsLoadedBy count) loads.old.items }
-    ensures value { loads.new.items ≡ added_load loads.old.items handed.now.place (taken_by cycle_time.0 handed.now request.now.octets request.now.every) }
+    ensures value { loads.new.items ≡ added_load loads.old.items handed.now.index (taken_by cycle_time.0 handed.now request.now.octets request.now.every) }
     ensures few { (count : ℕ) → All (IsLoadedBy count) loads.old.items → All (IsLoadedBy (count + 1)) loads.new.items }
 {
-    if handed.place < loads.len() {
+    if handed.index < loads.len() {
         let taken = taken_by(cycle_time, handed, request.octets, request.every);
-        loads[handed.place].add(taken);
+        loads[handed.index].add(taken);
     }
 }
 
-/// Returns what the stream at a place hands to an access link.
-pub(crate) fn handed_at(all: &[Option<Handed>], place: usize) -> Option<&Handed>
-    ensures { option_copied result ≡ slice_index_or all.now place None }
+/// Returns what the stream at an index hands to an access link.
+pub(crate) fn handed_at(all: &[Option<Handed>], index: usize) -> Option<&Handed>
+    ensures { option_copied result ≡ slice_index_or all.now index None }
 {
-    match all.get(place) {
+    match all.get(index) {
         Some(one) => one.as_ref(),
         None => None,
     }
@@ -168,9 +168,9 @@ pub fn access_loads(
 {
     let mut loads = all_unloaded(alloc, network, cycle_time)?;
     let (handed, flows) = (edge.handed.as_slice(), edge.flows.as_slice());
-    for place in 0..flows.len() {
-        if let Some(one) = handed_at(handed, place) {
-            add_load(&mut loads, cycle_time, one, &flows[place].planned.request);
+    for index in 0..flows.len() {
+        if let Some(one) = handed_at(handed, index) {
+            add_load(&mut loads, cycle_time, one, &flows[index].planned.request);
         }
     }
     Ok(loads)

@@ -10,7 +10,7 @@ ghost use Rattle.cqf_model.specs.Limits.{most_reserved};
 ghost use Rattle.cqf_program_plans.specs.Load.Access.{TakesLittle, most_taken};
 ghost use Rattle.cqf_program_plans.specs.Load.Read.{load_input_value};
 ghost use Rattle.cqf_program_scenario.specs.Networks.{domain_of};
-ghost use Rattle.cqf_program_plans.specs.Load.Told.{text_of_load};
+ghost use Rattle.cqf_program_plans.specs.Load.Written.{text_of_load};
 ghost use Rattle.cqf_output.specs.Stops.{IsRefused};
 
 use crate::edges::{edges_part, has_access};
@@ -21,7 +21,7 @@ use crate::load::shares::{access_shares, sort_rows, sort_shares};
 use crate::load::streams::StreamLoadsOutput;
 use crate::reserving::{requests_at, requests_in};
 use crate::stream_stop;
-use cqf_admission::count_places;
+use cqf_admission::count_indices;
 use cqf_edge::{EdgeFlows, Handed};
 use cqf_model::Limits;
 use cqf_network::NetworkDomain;
@@ -42,7 +42,7 @@ fn list_one(
     ensures err { IfErr result (λ stop. (more : List Asked) → IsRefused (listed_from domain.now listing (asked_paced request.now ∷ more)) stop) }
 {
     domain.know();
-    if count_places(request.paths.as_slice()).is_none() {
+    if count_indices(request.paths.as_slice()).is_none() {
         return Err(Stop::memory(alloc));
     }
     let Ok(looked) = listing.look_over(alloc, domain, request) else {
@@ -76,7 +76,7 @@ fn list_all(alloc: Global, domain: &Domain, requests: &[PacedRequest]) -> Result
 struct LoadInput {
     domain: Domain,
     access: Vec<AccessLoad>,
-    /// What each stream hands to an access link, by place.
+    /// What each stream hands to an access link, by index.
     handed: Vec<Option<Handed>>,
     requests: Vec<PacedRequest>,
 }

@@ -15,8 +15,8 @@ use std::alloc::Global;
 /// What a stream takes of an access link.
 #[derive(Drop)]
 pub(crate) struct AccessShare {
-    /// The link's place among the network's access links.
-    pub(crate) place: usize,
+    /// The link's index among the network's access links.
+    pub(crate) index: usize,
     /// The name of the stream.
     pub(crate) stream: Name,
     /// The octets of a cycle that it takes, with preambles and gaps.
@@ -53,7 +53,7 @@ fn push_share(
         return Ok(());
     };
     shares.push(AccessShare {
-        place: one.place,
+        index: one.index,
         stream: row.name.copied(),
         taken: taken_of(cycle_time, one, row),
     })?;

@@ -10,7 +10,7 @@ use Rattle.cqf_model.specs.Book.{Contents}
 use Rattle.cqf_model.specs.History.{Recorded, is_seal, streams_of}
 use Rattle.cqf_model.specs.Run.{Run}
 use Rattle.cqf_model.specs.Shift.{IsCovered, offer_cycle}
-use Rattle.cqf_model.specs.Traffic.{numbered}
+use Rattle.cqf_model.specs.Policing.{numbered}
 use Rattle.cqf_model.specs.Promise.{SaysTheShift}
 use Rattle.cqf_topology.specs.PlannedText.{PlannedText}
 use Rattle.cqf_program_plans.specs.Latency.Text.{listeners_of}

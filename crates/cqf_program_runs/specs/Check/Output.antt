@@ -14,7 +14,7 @@ use Rattle.cqf_program_runs.specs.Deliveries.PlannedScenario.{planned_scenario, 
 pub record IsCheckedScenario (cycles : ℕ) (s : Scenario) (streams : List PlannedText) (found : Result (List ℕ) (List ℕ)) : Type 0 where
   pub book : Contents
   pub is_book : IsBookOfScenario cycles s book
-  pub told : checked_run (history_of cycles s) (run_of_scenario cycles s) streams book ≡ found
+  pub reported : checked_run (history_of cycles s) (run_of_scenario cycles s) streams book ≡ found
 
 -- the result for what was read; for an input that is refused, the line of the first fault
 abbrev pub IsCheckedOf : ℕ → Result (Scenario × List PlannedText) (List ℕ) → Result (List ℕ) (List ℕ) → Type 0

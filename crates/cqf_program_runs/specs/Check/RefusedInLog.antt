@@ -8,7 +8,7 @@ use Rattle.cqf_program_runs.specs.Check.RefusedCalls.{is_refused}
 
 -- whether it is a call; a Seal isn't
 abbrev pub is_call : What → Bool
-is_call (Admit place) = true
+is_call (Admit index) = true
 is_call (Withdraw from octets) = true
 is_call Seal = false
 

@@ -5,7 +5,7 @@ use Rattle.cqf_units.specs.declared.timing.Nanos.{Nanos}
 use Rattle.cqf_model.specs.declared.frames.Offered.{Offered}
 use Rattle.cqf_model.specs.Domain.{Domain}
 use Rattle.cqf_model.specs.Shift.{offer_cycle}
-use Rattle.cqf_model.specs.Traffic.{DroppedFor, ExceedsGate, LacksRow, Queued, Verdict}
+use Rattle.cqf_model.specs.Policing.{DroppedFor, ExceedsGate, LacksRow, Queued, Verdict}
 use Rattle.cqf_program_runs.specs.declared.deliveries.delivery.Passage.TheVariants as passage
 use Rattle.cqf_program_runs.specs.declared.deliveries.delivery.Delivery.{Delivery}
 use Rattle.cqf_program_runs.specs.Deliveries.{deliveries_to, delivery_of}

@@ -132,7 +132,7 @@ impl CheckCounts {
         requires early { AreCountsBefore most_offers self }
         ensures counts { (offers : SomeOffers) (done : List ADelivery) → self ≡ counts_of offers done →
             result ≡ counts_of offers (done ++ here.now) }
-        ensures more { (place : ℕ) → AreCountsBefore place self → AreCountsBefore (place + 1) result }
+        ensures more { (index : ℕ) → AreCountsBefore index self → AreCountsBefore (index + 1) result }
     {
         CheckCounts {
             offers: self.offers,

@@ -58,8 +58,8 @@ fn call_text(
     ensures { IfOk result (λ text. string_bytes text ≡ act_text (act_in (map asked_paced requests.now) script.now what)) }
 {
     match what {
-        What::Admit(place) => {
-            let name = requests[place].name.as_str();
+        What::Admit(index) => {
+            let name = requests[index].name.as_str();
             let text = format!(in alloc; "admit {name}")?;
             Ok(text)
         }

@@ -13,7 +13,7 @@ use cqf_network::NetworkDomain;
 use cqf_output::Stop;
 use cqf_program_plans::{open_edges_part, parted, parted_flows};
 use cqf_program_scenario::{
-    RunInput, RunParts, domain_of, network_part, planned_part, read_behind, run_parts,
+    RunInput, RunParts, domain_of, network_part, planned_part, read_after, run_parts,
 };
 use cqf_topology::PacedRequest;
 use std::alloc::Global;
@@ -88,7 +88,7 @@ fn read_planned_parts(
     let network = network_part(alloc, limits, parts.domain)?;
     let domain = domain_of(alloc, &network)?;
     let (requests, deadlines) = read_planned_streams(alloc, &network, parts.streams)?;
-    let given = read_behind(alloc, cycles, domain, requests, parts)?;
+    let given = read_after(alloc, cycles, domain, requests, parts)?;
     Ok(PlannedGiven { given, deadlines })
 }
 

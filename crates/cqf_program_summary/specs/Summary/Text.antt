@@ -7,7 +7,7 @@ use Rattle.cqf_report.specs.Written.{line_of_fields}
 use Rattle.cqf_program_plans.specs.Latency.Text.{text_of_deadline}
 use Rattle.cqf_program_summary.specs.declared.summary.fares.Listener.{Listener}
 use Rattle.cqf_program_summary.specs.declared.summary.fares.Others.{Others}
-use Rattle.cqf_program_summary.specs.declared.summary.fares.ListenerWay.{ListenerWay}
+use Rattle.cqf_program_summary.specs.declared.summary.fares.ListenerPath.{ListenerPath}
 use Rattle.cqf_program_summary.specs.declared.summary.tallies.LatencySummary.{LatencySummary}
 use Rattle.cqf_program_summary.specs.declared.summary.tallies.Tally.{Tally}
 use Rattle.cqf_program_summary.specs.Summary.{Fare, Summary}
@@ -50,11 +50,11 @@ count_fields to offered dropped tally deadline =
 abbrev pub row_fields : List ℕ → Option Listener → ℕ → ℕ → Tally → Option ℕ → Fields
 row_fields stream to offered dropped tally deadline = stream ∷ text_of_listener to ∷ count_fields to offered dropped tally deadline
 
-abbrev pub way_fields : Fare → ListenerWay → Fields
-way_fields fare way = row_fields fare.name way.to fare.offered fare.dropped way.tally fare.deadline
+abbrev pub path_fields : Fare → ListenerPath → Fields
+path_fields fare path = row_fields fare.name path.to fare.offered fare.dropped path.tally fare.deadline
 
 abbrev pub lines_of_fare : Fare → List ℕ
-lines_of_fare fare = flat_map (λ (way : ListenerWay). line_of_fields (way_fields fare way)) fare.ways
+lines_of_fare fare = flat_map (λ (path : ListenerPath). line_of_fields (path_fields fare path)) fare.paths
 
 abbrev pub lines_of_fares : List Fare → List ℕ
 lines_of_fares fares = flat_map lines_of_fare fares

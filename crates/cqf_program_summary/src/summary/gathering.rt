@@ -41,9 +41,9 @@ fn gathered(
         IsSummaryOver (over_of ended.now whole) sums result }
 {
     let (mut here, mut under_way, mut sums) = (here, under_way, sums);
-    for place in 0..ended.offers.len() {
-        let offer = &ended.offers[place];
-        put_those_of(&mut here, ended, &mut under_way, place);
+    for index in 0..ended.offers.len() {
+        let offer = &ended.offers[index];
+        put_those_of(&mut here, ended, &mut under_way, index);
         if is_run(ended.domain, ended.cycles, offer) {
             sums.add(&offer.stream, here.as_slice());
         }

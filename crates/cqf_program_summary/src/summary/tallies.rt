@@ -15,7 +15,7 @@ pub struct LatencySummary {
     /// The sum of all of them. There is room for some 3,372,000,000.
     pub total: u128,
     /// The number of frames that arrived after the first.
-    pub behind: u32,
+    pub following: u32,
 }
 
 /// How deliveries to a listener end.
@@ -42,13 +42,13 @@ fn taken_more(taken: Option<LatencySummary>, latency: u64) -> LatencySummary
             least: taken.least.min(latency),
             most: taken.most.max(latency),
             total: taken.total + u128::from(latency),
-            behind: taken.behind + 1,
+            following: taken.following + 1,
         },
         None => LatencySummary {
             least: latency,
             most: latency,
             total: u128::from(latency),
-            behind: 0,
+            following: 0,
         },
     }
 }
@@ -74,7 +74,7 @@ impl LatencySummary {
     pub fn mean(self) -> u128
         ensures { result ≡ mean_of self }
     {
-        self.total / (u128::from(self.behind) + 1)
+        self.total / (u128::from(self.following) + 1)
     }
 }
 

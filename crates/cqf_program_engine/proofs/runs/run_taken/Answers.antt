@@ -7,7 +7,7 @@ use Rattle.cqf_program_engine.proofs.runs.run_taken.Goals as goal
 
 pub returns-clause-ok : goal.returns-clause-ok
 returns-clause-ok g c = IfOk-weaker c.run_line.result _ _
-    (λ begun told. Begins-weaker begun
+    (λ begun reported. Begins-weaker begun
     (λ text done. record {
       is_done = subst (λ (bytes : List ℕ). IsDone [] bytes text) c.bytes.ensures done;
       at_end = c.in_default.ensures.end;
@@ -18,7 +18,7 @@ returns-clause-ok g c = IfOk-weaker c.run_line.result _ _
       at_end = c.in_default.ensures.end;
       sound = c.in_default.ensures.sound;
     })
-    told)
+    reported)
     c.run_line.ensures.ok
 
 pub returns-clause-err : goal.returns-clause-err

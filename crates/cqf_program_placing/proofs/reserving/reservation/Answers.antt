@@ -1,5 +1,5 @@
 use Rattle.std.proofs.Common.{◌<◌, ◌≤◌, ◌^◌, ℕ, arith, subst, sym}
-use Rattle.cqf_program_placing.proofs.PlaceLemmas.{needed_few}
+use Rattle.cqf_program_placing.proofs.IndexLemmas.{needed_few}
 use Rattle.cqf_program_placing.proofs.reserving.reservation.Goals as goal
 
 pub reserved_for-requires : goal.reserved_for-requires

@@ -14,7 +14,7 @@ use Rattle.cqf_admission.specs.Calling.{IsJudgedCall}
 use Rattle.cqf_admission.specs.Judging.{Judges}
 use Rattle.cqf_admission.specs.State.{Figures, IsStateOf, Leaves, entries_with, of_entries}
 use Rattle.cqf_admission.specs.Tabling.{AreTablesOf, IsNoted, Tables}
-use Rattle.cqf_admission.proofs.Entered.{Entered, entered_behind, entered_with, form_refused, judged_form}
+use Rattle.cqf_admission.proofs.Entered.{Entered, entered_after, entered_with, form_refused, judged_form}
 use Rattle.cqf_admission.proofs.Tabled.{tables_more, tables_same}
 use Rattle.cqf_admission.proofs.admission.Admission.admit_judged.Goals as goal
 use Rattle.cqf_admission.proofs.admission.Admission.admit_judged.Goals.{in-Ok+in_ok-answer-in-Ok, in-Err}
@@ -117,7 +117,7 @@ module _ (c : goal.After-enter) where
   after_is : map recorded_of c.enter.new.history.items ≡ entries_with entries c.args.seat (Admits asked) c.match-judged.answer
   unfolding asked of
   after_is =
-      entered_behind c.self.inside.history.items c.match-judged.self-inside.history.items c.enter.new.history.items
+      entered_after c.self.inside.history.items c.match-judged.self-inside.history.items c.enter.new.history.items
       (record { seat = c.args.seat; call = c.args.call; reply = c.reply_of.result }) (Admits asked) kept c.enter.ensures of.act
       ∙ ap (with_entry entries c.args.seat (Admits asked)) c.reply_of.ensures
 

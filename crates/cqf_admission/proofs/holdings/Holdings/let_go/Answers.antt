@@ -11,7 +11,7 @@ use Rattle.cqf_model.specs.declared.topology.Pace.{Pace}
 use Rattle.cqf_model.specs.declared.topology.Row.{Row}
 use Rattle.cqf_model.specs.Limits.{most_every, most_reserved}
 use Rattle.cqf_model.specs.Table.{links_in}
-use Rattle.cqf_admission.specs.Turns.{AreLessIn, HasIn, Turned}
+use Rattle.cqf_admission.specs.ActiveCycles.{AreLessIn, HasIn, SumsByCycle}
 use Rattle.cqf_admission.specs.Rows.{IsSummable}
 use Rattle.cqf_admission.specs.Holdings.{HaveFigures, IsHeldAt, Standing, Stands, held_under, released, standing_of}
 use Rattle.cqf_admission.specs.declared.holdings.Stand.{Stand}
@@ -21,7 +21,7 @@ use Rattle.cqf_admission.proofs.Lists.{map_set, mapped_there, read_same}
 use Rattle.cqf_admission.proofs.holdings.Holdings.let_go.Goals as goal
 
 -- what is known of a held stream
-module _ (stands : List Stand) (under : List ℕ → Option ℕ) (held : List ℕ) (sums : Turned) (h : HaveFigures (map standing_of stands) under held sums) (number : ℕ)
+module _ (stands : List Stand) (under : List ℕ → Option ℕ) (held : List ℕ) (sums : SumsByCycle) (h : HaveFigures (map standing_of stands) under held sums) (number : ℕ)
     (at : IsHeldAt (map standing_of stands) number) (old : Stand) (is : old ≡ get_or stands number old) where
   low : number < length stands
   low = omega (arith, at.inside, length-map stands standing_of)
@@ -39,7 +39,7 @@ module _ (stands : List Stand) (under : List ℕ → Option ℕ) (held : List �
   within = goes_within (map standing_of stands) under held sums h number (standing_of old) at.inside there is_held
 
   -- the figures without it
-  without_it : (left : Stand) (next : List ℕ → Option ℕ) (numbers : List ℕ) (less : Turned) → left ≡ old → next (arc_value old.row).name ≡ None →
+  without_it : (left : Stand) (next : List ℕ → Option ℕ) (numbers : List ℕ) (less : SumsByCycle) → left ≡ old → next (arc_value old.row).name ≡ None →
       ((name : List ℕ) → name ≢ (arc_value old.row).name → next name ≡ under name) → numbers ≡ without number held →
       AreLessIn sums (arc_value old.row).tree.items (arc_value old.row).pace (cost_of (arc_value old.row).octets) less →
       HaveFigures (map standing_of (set stands number (record left { held = false }))) next numbers less

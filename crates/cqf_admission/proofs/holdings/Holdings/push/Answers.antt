@@ -10,7 +10,7 @@ use Rattle.cqf_model.specs.declared.topology.Pace.{Pace}
 use Rattle.cqf_model.specs.declared.topology.Row.{Row}
 use Rattle.cqf_model.specs.Limits.{most_every, most_reserved}
 use Rattle.cqf_model.specs.Table.{cost_on, links_in}
-use Rattle.cqf_admission.specs.Turns.{AreMoreIn, HasRoomFor}
+use Rattle.cqf_admission.specs.ActiveCycles.{AreMoreIn, HasRoomFor}
 use Rattle.cqf_admission.specs.Rows.{IsSummable}
 use Rattle.cqf_admission.specs.Holdings.{IsFree, Standing, Stands, held_by, held_cost, held_under, standing_of}
 use Rattle.cqf_admission.specs.declared.holdings.Stand.{Stand}

@@ -1,7 +1,7 @@
 use Rattle.std.proofs.Common.{Contains, ℕ, arith, subst, sym}
 use Rattle.cqf_admission.specs.Rows.{IsCountable}
-use Rattle.cqf_admission.specs.Turns.{AreNone}
-use Rattle.cqf_program_plans.proofs.CostsByTurn.{costs_more, costs_none, costs_room, held_countable, held_little}
+use Rattle.cqf_admission.specs.ActiveCycles.{AreNone}
+use Rattle.cqf_program_plans.proofs.CostsByActiveCycle.{costs_more, costs_none, costs_room, held_countable, held_little}
 use Rattle.cqf_program_plans.proofs.latency.costs.costs_of.Goals as goal
 
 pub add_cost-requires-clause-countable : goal.add_cost-requires-clause-countable

@@ -5,7 +5,7 @@ use Rattle.cqf_topology.specs.DomainText.{IsDomain, domain_with, with_these}
 use Rattle.cqf_topology.proofs.Accepted.{checked-accepted, checked-numbered}
 use Rattle.cqf_topology.proofs.Passed.{passes}
 use Rattle.cqf_topology.proofs.Refusals.{Gives-residual}
-use Rattle.cqf_topology.proofs.Told.{no-link-twice}
+use Rattle.cqf_topology.proofs.Written.{no-link-twice}
 use Rattle.cqf_topology.proofs.domain.Domain.of_names.Goals as goal
 
 pub returns-in_err-listed : goal.returns-in_err-listed

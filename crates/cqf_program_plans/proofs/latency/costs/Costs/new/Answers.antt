@@ -1,4 +1,4 @@
-use Rattle.cqf_program_plans.proofs.CostsByTurn.{held_countable, held_little}
+use Rattle.cqf_program_plans.proofs.CostsByActiveCycle.{held_countable, held_little}
 use Rattle.cqf_program_plans.proofs.latency.costs.Costs.new.Goals as goal
 
 pub invariant_of-result : goal.invariant_of-result
