@@ -5,13 +5,14 @@ ghost use Rattle.std.specs.Prelude.{◌≤◌, ◌<◌, ◌^◌, IfOk, OnOk, len
 use crate::terminal::hint;
 use cqf_model::Limits;
 use cqf_output::{CheckedSink, DONE, FAULT, REFUSED, Sink, Stop, write_out, written_text};
-use cqf_program_engine::{Heard, Texts, engine, most_bytes, write};
+use cqf_program_engine::{Heard, Texts, engine_with, most_bytes, write};
 use cqf_program_explanations::{NamedFile, explanation, notes, plan_notes};
 use cqf_program_files::{Front, cycles_of, front_of, renumbered};
 use cqf_program_offers::made_input;
 use cqf_program_words::{
     Job, Operands, STANDARD, check_files, limits_of, read_words, stop_of_file,
 };
+use cqf_topology::Document;
 use std::alloc::{AllocError, Global};
 use std::fs::File;
 use std::io;
@@ -22,6 +23,17 @@ use std::thread::Threads;
 
 /// Room for each line that the engine prints about a fault, allocated before it runs.
 const ROOM: usize = 65_536;
+
+/// What the engine runs on: the input that is made from the files; the numbers of lines, if one of them is a file of calls; the notes on the
+/// network, if there is memory for them.
+#[derive(Drop)]
+struct Prepared<'t> {
+    input: Vec<u8>,
+    numbers: Option<Vec<u64>>,
+    notes: Option<Vec<u8>>,
+    /// The network's file, parsed, if it is one.
+    known: Option<Document<'t>>,
+}
 
 /// The input of a run with files: its words, the job that they mean, the limits within which plans are read, and the files' texts.
 #[derive(Clone, Copy)]
@@ -116,17 +128,19 @@ pub(crate) fn end(rt: &HostRuntime, stop: &Stop) -> ExitCode {
     ExitCode::from(write(stop, &mut output, &mut faults))
 }
 
-/// Returns the files that the words name, with their texts.
+/// Returns the files that the words name, with their texts; the first of them are parsed.
 fn sources_of<'t>(
     alloc: Global,
     names: &[&'t str],
     texts: &[&'t [u8]],
+    documents: &'t [Document<'t>],
 ) -> Result<Vec<NamedFile<'t>>, AllocError> {
     let mut sources = Vec::new(alloc);
     for index in 0..names.len().min(texts.len()) {
         sources.push(NamedFile {
             name: names[index],
             text: texts[index],
+            document: documents.get(index),
         })?;
     }
     Ok(sources)
@@ -148,7 +162,7 @@ fn explain(rt: &HostRuntime, given: &FilesInput<'_>, line: &[u8]) {
     let Some(command) = given.operands.words().first() else {
         return;
     };
-    let Ok(sources) = sources_of(given.alloc, given.operands.files(), given.texts) else {
+    let Ok(sources) = sources_of(given.alloc, given.operands.files(), given.texts, &[]) else {
         return;
     };
     let Some(cycle_times) = cycle_times_of(given.alloc, given.job) else {
@@ -179,6 +193,7 @@ pub(crate) fn explain_nothing<F: Sink>(alloc: Global, words: &[&str], faults: &m
     let source = NamedFile {
         name: STANDARD,
         text: b"",
+        document: None,
     };
     let limits = limits_of(words);
     if let Ok(text) = explanation(
@@ -196,9 +211,10 @@ pub(crate) fn explain_nothing<F: Sink>(alloc: Global, words: &[&str], faults: &m
 
 /// Returns the notes on a plan, if the run doesn't refuse it; none if memory lacks. They are made before the run, which allocates no memory
 /// once its output has begun.
-fn notes_of(given: &FilesInput<'_>) -> Option<Vec<u8>> {
+fn notes_of(given: &FilesInput<'_>, documents: &[Document<'_>]) -> Option<Vec<u8>> {
     let command = given.operands.words().first()?;
-    let Ok(sources) = sources_of(given.alloc, given.operands.files(), given.texts) else {
+    let names = given.operands.files();
+    let Ok(sources) = sources_of(given.alloc, names, given.texts, documents) else {
         return None;
     };
     match notes(given.alloc, command, given.limits, sources.as_slice(), b"") {
@@ -235,14 +251,16 @@ fn run(
     threads: &(impl Threads + Wait + Sync),
     alloc: Global,
     words: &[&str],
+    known: Option<Document<'_>>,
     input: &[u8],
 ) -> Result<Ended, AllocError> {
     let mut reported = CheckedSink::new(Vec::with_capacity(alloc, ROOM)?);
     let (mut heard, mut output) = (Heard::new(alloc, input), CheckedSink::new(rt.stdout()));
-    let status = engine(
+    let status = engine_with(
         threads,
         alloc,
         words,
+        known,
         &mut heard,
         &mut output,
         &mut reported,
@@ -264,7 +282,7 @@ fn wants_plan_notes<F: IsTerminal>(job: &Job, faults: &F) -> bool {
 
 /// Returns the notes on a plan that was made; none if memory lacks.
 fn plan_notes_of(given: &FilesInput<'_>, plan: &[u8]) -> Option<Vec<u8>> {
-    let Ok(sources) = sources_of(given.alloc, given.operands.files(), given.texts) else {
+    let Ok(sources) = sources_of(given.alloc, given.operands.files(), given.texts, &[]) else {
         return None;
     };
     plan_notes(given.alloc, given.limits, sources.as_slice(), plan).ok()
@@ -276,12 +294,21 @@ fn run_plan(
     rt: &HostRuntime,
     threads: &(impl Threads + Wait + Sync),
     given: &FilesInput<'_>,
+    known: Option<Document<'_>>,
     input: &[u8],
 ) -> Result<Ended, AllocError> {
     let (alloc, words) = (given.alloc, given.operands.words());
     let mut reported = CheckedSink::new(Vec::with_capacity(alloc, ROOM)?);
     let (mut heard, mut plan) = (Heard::new(alloc, input), CheckedSink::new(Vec::new(alloc)));
-    let status = engine(threads, alloc, words, &mut heard, &mut plan, &mut reported);
+    let status = engine_with(
+        threads,
+        alloc,
+        words,
+        known,
+        &mut heard,
+        &mut plan,
+        &mut reported,
+    );
     let text = written_text(plan)?;
     if status != DONE {
         return Ok(Ended {
@@ -304,11 +331,11 @@ fn run_plan(
 /// is replaced by that in the file of calls. Returns an error if an allocation fails.
 fn line_written(
     alloc: Global,
-    front: &Front,
+    numbers: &Option<Vec<u64>>,
     status: u8,
     reported: Vec<u8>,
 ) -> Result<Vec<u8>, AllocError> {
-    match &front.numbers {
+    match numbers {
         Some(numbers) if status == REFUSED => {
             renumbered(alloc, numbers.as_slice(), reported.as_slice())
         }
@@ -321,14 +348,19 @@ fn run_front(
     rt: &HostRuntime,
     threads: &(impl Threads + Wait + Sync),
     given: &FilesInput<'_>,
-    front: &Front,
+    prepared: Prepared<'_>,
 ) -> ExitCode {
-    let (alloc, input) = (given.alloc, front.input.as_slice());
-    let notes = notes_of(given);
+    let (alloc, words) = (given.alloc, given.operands.words());
+    let Prepared {
+        input,
+        numbers,
+        notes,
+        known,
+    } = prepared;
     let ended = if wants_plan_notes(given.job, &rt.stderr()) {
-        run_plan(rt, threads, given, input)
+        run_plan(rt, threads, given, known, input.as_slice())
     } else {
-        run(rt, threads, alloc, given.operands.words(), input)
+        run(rt, threads, alloc, words, known, input.as_slice())
     };
     let Ok(
         Ended {
@@ -340,7 +372,7 @@ fn run_front(
     else {
         return end(rt, &Stop::memory(alloc));
     };
-    let line = line_written(alloc, front, status, reported.into_writer());
+    let line = line_written(alloc, &numbers, status, reported.into_writer());
     let Ok(line) = line else {
         return end(rt, &Stop::memory(alloc));
     };
@@ -403,8 +435,33 @@ fn run_texts(
         return end(rt, &Stop::memory(given.alloc));
     }
     match front_of(given.alloc, given.job, names, given.texts) {
-        Ok(front) => run_made(rt, threads, given, front),
+        Ok(
+            Front {
+                input,
+                numbers,
+                documents,
+            },
+        ) => {
+            let notes = notes_of(given, documents.as_slice());
+            let prepared = Prepared {
+                input,
+                numbers,
+                notes,
+                known: only_of(documents),
+            };
+            run_made(rt, threads, given, prepared)
+        }
         Err(stop) => refuse(rt, given, &stop),
+    }
+}
+
+/// Returns the only document; none if there are several, which are another text together.
+fn only_of(documents: Vec<Document<'_>>) -> Option<Document<'_>> {
+    let mut documents = documents;
+    if documents.len() == 1 {
+        documents.pop()
+    } else {
+        None
     }
 }
 
@@ -418,9 +475,14 @@ fn refuse(rt: &HostRuntime, given: &FilesInput<'_>, stop: &Stop) -> ExitCode {
 }
 
 /// The same if the line of a script may be one of a file of calls.
-fn refuse_made(rt: &HostRuntime, given: &FilesInput<'_>, front: &Front, stop: Stop) -> ExitCode {
+fn refuse_made(
+    rt: &HostRuntime,
+    given: &FilesInput<'_>,
+    numbers: &Option<Vec<u64>>,
+    stop: Stop,
+) -> ExitCode {
     let Stop { status, text } = stop;
-    match line_written(given.alloc, front, status, text) {
+    match line_written(given.alloc, numbers, status, text) {
         Ok(text) => refuse(rt, given, &Stop { status, text }),
         Err(_) => end(rt, &Stop::memory(given.alloc)),
     }
@@ -431,14 +493,32 @@ fn run_made(
     rt: &HostRuntime,
     threads: &(impl Threads + Wait + Sync),
     given: &FilesInput<'_>,
-    front: Front,
+    prepared: Prepared<'_>,
 ) -> ExitCode {
-    match made_input(given.alloc, given.limits, given.job, front.input.as_slice()) {
-        Ok(None) => run_front(rt, threads, given, &front),
-        Ok(Some(input)) => {
-            let Front { numbers, .. } = front;
-            run_front(rt, threads, given, &Front { input, numbers })
-        }
-        Err(stop) => refuse_made(rt, given, &front, stop),
-    }
+    let Prepared {
+        input,
+        numbers,
+        notes,
+        known,
+    } = prepared;
+    let mut known = known;
+    let made = made_input(
+        given.alloc,
+        given.limits,
+        given.job,
+        &mut known,
+        input.as_slice(),
+    );
+    let input = match made {
+        Ok(None) => input,
+        Ok(Some(made)) => made,
+        Err(stop) => return refuse_made(rt, given, &numbers, stop),
+    };
+    let prepared = Prepared {
+        input,
+        numbers,
+        notes,
+        known,
+    };
+    run_front(rt, threads, given, prepared)
 }

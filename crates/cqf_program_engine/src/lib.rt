@@ -1,6 +1,6 @@
 //! A run of the program, from its words and its input to its output, over any reader and any writers.
 //!
-//! - [`engine`] runs it, and returns the exit status. [`write`] ends a run before it has begun. `VERSION` is the
+//! - [`engine`] runs it, and returns the exit status. [`engine_with`] does so for an input a part of which was parsed before. [`write`] ends a run before it has begun. `VERSION` is the
 //!   program's version.
 //! - [`run_unless_threaded`] is all of the engine except for a run on threads, which it returns as a [`ThreadedRun`].
 //!   It has no handle that may wait, so it returns if each read and each write does; [`engine_ends`] says for which
@@ -44,6 +44,6 @@ pub use cqf_output::{CheckedSink, Sink};
 pub use heard::Heard;
 pub use inputs::{MOST_BYTES, MOST_BYTES_OF_LARGE, most_bytes, read_input};
 pub use laws::{engine_ends, fault_in_memory_is_of_threads_or_memory};
-pub use runs::{answer, engine, run_unless_threaded, write};
+pub use runs::{answer, engine, engine_with, run_unless_threaded, write};
 pub use sources::Source;
 pub use texts::Texts;

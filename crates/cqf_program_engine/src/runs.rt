@@ -36,6 +36,7 @@ use cqf_program_plans::{
     compile_output, latency_output, load_output, load_streams_output, port_output,
 };
 use cqf_program_runs::{check_output, deliveries_output, line_output, report_output, run_output};
+use cqf_program_scenario::Input;
 use cqf_program_summary::{FrameFilter, hops_output, summary_output};
 use cqf_program_tc::{env_output, tc_output};
 use cqf_program_threads::threads_output;
@@ -44,6 +45,7 @@ use cqf_program_words::{
     Candidates, Format, Job, PlanOptions, limits_of, read_words, stop_of_line, stop_of_long_line,
 };
 use cqf_text::split_line;
+use cqf_topology::Document;
 use cqf_units::{Memory, Name};
 use std::alloc::Global;
 use std::sync::Wait;
@@ -56,10 +58,10 @@ fn prepare_variables(
     limits: Limits,
     edge_gates: bool,
     bridge: &Name,
-    input: &[u8],
+    input: Input<'_>,
 ) -> Result<PreparedOutput, Stop>
-    ensures ok { IfOk result (HasText (λ output. env_of_input limits edge_gates bridge.now input.now ≡ Ok output)) }
-    ensures err { IfErr result (IsRefused (env_of_input limits edge_gates bridge.now input.now)) }
+    ensures ok { IfOk result (HasText (λ output. env_of_input limits edge_gates bridge.now input.entry ≡ Ok output)) }
+    ensures err { IfErr result (IsRefused (env_of_input limits edge_gates bridge.now input.entry)) }
 {
     Ok(PreparedOutput::Variables(env_output(alloc, limits, edge_gates, bridge.as_str(), input)?))
 }
@@ -72,10 +74,10 @@ fn prepare_compiled(
     limits: Limits,
     format: &Format,
     edge_gates: bool,
-    input: &[u8],
+    input: Input<'_>,
 ) -> Result<PreparedOutput, Stop>
-    ensures ok { IfOk result (HasText (IsOutput limits (Job.Compile format.now edge_gates) input.now)) }
-    ensures err { IfErr result (IsRefusal limits (Job.Compile format.now edge_gates) input.now) }
+    ensures ok { IfOk result (HasText (IsOutput limits (Job.Compile format.now edge_gates) input.entry)) }
+    ensures err { IfErr result (IsRefusal limits (Job.Compile format.now edge_gates) input.entry) }
 {
     match *format {
         Format::List => Ok(PreparedOutput::Config(compile_output(
@@ -95,10 +97,10 @@ fn prepare_load(
     alloc: Global,
     limits: Limits,
     streams: bool,
-    input: &[u8],
+    input: Input<'_>,
 ) -> Result<PreparedOutput, Stop>
-    ensures ok { IfOk result (HasText (IsOutput limits (Job.Load streams) input.now)) }
-    ensures err { IfErr result (IsRefusal limits (Job.Load streams) input.now) }
+    ensures ok { IfOk result (HasText (IsOutput limits (Job.Load streams) input.entry)) }
+    ensures err { IfErr result (IsRefusal limits (Job.Load streams) input.entry) }
 {
     if streams {
         return Ok(PreparedOutput::StreamLoads(load_streams_output(alloc, limits, input)?));
@@ -124,11 +126,11 @@ fn prepare_hops(
     cycles: u32,
     stream: &Option<String>,
     frame: Option<u32>,
-    input: &[u8],
+    input: Input<'_>,
 ) -> Result<PreparedOutput, Stop>
     requires { cycles ≤ most_cycles }
-    ensures ok { IfOk result (HasText (IsHopsOutput limits cycles (wanted_of stream.now frame) input.now)) }
-    ensures err { IfErr result (IsRefused (wanted_scenario limits cycles (wanted_of stream.now frame) input.now)) }
+    ensures ok { IfOk result (HasText (IsHopsOutput limits cycles (wanted_of stream.now frame) input.entry)) }
+    ensures err { IfErr result (IsRefused (wanted_scenario limits cycles (wanted_of stream.now frame) input.entry)) }
 {
     let choice = FrameFilter {
         stream: name_of(stream),
@@ -166,10 +168,10 @@ fn planned(
     alloc: Global,
     limits: Limits,
     options: &PlanOptions,
-    input: &[u8],
+    input: Input<'_>,
 ) -> Result<Vec<u8>, Stop>
-    ensures ok { IfOk result (λ text. IsPlanWithout limits options.now.table (search_of options.now) (option_map times_of options.now.given) options.now.without.items input.now (Ok text.items)) }
-    ensures err { IfErr result (IsRefusalWithout limits options.now.table (search_of options.now) (option_map times_of options.now.given) options.now.without.items input.now) }
+    ensures ok { IfOk result (λ text. IsPlanWithout limits options.now.table (search_of options.now) (option_map times_of options.now.given) options.now.without.items input.entry (Ok text.items)) }
+    ensures err { IfErr result (IsRefusalWithout limits options.now.table (search_of options.now) (option_map times_of options.now.given) options.now.without.items input.entry) }
 {
     let search = search_of(options);
     let links = options.without.as_slice();
@@ -189,18 +191,25 @@ fn prepare(
     alloc: Global,
     limits: Limits,
     job: &Job,
-    input: &[u8],
+    input: Input<'_>,
 ) -> Result<PreparedOutput, Stop>
     requires within { IsWithin job.now }
     requires unthreaded { is_threaded job.now ≡ false }
-    ensures ok { IfOk result (HasText (IsOutput limits job.now input.now)) }
-    ensures err { IfErr result (IsRefusal limits job.now input.now) }
+    ensures ok { IfOk result (HasText (IsOutput limits job.now input.entry)) }
+    ensures err { IfErr result (IsRefusal limits job.now input.entry) }
 {
     match *job {
         Job::Port { until, rate } => Ok(PreparedOutput::Port(port_output(
-            alloc, until, rate, input,
+            alloc,
+            until,
+            rate,
+            input.bytes(),
         )?)),
-        Job::Line { cycles } => Ok(PreparedOutput::Line(line_output(alloc, cycles, input)?)),
+        Job::Line { cycles } => Ok(PreparedOutput::Line(line_output(
+            alloc,
+            cycles,
+            input.bytes(),
+        )?)),
         Job::Compile {
             ref format,
             edge_gates,
@@ -269,7 +278,7 @@ pub fn answer(
     ensures ok { IfOk result (λ output. IsOutput limits job.now input.now output.items) }
     ensures err { IfErr result (IsRefusal limits job.now input.now) }
 {
-    let output = prepare(rt, alloc, limits, job, input)?;
+    let output = prepare(rt, alloc, limits, job, Input::of_bytes(input))?;
     match text_written(alloc, output) {
         Ok(text) => Ok(text),
         Err(_) => Err(Stop::memory(alloc)),
@@ -299,11 +308,11 @@ fn output_of(
     alloc: Global,
     limits: Limits,
     job: &Job,
-    input: &[u8],
+    input: Input<'_>,
 ) -> Result<Begun, Stop>
     requires { IsWithin job.now }
-    ensures ok { IfOk result (Begins (IsOutput limits job.now input.now) (IsRunOf limits job.now)) }
-    ensures err { IfErr result (IsRefusal limits job.now input.now) }
+    ensures ok { IfOk result (Begins (IsOutput limits job.now input.entry) (IsRunOf limits job.now)) }
+    ensures err { IfErr result (IsRefusal limits job.now input.entry) }
 {
     match threaded_cycles(job) {
         Some(cycles) => Ok(Begun::Threads(ThreadedRun { limits, cycles })),
@@ -368,6 +377,7 @@ fn run_given<R: Source>(
     rt: &(impl Threads + Sync),
     alloc: Global,
     words: &[&str],
+    known: Option<Document<'_>>,
     input: &mut Heard<R>,
 ) -> Result<Begun, Stop>
     requires given { map (λ word. word.now) words.now ≢ [] }
@@ -387,7 +397,8 @@ fn run_given<R: Source>(
     if let Err(stop) = read_input(alloc, most_bytes(words), input) {
         return Err(stop);
     }
-    output_of(rt, alloc, limits_of(words), &job, input.bytes())
+    let given = Input::with_known(input.bytes(), known);
+    output_of(rt, alloc, limits_of(words), &job, given)
 }
 
 /// Returns the first line of the bytes, and what follows it.
@@ -435,7 +446,8 @@ fn run_line(rt: &(impl Threads + Sync), alloc: Global, bytes: &[u8]) -> Result<B
         Ok(job) => job,
         Err(stop) => return Err(stop),
     };
-    output_of(rt, alloc, limits_of(words.as_slice()), &job, rest)
+    let given = Input::of_bytes(rest);
+    output_of(rt, alloc, limits_of(words.as_slice()), &job, given)
 }
 
 /// Runs the words with which the input begins. A run on threads isn't made.
@@ -460,6 +472,7 @@ fn run<R: Source>(
     rt: &(impl Threads + Sync),
     alloc: Global,
     words: &[&str],
+    known: Option<Document<'_>>,
     input: &mut Heard<R>,
 ) -> Result<Begun, Stop>
     requires { IsUnheard input.old }
@@ -471,7 +484,7 @@ fn run<R: Source>(
     if words.is_empty() {
         run_taken(rt, alloc, input)
     } else {
-        run_given(rt, alloc, words, input)
+        run_given(rt, alloc, words, known, input)
     }
 }
 
@@ -543,6 +556,7 @@ pub fn run_unless_threaded<R: Source, O: Sink, F: Sink>(
     rt: &(impl Threads + Sync),
     alloc: Global,
     words: &[&str],
+    known: Option<Document<'_>>,
     input: &mut Heard<R>,
     output: &mut CheckedSink<O>,
     faults: &mut CheckedSink<F>,
@@ -558,7 +572,7 @@ pub fn run_unless_threaded<R: Source, O: Sink, F: Sink>(
     ensures faults { OnErr result (faults.new ≡ faults.old) }
     ensures ends { MeanNoThreads (words_of (map (λ word. word.now) words.now) input.new.bytes) → IsOk result }
 {
-    match run(rt, alloc, words, input) {
+    match run(rt, alloc, words, known, input) {
         Ok(Begun::Ready(prepared)) => Ok(write_output(prepared, output, faults)),
         Ok(Begun::Threads(threaded)) => Err(threaded),
         Err(stop) => Ok(write(&stop, output, faults)),
@@ -626,7 +640,25 @@ pub fn engine<R: Source, O: Sink, F: Sink>(
     ensures { Ends R.fails O.refuses (map (λ word. word.now) words.now) (reading R.remaining input.old input.new) (writing O.contents output.old output.new)
         (writing F.contents faults.old faults.new) result }
 {
-    let threaded = match run_unless_threaded(rt, alloc, words, input, output, faults) {
+    engine_with(rt, alloc, words, None, input, output, faults)
+}
+
+/// Runs the program as [`engine`] does. If the input's first part has the text of a document that was parsed before, it isn't parsed again.
+pub fn engine_with<R: Source, O: Sink, F: Sink>(
+    rt: &(impl Threads + Wait + Sync),
+    alloc: Global,
+    words: &[&str],
+    known: Option<Document<'_>>,
+    input: &mut Heard<R>,
+    output: &mut CheckedSink<O>,
+    faults: &mut CheckedSink<F>,
+) -> u8
+    requires unheard { IsUnheard input.old }
+    requires accepted { output.old.refused ≡ false }
+    ensures { Ends R.fails O.refuses (map (λ word. word.now) words.now) (reading R.remaining input.old input.new) (writing O.contents output.old output.new)
+        (writing F.contents faults.old faults.new) result }
+{
+    let threaded = match run_unless_threaded(rt, alloc, words, known, input, output, faults) {
         Ok(status) => return status,
         Err(threaded) => threaded,
     };

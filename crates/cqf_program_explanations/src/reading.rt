@@ -12,7 +12,7 @@ use cqf_model::{LEAST_OCTETS, LONGEST_CYCLE};
 use cqf_network::{
     FlowsFault, NetworkDomain, NetworkFault, Stream, read_network_flows, read_network_streams,
 };
-use cqf_program_files::{joint_of, tables_of};
+use cqf_program_files::joint_of;
 use cqf_topology::{Domain, DomainFault, PacedRequest, StreamsFault, branches_of};
 use cqf_traffic::Traffic;
 use std::alloc::{AllocError, Global};
@@ -72,13 +72,13 @@ fn put_cycles(given: &CommandInput<'_>, plan: &mut Table) -> Result<(), AllocErr
 
 /// Returns the text of the part of a plan that has a key of the top level, of all files together; `None` if a file isn't TOML.
 fn part_with(given: &CommandInput<'_>, key: &str) -> Result<Option<String>, AllocError> {
-    let mut texts = Vec::new(given.alloc);
+    let mut tables = Vec::new(given.alloc);
     for file in given.written.files_of(key) {
-        texts.push(file.part.text)?;
+        let Some(table) = file.table() else {
+            return Ok(None);
+        };
+        tables.push(table)?;
     }
-    let Some(tables) = tables_of(given.alloc, texts.as_slice())? else {
-        return Ok(None);
-    };
     let mut plan = joint_of(given.alloc, tables.as_slice())?;
     put_cycles(given, &mut plan)?;
     text_of(given.alloc, &plan)

@@ -9,8 +9,9 @@ use Rattle.cqf_program_words.specs.declared.words.Job.TheVariants as job
 use Rattle.cqf_program_words.specs.Composing.{composed_of, is_network, is_undivided}
 use Rattle.cqf_program_words.specs.Words.{takes_domain}
 use Rattle.cqf_program_files.specs.declared.front.Front.{Front}
+use Rattle.cqf_program_files.specs.declared.front.Gathered.{Gathered}
 use Rattle.cqf_program_files.specs.Calls.{numbers_of_script, script_of_calls, text_of_script}
-use Rattle.cqf_program_files.specs.Opening.{closed_refusal}
+use Rattle.cqf_program_files.specs.Opening.{closed_refusal, documents_for}
 use Rattle.cqf_program_files.specs.Files.{EndsBy, EndsFor, EndsFiles, alone_refusal, IsCheckedJoint, leading}
 
 -- the cycles of a job that reads a script
@@ -69,19 +70,19 @@ abbrev pub parts_of_script : List (ℕ × List ℕ) → List ℕ × List ℕ
 parts_of_script lines = (text_of_script lines, numbers_of_script lines)
 
 -- the input and the line numbers that are made from a first text and others after it
-pub record IsGathered (it : Job) (names : List (List ℕ)) (first : List ℕ) (rest : List (List ℕ)) (front : Front) : Type 0 where
-  pub input : front.input.items ≡ composed_of it names (first ∷ called_texts rest (script_at it names first rest))
-  pub numbers : option_map (λ (numbers : Vec ℕ Global). numbers.items) front.numbers ≡ option_map numbers_of_script (script_at it names first rest)
+pub record IsGathered (it : Job) (names : List (List ℕ)) (first : List ℕ) (rest : List (List ℕ)) (made : Gathered) : Type 0 where
+  pub input : made.input.items ≡ composed_of it names (first ∷ called_texts rest (script_at it names first rest))
+  pub numbers : option_map (λ (numbers : Vec ℕ Global). numbers.items) made.numbers ≡ option_map numbers_of_script (script_at it names first rest)
 
 -- if the first names are those of one plan, it has the last of these names
 abbrev pub joint_names : List (List ℕ) → List (List ℕ)
 joint_names names = drop (leading names - 1) names
 
 -- the input that is made from texts; the first of them are those of one plan with this text, if there is one. No texts make an empty input
-abbrev pub IsGatheredWith : Job → List (List ℕ) → List (List ℕ) → Option (List ℕ) → Front → Type 0
-IsGatheredWith it names texts (Some joint) front = IsGathered it (joint_names names) joint (drop (leading names) texts) front
-IsGatheredWith it names (first ∷ rest) None front = IsGathered it names first rest front
-IsGatheredWith it names [] None front = front.input.items ≡ []
+abbrev pub IsGatheredWith : Job → List (List ℕ) → List (List ℕ) → Option (List ℕ) → Gathered → Type 0
+IsGatheredWith it names texts (Some joint) made = IsGathered it (joint_names names) joint (drop (leading names) texts) made
+IsGatheredWith it names (first ∷ rest) None made = IsGathered it names first rest made
+IsGatheredWith it names [] None made = made.input.items ≡ []
 
 -- an empty text is the only one after a plan, of a job that reads a script: it is a text of offers that lacks their header
 abbrev pub lacks_header : Job → List (List ℕ) → List ℕ → List (List ℕ) → Bool
@@ -109,14 +110,19 @@ abbrev pub compared_refusal : Job → List (List ℕ) → List (List ℕ) → Op
 compared_refusal (job.Diff quiet) names texts = pair_refusal names texts
 compared_refusal other names texts = None
 
--- the input that is made from files for a job
+-- what is gathered in a front
+abbrev pub gathered_in : Front → Gathered
+gathered_in front = record { input = front.input; numbers = front.numbers }
+
+-- the input that is made from files for a job, and the network's texts, which were parsed
 pub record IsFrontOf (it : Job) (names texts : List (List ℕ)) (front : Front) : Type 0 where
   pub joint : Option (List ℕ)
   pub is_joint : IsJointFor (takes_domain it) names texts joint
   pub compared : compared_refusal it names texts ≡ None
   pub none_open : closed_refusal it names texts ≡ None
   pub headed : is_headless it names texts joint ≡ false
-  pub gathered : IsGatheredWith it names texts joint front
+  pub gathered : IsGatheredWith it names texts joint (gathered_in front)
+  pub documents : front.documents.items ≡ documents_for (takes_domain it) names texts
 
 -- the end if a plan's files are refused: only those of a job that takes a domain are; for any other job memory lacked
 abbrev pub EndsJoint : Bool → List (List ℕ) → List (List ℕ) → Stop → Type 0

@@ -5,24 +5,33 @@ ghost use Rattle.cqf_program_words.specs.Words.{takes_domain};
 ghost use Rattle.cqf_program_files.specs.Front.{EndsFront, EndsHeader, EndsJoint, IsFrontOf, IsGathered, IsGatheredWith, IsJointFor, begins_as_offers};
 ghost use Rattle.cqf_program_files.specs.Front.{called_script, compared_refusal, cycles_of, has_fields, is_between, is_digit, is_headless, is_mark, joint_names};
 ghost use Rattle.cqf_program_files.specs.Front.{lacks_header, pair_refusal, parts_of_script, script_at, with_first};
-ghost use Rattle.cqf_program_files.specs.Opening.{closed_refusal, takes_closed};
+ghost use Rattle.cqf_program_files.specs.Opening.{closed_by, documents_for, takes_closed};
 ghost use Rattle.cqf_program_files.specs.Files.{EndsBy};
 
 use crate::calls::{CallsScript, script_of_calls};
-use crate::checking::{check_alone, check_joint, check_open, stop_of};
+use crate::checking::{NetworkFiles, check_alone, check_joint, check_open, stop_of};
 use crate::faults::FilesFault;
 use crate::joining::leading;
 use cqf_output::Stop;
 use cqf_program_words::{Job, composed_after, composed_between, is_network, is_undivided};
+use cqf_topology::Document;
 use cqf_units::Memory;
 use std::alloc::Global;
 
 /// The input that is made from the texts of files; and, if one of them is a file of calls, the number of its line for each line of the
 /// input's script.
-#[derive(Debug, Drop)]
-pub struct Front {
+#[derive(Drop)]
+pub(crate) struct Gathered {
     pub input: Vec<u8>,
     pub numbers: Option<Vec<u64>>,
+}
+
+/// The same, and the files of the network, each of them parsed; none if the job takes no domain.
+#[derive(Drop)]
+pub struct Front<'t> {
+    pub input: Vec<u8>,
+    pub numbers: Option<Vec<u64>>,
+    pub documents: Vec<Document<'t>>,
 }
 
 /// Returns the cycles of a job that reads a script: of `run`, `report`, `deliveries`, `check`, `summary` and `hops`.
@@ -146,13 +155,13 @@ fn gathered(
     names: &[&str],
     first: &[u8],
     rest: &[&[u8]],
-) -> Result<Front, Memory>
+) -> Result<Gathered, Memory>
     ensures { IfOk result (IsGathered job.now (map (λ name. name.now) names.now) first.now (map (λ text. text.now) rest.now)) }
 {
     match script_at(alloc, job, names, first, rest)? {
         None => {
             let input = composed_after(alloc, job, names, first, rest)?;
-            Ok(Front {
+            Ok(Gathered {
                 input,
                 numbers: None,
             })
@@ -169,17 +178,17 @@ fn called(
     first: &[u8],
     rest: &[&[u8]],
     script: CallsScript,
-) -> Result<Front, Memory>
-    ensures input { IfOk result (λ front. front.input.items
+) -> Result<Gathered, Memory>
+    ensures input { IfOk result (λ made. made.input.items
         ≡ composed_of job.now (map (λ name. name.now) names.now) (first.now ∷ with_first (map (λ text. text.now) rest.now) script.text.items)) }
-    ensures numbers { IfOk result (λ front. option_map (λ numbers. numbers.items) front.numbers ≡ Some script.numbers.items) }
+    ensures numbers { IfOk result (λ front. option_map (λ numbers. numbers.items) made.numbers ≡ Some script.numbers.items) }
 {
     let CallsScript { text, numbers } = script;
     let input = match *rest {
         [] => composed_after(alloc, job, names, first, rest)?,
         [_, ref more @ ..] => composed_between(alloc, job, names, first, text.as_slice(), more)?,
     };
-    Ok(Front {
+    Ok(Gathered {
         input,
         numbers: Some(numbers),
     })
@@ -201,7 +210,7 @@ fn gathered_with(
     names: &[&str],
     texts: &[&[u8]],
     joint: Option<&str>,
-) -> Result<Front, Memory>
+) -> Result<Gathered, Memory>
     requires { length names.now ≡ length texts.now }
     ensures { IfOk result (IsGatheredWith job.now (map (λ name. name.now) names.now) (map (λ text. text.now) texts.now)
         (option_map (λ joint. joint.now) joint.entry)) }
@@ -215,29 +224,33 @@ fn gathered_with(
             &texts[leading(names)..],
         ),
         (None, [first, rest @ ..]) => gathered(alloc, job, names, first, rest),
-        (None, []) => Ok(Front {
+        (None, []) => Ok(Gathered {
             input: Vec::new(alloc),
             numbers: None,
         }),
     }
 }
 
-/// Returns the text of the plan of the first files, if they are several. Returns `Err` if they are refused, or if an allocation fails.
-fn joint_network(
+/// Returns the files of a network, parsed, and the text of the network that several make; none if the job takes no domain. Returns `Err` if
+/// they are refused, or if an allocation fails.
+fn network_files<'t>(
     alloc: Global,
     job: &Job,
     names: &[&str],
-    texts: &[&[u8]],
-) -> Result<Option<String>, Stop>
+    texts: &[&'t [u8]],
+) -> Result<NetworkFiles<'t>, Stop>
     requires { length names.now ≡ length texts.now }
-    ensures ok { IfOk result (λ joint. IsJointFor (takes_domain job.now) (map (λ name. name.now) names.now) (map (λ text. text.now) texts.now)
-        (option_map string_bytes joint)) }
+    ensures read { IfOk result (λ files. files.documents.items ≡ documents_for (takes_domain job.now) (map (λ name. name.now) names.now) (map (λ text. text.now) texts.now)) }
+    ensures ok { IfOk result (λ files. IsJointFor (takes_domain job.now) (map (λ name. name.now) names.now) (map (λ text. text.now) texts.now) (option_map string_bytes files.joint)) }
     ensures err { IfErr result (EndsJoint (takes_domain job.now) (map (λ name. name.now) names.now) (map (λ text. text.now) texts.now)) }
 {
     if job.takes_domain() {
         check_joint(alloc, names, texts)
     } else {
-        Ok(None)
+        Ok(NetworkFiles {
+            documents: Vec::new(alloc),
+            joint: None,
+        })
     }
 }
 
@@ -349,14 +362,13 @@ fn takes_closed(job: &Job) -> bool
     }
 }
 
-/// Refuses files in which something is open that the job doesn't choose. Returns `Err` also if an allocation fails.
-fn check_closed(alloc: Global, job: &Job, names: &[&str], texts: &[&[u8]]) -> Result<(), Stop>
-    requires { length names.now ≡ length texts.now }
-    ensures ok { OnOk result (closed_refusal job.now (map (λ name. name.now) names.now) (map (λ text. text.now) texts.now) ≡ None) }
-    ensures err { IfErr result (EndsBy (closed_refusal job.now (map (λ name. name.now) names.now) (map (λ text. text.now) texts.now))) }
+/// Refuses documents in which something is open that the job doesn't choose. Returns `Err` also if an allocation fails.
+fn check_closed(alloc: Global, job: &Job, documents: &[Document<'_>]) -> Result<(), Stop>
+    ensures ok { OnOk result (closed_by (takes_closed job.now) documents.now ≡ None) }
+    ensures err { IfErr result (EndsBy (closed_by (takes_closed job.now) documents.now)) }
 {
     if takes_closed(job) {
-        check_open(alloc, names, texts)
+        check_open(alloc, documents)
     } else {
         Ok(())
     }
@@ -378,20 +390,25 @@ fn check_closed(alloc: Global, job: &Job, names: &[&str], texts: &[&[u8]]) -> Re
 /// - if the job reads a script: an empty file that is the only one after the network.
 ///
 /// With status 3 if an allocation fails.
-pub fn front_of(alloc: Global, job: &Job, names: &[&str], texts: &[&[u8]]) -> Result<Front, Stop>
+pub fn front_of<'t>(
+    alloc: Global,
+    job: &Job,
+    names: &[&str],
+    texts: &[&'t [u8]],
+) -> Result<Front<'t>, Stop>
     requires { length names.now ≡ length texts.now }
     ensures ok { IfOk result (IsFrontOf job.now (map (λ name. name.now) names.now) (map (λ text. text.now) texts.now)) }
     ensures err { IfErr result (EndsFront job.now (map (λ name. name.now) names.now) (map (λ text. text.now) texts.now)) }
 {
-    let joint = match joint_network(alloc, job, names, texts) {
-        Ok(joint) => joint,
+    let NetworkFiles { documents, joint } = match network_files(alloc, job, names, texts) {
+        Ok(files) => files,
         Err(stop) => return Err(stop),
     };
     match check_compared(alloc, job, names, texts) {
         Ok(()) => {}
         Err(stop) => return Err(stop),
     }
-    match check_closed(alloc, job, names, texts) {
+    match check_closed(alloc, job, documents.as_slice()) {
         Ok(()) => {}
         Err(stop) => return Err(stop),
     }
@@ -400,7 +417,11 @@ pub fn front_of(alloc: Global, job: &Job, names: &[&str], texts: &[&[u8]]) -> Re
         Err(stop) => return Err(stop),
     }
     match gathered_with(alloc, job, names, texts, joint.as_deref()) {
-        Ok(front) => Ok(front),
+        Ok(Gathered { input, numbers }) => Ok(Front {
+            input,
+            numbers,
+            documents,
+        }),
         Err(_) => Err(Stop::memory(alloc)),
     }
 }

@@ -27,7 +27,6 @@ mod lines;
 mod numbers;
 mod open;
 
-pub use checking::tables_of;
 pub use front::{Front, begins_as_offers, cycles_of, front_of};
 pub use joining::{MOST_FILES, joint_of};
 pub use keys::{LINK, OWN, STREAM, TOP};

@@ -11,6 +11,7 @@ use crate::sending::senders_of;
 use crate::text::offers_text;
 use cqf_model::Limits;
 use cqf_output::{REFUSED, Stop};
+use cqf_program_scenario::Input;
 use cqf_topology::Domain;
 use cqf_traffic::{Flow, TalkerStream, Until, are_few, offers_before};
 use cqf_units::{Memory, Nanos};
@@ -89,10 +90,10 @@ pub fn offers_output(
     limits: Limits,
     cycles: u32,
     seed: Option<u32>,
-    input: &[u8],
+    input: Input<'_>,
 ) -> Result<Vec<u8>, Stop>
-    ensures ok { IfOk result (λ text. offered_input limits cycles seed input.now ≡ Ok text.items) }
-    ensures err { IfErr result (IsRefused (offered_input limits cycles seed input.now)) }
+    ensures ok { IfOk result (λ text. offered_input limits cycles seed input.entry ≡ Ok text.items) }
+    ensures err { IfErr result (IsRefused (offered_input limits cycles seed input.entry)) }
 {
     let (domain, flows) = flows_input(alloc, limits, input)?;
     let end = Nanos(u64::from(cycles) * domain.cycle_time().0);

@@ -18,10 +18,10 @@ use cqf_model::Limits;
 use cqf_network::NetworkDomain;
 use cqf_output::Stop;
 use cqf_program_files::{begins_as_offers, cycles_of};
-use cqf_program_scenario::{domain_of, network_part, script_part};
+use cqf_program_scenario::{domain_of, known_document, network_part, next_document, script_part};
 use cqf_program_words::{Job, joined};
 use cqf_text::parts;
-use cqf_topology::PacedRequest;
+use cqf_topology::{Document, PacedRequest};
 use std::alloc::Global;
 
 /// Returns whether a job reads deadlines.
@@ -46,17 +46,18 @@ fn input_of(alloc: Global, first: &[u8], rest: &[&[u8]]) -> Result<Vec<u8>, Stop
 }
 
 /// Returns a plan alone, with calls and offers.
-fn with_both(
+fn with_both<'i>(
     alloc: Global,
     limits: Limits,
+    known: &mut Option<Document<'_>>,
     cycles: u32,
-    domain: &[u8],
-    streams: &[u8],
+    domain: &'i [u8],
+    streams: &'i [u8],
 ) -> Result<Vec<u8>, Stop>
     ensures ok { IfOk result (λ made. with_both limits cycles domain.now streams.now ≡ Ok made.items) }
     ensures err { IfErr result (IsRefused (with_both limits cycles domain.now streams.now)) }
 {
-    let (plan, flows) = flows_of_parts(alloc, limits, domain, streams)?;
+    let (plan, flows) = flows_of_parts(alloc, limits, known, domain, streams)?;
     let requests = copied_requests(alloc, flows.as_slice())?;
     let script = made_calls(alloc, &plan, requests.as_slice())?;
     let offers = made_offers(alloc, &plan, cycles, flows.as_slice())?;
@@ -88,18 +89,19 @@ fn check_script(
 }
 
 /// Returns a plan and a script, with offers.
-fn with_offers(
+fn with_offers<'i>(
     alloc: Global,
     limits: Limits,
+    known: &mut Option<Document<'_>>,
     cycles: u32,
-    domain: &[u8],
-    streams: &[u8],
+    domain: &'i [u8],
+    streams: &'i [u8],
     script: &[u8],
 ) -> Result<Vec<u8>, Stop>
     ensures ok { IfOk result (λ made. with_offers limits cycles domain.now streams.now script.now ≡ Ok made.items) }
     ensures err { IfErr result (IsRefused (with_offers limits cycles domain.now streams.now script.now)) }
 {
-    let (plan, flows) = flows_of_parts(alloc, limits, domain, streams)?;
+    let (plan, flows) = flows_of_parts(alloc, limits, known, domain, streams)?;
     let requests = copied_requests(alloc, flows.as_slice())?;
     let _orders = check_script(alloc, cycles, requests.as_slice(), script)?;
     let offers = made_offers(alloc, &plan, cycles, flows.as_slice())?;
@@ -111,10 +113,10 @@ fn calls_of_network(
     alloc: Global,
     network: &NetworkDomain,
     planned: bool,
-    streams: &[u8],
+    streams: Document<'_>,
 ) -> Result<Vec<u8>, Stop>
-    ensures ok { IfOk result (λ script. calls_of_network network.now planned streams.now ≡ Ok script.items) }
-    ensures err { IfErr result (IsRefused (calls_of_network network.now planned streams.now)) }
+    ensures ok { IfOk result (λ script. calls_of_network network.now planned streams.entry ≡ Ok script.items) }
+    ensures err { IfErr result (IsRefused (calls_of_network network.now planned streams.entry)) }
 {
     let requests = requests_part(alloc, network, planned, streams)?;
     let domain = domain_of(alloc, network)?;
@@ -122,33 +124,37 @@ fn calls_of_network(
 }
 
 /// Returns the script that is made for a plan.
-fn calls_for(
+fn calls_for<'i>(
     alloc: Global,
     limits: Limits,
+    known: &mut Option<Document<'_>>,
     planned: bool,
-    domain: &[u8],
-    streams: &[u8],
+    domain: &'i [u8],
+    streams: &'i [u8],
 ) -> Result<Vec<u8>, Stop>
     ensures ok { IfOk result (λ script. calls_for limits planned domain.now streams.now ≡ Ok script.items) }
     ensures err { IfErr result (IsRefused (calls_for limits planned domain.now streams.now)) }
 {
-    let network = network_part(alloc, limits, domain)?;
-    calls_of_network(alloc, &network, planned, streams)
+    let first = known_document(alloc, known.take(), domain)?;
+    let network = network_part(alloc, limits, &first)?;
+    let document = next_document(alloc, first, streams)?;
+    calls_of_network(alloc, &network, planned, document)
 }
 
 /// Returns a plan and offers, with calls.
-fn with_calls(
+fn with_calls<'i>(
     alloc: Global,
     limits: Limits,
+    known: &mut Option<Document<'_>>,
     planned: bool,
-    domain: &[u8],
-    streams: &[u8],
+    domain: &'i [u8],
+    streams: &'i [u8],
     offers: &[u8],
 ) -> Result<Vec<u8>, Stop>
     ensures ok { IfOk result (λ made. with_calls limits planned domain.now streams.now (offers.now ∷ []) ≡ Ok made.items) }
     ensures err { IfErr result (IsRefused (with_calls limits planned domain.now streams.now (offers.now ∷ []))) }
 {
-    let script = calls_for(alloc, limits, planned, domain, streams)?;
+    let script = calls_for(alloc, limits, known, planned, domain, streams)?;
     input_of(alloc, domain, &[streams, script.as_slice(), offers])
 }
 
@@ -156,6 +162,7 @@ fn with_calls(
 fn with_calls_between<'p>(
     alloc: Global,
     limits: Limits,
+    known: &mut Option<Document<'_>>,
     planned: bool,
     domain: &[u8],
     streams: &'p [u8],
@@ -165,7 +172,7 @@ fn with_calls_between<'p>(
     ensures ok { IfOk result (λ made. with_calls limits planned domain.now streams.now (offers.now ∷ last.now ∷ []) ≡ Ok made.items) }
     ensures err { IfErr result (IsRefused (with_calls limits planned domain.now streams.now (offers.now ∷ last.now ∷ []))) }
 {
-    let script = calls_for(alloc, limits, planned, domain, streams)?;
+    let script = calls_for(alloc, limits, known, planned, domain, streams)?;
     input_of(alloc, domain, &[streams, script.as_slice(), offers, last])
 }
 
@@ -173,6 +180,7 @@ fn with_calls_between<'p>(
 fn made_of_three(
     alloc: Global,
     limits: Limits,
+    known: &mut Option<Document<'_>>,
     planned: bool,
     cycles: u32,
     domain: &[u8],
@@ -186,10 +194,10 @@ fn made_of_three(
         IsRefused (made_of_parts limits planned cycles input (domain.now ∷ streams.now ∷ third.now ∷ [])) stop) }
 {
     if begins_as_offers(third) {
-        let made = with_calls(alloc, limits, planned, domain, streams, third)?;
+        let made = with_calls(alloc, limits, known, planned, domain, streams, third)?;
         return Ok(Some(made));
     }
-    let made = with_offers(alloc, limits, cycles, domain, streams, third)?;
+    let made = with_offers(alloc, limits, known, cycles, domain, streams, third)?;
     Ok(Some(made))
 }
 
@@ -197,6 +205,7 @@ fn made_of_three(
 fn made_of_four<'p>(
     alloc: Global,
     limits: Limits,
+    known: &mut Option<Document<'_>>,
     planned: bool,
     domain: &[u8],
     streams: &'p [u8],
@@ -212,7 +221,9 @@ fn made_of_four<'p>(
     if !begins_as_offers(third) {
         return Ok(None);
     }
-    let made = with_calls_between(alloc, limits, planned, domain, streams, third, fourth)?;
+    let made = with_calls_between(
+        alloc, limits, known, planned, domain, streams, third, fourth,
+    )?;
     Ok(Some(made))
 }
 
@@ -220,6 +231,7 @@ fn made_of_four<'p>(
 fn made_of_parts(
     alloc: Global,
     limits: Limits,
+    known: &mut Option<Document<'_>>,
     planned: bool,
     cycles: u32,
     parts: &[&[u8]],
@@ -231,20 +243,26 @@ fn made_of_parts(
     match *parts {
         [] | [_] => Ok(None),
         [domain, streams] => {
-            let made = with_both(alloc, limits, cycles, domain, streams)?;
+            let made = with_both(alloc, limits, known, cycles, domain, streams)?;
             Ok(Some(made))
         }
         [domain, streams, third] => {
-            made_of_three(alloc, limits, planned, cycles, domain, streams, third)
+            made_of_three(
+                alloc, limits, known, planned, cycles, domain, streams, third,
+            )
         }
         [domain, streams, third, fourth] => {
-            made_of_four(alloc, limits, planned, domain, streams, third, fourth)
+            made_of_four(
+                alloc, limits, known, planned, domain, streams, third, fourth,
+            )
         }
         [_, _, _, _, _, ..] => Ok(None),
     }
 }
 
 /// Returns the input of a job, read within some limits, with the missing parts added; `None` if it stays unchanged.
+///
+/// If a document is known, and the first part is read, the document is taken: it needn't be parsed again if it has the part's text.
 ///
 /// Only a job that reads a script gets parts. A plan alone gets calls and offers; a plan and a script get offers; a plan and offers, which
 /// are recognised by their first line, get calls. Calls admit all streams before cycle 0. Offers are those of the streams with traffic, so
@@ -258,6 +276,7 @@ pub fn made_input(
     alloc: Global,
     limits: Limits,
     job: &Job,
+    known: &mut Option<Document<'_>>,
     input: &[u8],
 ) -> Result<Option<Vec<u8>>, Stop>
     ensures ok { IfOk result (λ made. made_for limits job.now input.now ≡ Ok (option_map_or (λ text. text.items) made input.now)) }
@@ -269,5 +288,12 @@ pub fn made_input(
     let Ok(found) = parts(alloc, input) else {
         return Err(Stop::memory(alloc));
     };
-    made_of_parts(alloc, limits, is_planned(job), cycles, found.as_slice())
+    made_of_parts(
+        alloc,
+        limits,
+        known,
+        is_planned(job),
+        cycles,
+        found.as_slice(),
+    )
 }

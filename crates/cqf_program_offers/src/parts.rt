@@ -12,7 +12,7 @@ use cqf_network::NetworkDomain;
 use cqf_output::Stop;
 use cqf_program_plans::parted;
 use cqf_program_scenario::{planned_part, streams_part};
-use cqf_topology::PacedRequest;
+use cqf_topology::{Document, PacedRequest};
 use cqf_traffic::Flow;
 use cqf_units::Memory;
 use std::alloc::Global;
@@ -40,11 +40,11 @@ pub(crate) fn copied_requests(alloc: Global, flows: &[Flow]) -> Result<Vec<Paced
 }
 
 /// Returns the requests for the streams of a part, whose deadlines are read as the part has them.
-fn requests_by_deadlines(alloc: Global, text: &[u8]) -> Result<Vec<PacedRequest>, Stop>
-    ensures ok { IfOk result (λ requests. asked_by_deadlines text.now ≡ Ok (map asked_paced requests.items)) }
-    ensures err { IfErr result (IsRefused (asked_by_deadlines text.now)) }
+fn requests_by_deadlines(alloc: Global, document: Document<'_>) -> Result<Vec<PacedRequest>, Stop>
+    ensures ok { IfOk result (λ requests. asked_by_deadlines document.entry ≡ Ok (map asked_paced requests.items)) }
+    ensures err { IfErr result (IsRefused (asked_by_deadlines document.entry)) }
 {
-    let planned = planned_part(alloc, text)?;
+    let planned = planned_part(alloc, document)?;
     match parted(alloc, planned) {
         Ok((requests, _deadlines)) => Ok(requests),
         Err(_) => Err(Stop::memory(alloc)),
@@ -55,12 +55,12 @@ fn requests_by_deadlines(alloc: Global, text: &[u8]) -> Result<Vec<PacedRequest>
 fn requests_at_edges(
     alloc: Global,
     network: &NetworkDomain,
-    text: &[u8],
+    document: Document<'_>,
 ) -> Result<Vec<PacedRequest>, Stop>
-    ensures ok { IfOk result (λ requests. asked_at_edges network.now text.now ≡ Ok (map asked_paced requests.items)) }
-    ensures err { IfErr result (IsRefused (asked_at_edges network.now text.now)) }
+    ensures ok { IfOk result (λ requests. asked_at_edges network.now document.entry ≡ Ok (map asked_paced requests.items)) }
+    ensures err { IfErr result (IsRefused (asked_at_edges network.now document.entry)) }
 {
-    let flows = flows_part(alloc, network, text)?;
+    let flows = flows_part(alloc, network, document)?;
     copied_requests(alloc, flows.as_slice())
 }
 
@@ -75,15 +75,15 @@ fn has_access(network: &NetworkDomain) -> bool
 fn planned_requests(
     alloc: Global,
     network: &NetworkDomain,
-    text: &[u8],
+    document: Document<'_>,
 ) -> Result<Vec<PacedRequest>, Stop>
-    ensures ok { IfOk result (λ requests. asked_of_part network.now true text.now ≡ Ok (map asked_paced requests.items)) }
-    ensures err { IfErr result (IsRefused (asked_of_part network.now true text.now)) }
+    ensures ok { IfOk result (λ requests. asked_of_part network.now true document.entry ≡ Ok (map asked_paced requests.items)) }
+    ensures err { IfErr result (IsRefused (asked_of_part network.now true document.entry)) }
 {
     if has_access(network) {
-        requests_at_edges(alloc, network, text)
+        requests_at_edges(alloc, network, document)
     } else {
-        requests_by_deadlines(alloc, text)
+        requests_by_deadlines(alloc, document)
     }
 }
 
@@ -94,15 +94,15 @@ pub(crate) fn requests_part(
     alloc: Global,
     network: &NetworkDomain,
     planned: bool,
-    text: &[u8],
+    document: Document<'_>,
 ) -> Result<Vec<PacedRequest>, Stop>
-    ensures ok { IfOk result (λ requests. asked_of_part network.now planned text.now ≡ Ok (map asked_paced requests.items)) }
-    ensures err { IfErr result (IsRefused (asked_of_part network.now planned text.now)) }
+    ensures ok { IfOk result (λ requests. asked_of_part network.now planned document.entry ≡ Ok (map asked_paced requests.items)) }
+    ensures err { IfErr result (IsRefused (asked_of_part network.now planned document.entry)) }
 {
     if planned {
-        return planned_requests(alloc, network, text);
+        return planned_requests(alloc, network, document);
     }
-    match streams_part(alloc, text) {
+    match streams_part(alloc, document) {
         Ok(requests) => Ok(requests),
         Err(stop) => Err(stop),
     }

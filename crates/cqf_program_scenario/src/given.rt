@@ -1,7 +1,8 @@
 //! The scenario of an input.
 ghost use Rattle.std.specs.Prelude.{◌≡◌, ◌≤◌, [], All, Ok, IfOk, IfErr, length, map, option_map};
 ghost use Rattle.cqf_admission.specs.Asking.{asked_paced};
-ghost use Rattle.cqf_program_scenario.specs.Lines.{script_line};
+ghost use Rattle.cqf_program_scenario.specs.Lines.{script_line, streams_line};
+ghost use Rattle.cqf_topology.specs.PacedText.{paced_of_text, paced_text};
 ghost use Rattle.cqf_program_scenario.specs.RunParts.{texts_of};
 ghost use Rattle.cqf_laws_coverage.specs.Judged.{StandInOrder};
 ghost use Rattle.cqf_model.specs.Run.{AreBackground, AreOffers};
@@ -16,13 +17,14 @@ ghost use Rattle.cqf_output.specs.Stops.{IsRefused, or_line};
 ghost use Rattle.cqf_model.specs.Limits.{most_offers};
 
 use crate::{
-    RunParts, background_part, domain_part, offers_part, run_parts, script_part, streams_part,
+    Input, RunParts, background_part, domain_part, first_document, next_document, offers_part,
+    run_parts, script_part, streams_part,
 };
 use cqf_admission::{Names, Ordered, administrators};
 use cqf_model::{Background, Limits, Offer};
 use cqf_output::Stop;
 use cqf_report::offers_are_read_in_order;
-use cqf_topology::{Domain, PacedRequest};
+use cqf_topology::{Document, Domain, PacedRequest};
 use cqf_units::Memory;
 use std::alloc::Global;
 
@@ -140,20 +142,35 @@ pub fn read_after(
     })
 }
 
+/// Reads the streams of a part that follows a parsed one. Ends as [`streams_part`] does.
+pub fn next_streams<'i>(
+    alloc: Global,
+    first: Document<'i>,
+    text: &'i [u8],
+) -> Result<Vec<PacedRequest>, Stop>
+    ensures ok { IfOk result (λ requests. paced_of_text text.now ≡ Ok (map paced_text requests.items)) }
+    ensures err { IfErr result (IsRefused (or_line streams_line (paced_of_text text.now))) }
+{
+    let document = next_document(alloc, first, text)?;
+    streams_part(alloc, document)
+}
+
 /// Reads the scenario of these parts within some limits.
-fn read_parts(
+fn read_parts<'i>(
     alloc: Global,
     limits: Limits,
     cycles: u32,
-    parts: RunParts<'_>,
+    input: Input<'i>,
+    parts: RunParts<'i>,
 ) -> Result<RunInput, Stop>
     ensures ok { IfOk result (λ given. scenario_of limits cycles (texts_of parts.entry) ≡ Ok (scenario_given given)) }
     ensures stand { IfOk result (λ given. HasOrders given) }
     ensures good { IfOk result (λ given. MayBeRun cycles (scenario_given given)) }
     ensures err { IfErr result (IsRefused (scenario_of limits cycles (texts_of parts.entry))) }
 {
-    let domain = domain_part(alloc, limits, parts.domain)?;
-    let requests = streams_part(alloc, parts.streams)?;
+    let document = first_document(alloc, input, parts.domain)?;
+    let domain = domain_part(alloc, limits, &document)?;
+    let requests = next_streams(alloc, document, parts.streams)?;
     read_after(alloc, cycles, domain, requests, parts)
 }
 
@@ -163,13 +180,13 @@ pub fn read_given(
     alloc: Global,
     limits: Limits,
     cycles: u32,
-    input: &[u8],
+    input: Input<'_>,
 ) -> Result<RunInput, Stop>
-    ensures ok { IfOk result (λ given. scenario_input limits cycles input.now ≡ Ok (scenario_given given)) }
+    ensures ok { IfOk result (λ given. scenario_input limits cycles input.entry ≡ Ok (scenario_given given)) }
     ensures stand { IfOk result (λ given. HasOrders given) }
     ensures good { IfOk result (λ given. MayBeRun cycles (scenario_given given)) }
-    ensures err { IfErr result (IsRefused (scenario_input limits cycles input.now)) }
+    ensures err { IfErr result (IsRefused (scenario_input limits cycles input.entry)) }
 {
-    let parts = run_parts(alloc, input)?;
-    read_parts(alloc, limits, cycles, parts)
+    let parts = run_parts(alloc, input.bytes())?;
+    read_parts(alloc, limits, cycles, input, parts)
 }

@@ -12,6 +12,7 @@ ghost use Rattle.cqf_model.specs.Limits.{most_cycles};
 
 use crate::calls::apply_all;
 use crate::given::{RunInput, read_given};
+use crate::inputs::Input;
 use crate::parting::{Parted, part_calls};
 use cqf_admission::{Admission, Call, Command, calls_of};
 use cqf_model::{Background, Limits, Offer};
@@ -85,7 +86,7 @@ pub fn read_opened(alloc: Global, limits: Limits, cycles: u32, input: &[u8]) -> 
     ensures ok { IfOk result (λ made. IsOpenedInput limits cycles input.now made) }
     ensures err { IfErr result (IsRefused (scenario_input limits cycles input.now)) }
 {
-    let given = read_given(alloc, limits, cycles, input)?;
+    let given = read_given(alloc, limits, cycles, Input::of_bytes(input))?;
     match open_given(alloc, cycles, given) {
         Ok(made) => Ok(made),
         Err(_) => Err(Stop::memory(alloc)),

@@ -37,7 +37,7 @@ use cqf_admission::Logged;
 use cqf_laws_coverage::book_of_history_is_there;
 use cqf_model::Limits;
 use cqf_output::{Buffer, REFUSED, Stop};
-use cqf_program_scenario::{RunInput, ScenarioOutcome, outcome_of};
+use cqf_program_scenario::{Input, RunInput, ScenarioOutcome, outcome_of};
 use cqf_units::Memory;
 use std::alloc::Global;
 
@@ -72,11 +72,11 @@ pub fn deliveries_output(
     alloc: Global,
     limits: Limits,
     cycles: u32,
-    input: &[u8],
+    input: Input<'_>,
 ) -> Result<DeliveriesOutput, Stop>
     requires { cycles ≤ most_cycles }
-    ensures ok { IfOk result (λ output. (text : List ℕ) × AreDeliveriesWritten output text × IsDeliveriesOutput limits cycles input.now text) }
-    ensures err { IfErr result (IsRefused (planned_scenario limits cycles input.now)) }
+    ensures ok { IfOk result (λ output. (text : List ℕ) × AreDeliveriesWritten output text × IsDeliveriesOutput limits cycles input.entry text) }
+    ensures err { IfErr result (IsRefused (planned_scenario limits cycles input.entry)) }
 {
     let planned = read_planned_given(alloc, limits, cycles, input)?;
     match output_of(alloc, cycles, planned) {
@@ -272,11 +272,11 @@ pub fn check_output(
     alloc: Global,
     limits: Limits,
     cycles: u32,
-    input: &[u8],
+    input: Input<'_>,
 ) -> Result<Vec<u8>, Stop>
     requires { cycles ≤ most_cycles }
-    ensures ok { IfOk result (λ line. IsChecked limits cycles input.now (Ok line.items)) }
-    ensures err { IfErr result (IsCheckRefusal limits cycles input.now) }
+    ensures ok { IfOk result (λ line. IsChecked limits cycles input.entry (Ok line.items)) }
+    ensures err { IfErr result (IsCheckRefusal limits cycles input.entry) }
 {
     let planned = read_planned_given(alloc, limits, cycles, input)?;
     check_scenario(alloc, cycles, &planned)

@@ -12,7 +12,7 @@ use crate::report::carried::carried_columns;
 use cqf_laws_coverage::book_of_history_is_there;
 use cqf_model::Limits;
 use cqf_output::Stop;
-use cqf_program_scenario::{RunInput, outcome_of, read_given};
+use cqf_program_scenario::{Input, RunInput, outcome_of, read_given};
 use cqf_report::{report_is_written, write_columns};
 use cqf_units::Memory;
 use std::alloc::Global;
@@ -53,11 +53,11 @@ pub fn report_output(
     alloc: Global,
     limits: Limits,
     cycles: u32,
-    input: &[u8],
+    input: Input<'_>,
 ) -> Result<Vec<u8>, Stop>
     requires { cycles ≤ most_cycles }
-    ensures ok { IfOk result (λ output. IsReportOutput limits cycles input.now output.items) }
-    ensures err { IfErr result (IsRefused (scenario_input limits cycles input.now)) }
+    ensures ok { IfOk result (λ output. IsReportOutput limits cycles input.entry output.items) }
+    ensures err { IfErr result (IsRefused (scenario_input limits cycles input.entry)) }
 {
     let given = read_given(alloc, limits, cycles, input)?;
     match text_of_report(rt, alloc, cycles, &given) {

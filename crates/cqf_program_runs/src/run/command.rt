@@ -11,7 +11,7 @@ ghost use Rattle.cqf_program_scenario.specs.Scenario.{scenario_input};
 use crate::run::outputs::RunOutput;
 use cqf_model::Limits;
 use cqf_output::{Buffer, Stop};
-use cqf_program_scenario::{RunInput, book_of_outcome, outcome_of, read_given};
+use cqf_program_scenario::{Input, RunInput, book_of_outcome, outcome_of, read_given};
 use cqf_units::Memory;
 use std::alloc::Global;
 
@@ -43,11 +43,11 @@ pub fn run_output(
     alloc: Global,
     limits: Limits,
     cycles: u32,
-    input: &[u8],
+    input: Input<'_>,
 ) -> Result<RunOutput, Stop>
     requires { cycles ≤ most_cycles }
-    ensures ok { IfOk result (λ output. (text : List ℕ) × IsRunWritten output text × IsRunOutput limits cycles input.now text) }
-    ensures err { IfErr result (IsRefused (scenario_input limits cycles input.now)) }
+    ensures ok { IfOk result (λ output. (text : List ℕ) × IsRunWritten output text × IsRunOutput limits cycles input.entry text) }
+    ensures err { IfErr result (IsRefused (scenario_input limits cycles input.entry)) }
 {
     let given = read_given(alloc, limits, cycles, input)?;
     match output_of(alloc, cycles, given) {

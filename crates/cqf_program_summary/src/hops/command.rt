@@ -15,7 +15,7 @@ use crate::hops::reading::read_wanted;
 use crate::hops::wanting::FrameFilter;
 use cqf_model::Limits;
 use cqf_output::{Buffer, Stop};
-use cqf_program_scenario::{RunInput, outcome_of};
+use cqf_program_scenario::{Input, RunInput, outcome_of};
 use cqf_units::Memory;
 use std::alloc::Global;
 
@@ -57,11 +57,11 @@ pub fn hops_output(
     limits: Limits,
     cycles: u32,
     choice: FrameFilter<'_>,
-    input: &[u8],
+    input: Input<'_>,
 ) -> Result<HopsOutput, Stop>
     requires { cycles ≤ most_cycles }
-    ensures ok { IfOk result (λ output. (text : List ℕ) × IsWrittenText output text × IsHopsOutput limits cycles (wanted_by choice.entry) input.now text) }
-    ensures err { IfErr result (IsRefused (wanted_scenario limits cycles (wanted_by choice.entry) input.now)) }
+    ensures ok { IfOk result (λ output. (text : List ℕ) × IsWrittenText output text × IsHopsOutput limits cycles (wanted_by choice.entry) input.entry text) }
+    ensures err { IfErr result (IsRefused (wanted_scenario limits cycles (wanted_by choice.entry) input.entry)) }
 {
     let given = read_wanted(alloc, limits, cycles, choice, input)?;
     match output_of(alloc, cycles, choice, given) {

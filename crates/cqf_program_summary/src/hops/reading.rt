@@ -10,32 +10,41 @@ use crate::hops::known::know;
 use crate::hops::wanting::FrameFilter;
 use cqf_model::Limits;
 use cqf_output::Stop;
-use cqf_program_scenario::{RunInput, RunParts, domain_part, read_after, run_parts, streams_part};
+use cqf_program_scenario::{
+    Input, RunInput, RunParts, domain_part, first_document, next_streams, read_after, run_parts,
+};
 use std::alloc::Global;
 
 /// Reads the scenario of the parts within given limits, with the plan's streams.
-fn read_parts(
+fn read_parts<'i>(
     alloc: Global,
     limits: Limits,
     cycles: u32,
-    parts: RunParts<'_>,
+    input: Input<'i>,
+    parts: RunParts<'i>,
 ) -> Result<RunInput, Stop>
     ensures ok { IfOk result (IsPacedIn limits cycles (texts_of parts.entry)) }
     ensures err { IfErr result (IsRefused (paced_scenario_of limits cycles (texts_of parts.entry))) }
 {
-    let domain = domain_part(alloc, limits, parts.domain)?;
-    let requests = streams_part(alloc, parts.streams)?;
+    let document = first_document(alloc, input, parts.domain)?;
+    let domain = domain_part(alloc, limits, &document)?;
+    let requests = next_streams(alloc, document, parts.streams)?;
     let given = read_after(alloc, cycles, domain, requests, parts)?;
     Ok(given)
 }
 
 /// Reads the same of an input.
-fn read_paced(alloc: Global, limits: Limits, cycles: u32, input: &[u8]) -> Result<RunInput, Stop>
-    ensures ok { IfOk result (IsPacedGiven limits cycles input.now) }
-    ensures err { IfErr result (IsRefused (paced_scenario limits cycles input.now)) }
+fn read_paced(
+    alloc: Global,
+    limits: Limits,
+    cycles: u32,
+    input: Input<'_>,
+) -> Result<RunInput, Stop>
+    ensures ok { IfOk result (IsPacedGiven limits cycles input.entry) }
+    ensures err { IfErr result (IsRefused (paced_scenario limits cycles input.entry)) }
 {
-    let parts = run_parts(alloc, input)?;
-    read_parts(alloc, limits, cycles, parts)
+    let parts = run_parts(alloc, input.bytes())?;
+    read_parts(alloc, limits, cycles, input, parts)
 }
 
 /// Reads the scenario of the input over `cycles` cycles within given limits, and checks that it has the requested
@@ -50,10 +59,10 @@ pub(crate) fn read_wanted(
     limits: Limits,
     cycles: u32,
     choice: FrameFilter<'_>,
-    input: &[u8],
+    input: Input<'_>,
 ) -> Result<RunInput, Stop>
-    ensures ok { IfOk result (IsWantedGiven limits cycles (wanted_by choice.entry) input.now) }
-    ensures err { IfErr result (IsRefused (wanted_scenario limits cycles (wanted_by choice.entry) input.now)) }
+    ensures ok { IfOk result (IsWantedGiven limits cycles (wanted_by choice.entry) input.entry) }
+    ensures err { IfErr result (IsRefused (wanted_scenario limits cycles (wanted_by choice.entry) input.entry)) }
 {
     let given = read_paced(alloc, limits, cycles, input)?;
     match know(

@@ -14,6 +14,7 @@ use crate::summary::outputs::SummaryOutput;
 use cqf_model::Limits;
 use cqf_output::{Buffer, Stop};
 use cqf_program_runs::{PlannedGiven, read_planned_given};
+use cqf_program_scenario::Input;
 use cqf_units::Memory;
 use std::alloc::Global;
 
@@ -40,11 +41,11 @@ pub fn summary_output(
     alloc: Global,
     limits: Limits,
     cycles: u32,
-    input: &[u8],
+    input: Input<'_>,
 ) -> Result<SummaryOutput, Stop>
     requires { cycles ≤ most_cycles }
-    ensures ok { IfOk result (λ output. IsSummaryOutput limits cycles input.now (text_of_summary output)) }
-    ensures err { IfErr result (IsRefused (planned_scenario limits cycles input.now)) }
+    ensures ok { IfOk result (λ output. IsSummaryOutput limits cycles input.entry (text_of_summary output)) }
+    ensures err { IfErr result (IsRefused (planned_scenario limits cycles input.entry)) }
 {
     let planned = read_planned_given(alloc, limits, cycles, input)?;
     match output_of(alloc, cycles, &planned) {

@@ -13,7 +13,7 @@ returns-in-Ok-clause-ok c =
     let streams = map asked_paced given.requests.items in
     let wanted = wanted_by c.args.choice in
     record {
-      holds = wanted-Ok c.args.limits c.args.cycles wanted c.args.input.now (scenario_given given) streams c.in_ok-given.ensures.ok.holds
+      holds = wanted-Ok c.args.limits c.args.cycles wanted c.args.input (scenario_given given) streams c.in_ok-given.ensures.ok.holds
           (sym (λ i. wanted_refusal (map asked_paced (c.as_slice.ensures.value i)) (c.as_slice-2.ensures.value i) wanted) ∙ c.in-Ok.ensures.ok);
       may = c.in_ok-given.ensures.ok.may;
       stand = c.in_ok-given.ensures.ok.stand;
@@ -24,6 +24,6 @@ returns-in-Err-clause-err c =
     let given = c.in_ok-given.given in
     let streams = map asked_paced given.requests.items in
     let wanted = wanted_by c.args.choice in
-    wanted-stops c.args.limits c.args.cycles wanted c.args.input.now (scenario_given given) streams c.in-Err.stop c.in_ok-given.ensures.ok.holds
+    wanted-stops c.args.limits c.args.cycles wanted c.args.input (scenario_given given) streams c.in-Err.stop c.in_ok-given.ensures.ok.holds
     (subst (λ (refusal : Option (List ℕ)). EndsWithThat refusal c.in-Err.stop)
     (λ i. wanted_refusal (map asked_paced (c.as_slice.ensures.value i)) (c.as_slice-2.ensures.value i) wanted) c.in-Err.ensures.err)

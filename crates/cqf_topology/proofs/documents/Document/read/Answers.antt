@@ -2,16 +2,16 @@ use Rattle.std.proofs.Common.{inl, inr, sym, ◌∙◌}
 use Rattle.std.specs.Str.{is_utf8}
 use Rattle.std.proofs.lemmas.Bool.{cases_Bool, false≢true}
 use Rattle.std.proofs.lemmas.Str.{is_utf8-from_IsUtf8, IsUtf8-from_is_utf8}
-use Rattle.cqf_topology.proofs.documents.document.Goals as goal
+use Rattle.cqf_topology.proofs.documents.Document.read.Goals as goal
 
-pub returns-in-Ok : goal.returns-in-Ok
-returns-in-Ok c =
+pub invariant_of-result : goal.invariant_of-result
+invariant_of-result c =
     let text = c.args.text.now in
     let h = c.in-Ok.ensures.ok in
     rw (is_utf8-from_IsUtf8 text h.0, h.1)
 
-pub returns-else-is_memory : goal.returns-else-is_memory
-returns-else-is_memory c not_memory =
+pub invariant_of-result-else-is_memory : goal.invariant_of-result-else-is_memory
+invariant_of-result-else-is_memory c =
     let text = c.args.text.now in
     elim (cases_Bool (is_utf8 text)) [
       | inl is_text ↦

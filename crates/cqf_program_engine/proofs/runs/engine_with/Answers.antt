@@ -4,7 +4,7 @@ use Rattle.cqf_output.specs.Edge.{writing}
 use Rattle.cqf_program_engine.specs.Run.{HandsOver, WritesStop, input_of}
 use Rattle.cqf_program_threads.specs.ThreadsOutput.{EndsThreads, IsThreadsOutput}
 use Rattle.cqf_program_engine.proofs.RunLemmas.{Ends-ran, Ends-stopped, HasRun-threads, IsStopped-threads, threads_within}
-use Rattle.cqf_program_engine.proofs.runs.engine.Goals as goal
+use Rattle.cqf_program_engine.proofs.runs.engine_with.Goals as goal
 
 pub prepare_threads-requires-after_bounds : goal.prepare_threads-requires-after_bounds
 prepare_threads-requires-after_bounds g c κs within =
