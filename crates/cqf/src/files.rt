@@ -4,8 +4,8 @@ ghost use Rattle.std.specs.Prelude.{◌≤◌, ◌<◌, ◌^◌, IfOk, OnOk, len
 
 use crate::terminal::hint;
 use cqf_model::Limits;
-use cqf_output::{DONE, FAULT, REFUSED, Sink, Stop, Told, told_text, write_out};
-use cqf_program_engine::{Heard, Texts, engine, most_bytes, tell};
+use cqf_output::{CheckedSink, DONE, FAULT, REFUSED, Sink, Stop, write_out, written_text};
+use cqf_program_engine::{Heard, Texts, engine, most_bytes, write};
 use cqf_program_explanations::{NamedFile, explanation, notes, plan_notes};
 use cqf_program_files::{Front, cycles_of, front_of, renumbered};
 use cqf_program_offers::made_input;
@@ -45,7 +45,7 @@ fn stop_of_error(alloc: Global, name: &str, error: &io::Error) -> Stop {
     }
 }
 
-/// Returns the end after a read of the file of a name failed: the next read says why, if it fails too.
+/// Returns the end after a read of the file of a name failed. It has the error of one more read, if that fails too.
 fn stop_of_read(alloc: Global, name: &str, file: &mut File) -> Stop {
     match file.read(&mut [0]) {
         Ok(_) => stop_of_file(alloc, name, "a read failed"),
@@ -87,7 +87,7 @@ fn read_standard(
     requires few { length texts.old.bytes ≤ most }
     ensures { OnOk result (length texts.new.bytes ≤ most) }
 {
-    let mut faults = Told::new(rt.stderr());
+    let mut faults = CheckedSink::new(rt.stderr());
     let mut input = rt.stdin();
     hint(&input, &mut faults);
     texts.read(alloc, most, &mut input)
@@ -112,8 +112,8 @@ fn read_files(rt: &HostRuntime, alloc: Global, most: usize, names: &[&str]) -> R
 
 /// Ends a run before it has begun.
 pub(crate) fn end(rt: &HostRuntime, stop: &Stop) -> ExitCode {
-    let (mut output, mut faults) = (Told::new(rt.stdout()), Told::new(rt.stderr()));
-    ExitCode::from(tell(stop, &mut output, &mut faults))
+    let (mut output, mut faults) = (CheckedSink::new(rt.stdout()), CheckedSink::new(rt.stderr()));
+    ExitCode::from(write(stop, &mut output, &mut faults))
 }
 
 /// Returns the files that the words name, with their texts.
@@ -123,10 +123,10 @@ fn sources_of<'t>(
     texts: &[&'t [u8]],
 ) -> Result<Vec<NamedFile<'t>>, AllocError> {
     let mut sources = Vec::new(alloc);
-    for place in 0..names.len().min(texts.len()) {
+    for index in 0..names.len().min(texts.len()) {
         sources.push(NamedFile {
-            name: names[place],
-            text: texts[place],
+            name: names[index],
+            text: texts[index],
         })?;
     }
     Ok(sources)
@@ -135,15 +135,15 @@ fn sources_of<'t>(
 /// Returns the cycle times that the words of `plan` give, in nanoseconds; none for other words. Returns `None` if an allocation fails.
 fn cycle_times_of(alloc: Global, job: &Job) -> Option<Vec<u32>> {
     match *job {
-        Job::Plan {
-            given: Some(candidates),
-            ..
-        } => candidates.list(alloc).ok(),
+        Job::Plan { ref options } => match options.given {
+            Some(candidates) => candidates.list(alloc).ok(),
+            None => Some(Vec::new(alloc)),
+        },
         _ => Some(Vec::new(alloc)),
     }
 }
 
-/// Writes the explanation of the line of a refusal; nothing if there is nothing to say, or if memory lacks.
+/// Writes the explanation of the line of a refusal; nothing if it has none, or if an allocation fails.
 fn explain(rt: &HostRuntime, given: &FilesInput<'_>, line: &[u8]) {
     let Some(command) = given.operands.words().first() else {
         return;
@@ -163,12 +163,12 @@ fn explain(rt: &HostRuntime, given: &FilesInput<'_>, line: &[u8]) {
         sources.as_slice(),
         line,
     ) {
-        write_out(&mut Told::new(rt.stderr()), text.as_slice());
+        write_out(&mut CheckedSink::new(rt.stderr()), text.as_slice());
     }
 }
 
-/// Writes the explanation of the line `cqf: parts` for a standard input that is empty, for words that name no files.
-pub(crate) fn explain_nothing<F: Sink>(alloc: Global, words: &[&str], faults: &mut Told<F>) {
+/// Writes the explanation of the line `cqf: parts`, for words that name no files if standard input is empty.
+pub(crate) fn explain_nothing<F: Sink>(alloc: Global, words: &[&str], faults: &mut CheckedSink<F>) {
     let Some(command) = words.first() else {
         return;
     };
@@ -194,8 +194,8 @@ pub(crate) fn explain_nothing<F: Sink>(alloc: Global, words: &[&str], faults: &m
     }
 }
 
-/// Returns the notes on a plan, if the run doesn't refuse it; none if memory lacks. They are made before the run, which allocates no memory
-/// once its output has begun.
+/// Returns the notes on a plan, which are written unless the run refuses it; none if an allocation fails. They are made before the run, which
+/// allocates no memory once its output has begun.
 fn notes_of(given: &FilesInput<'_>) -> Option<Vec<u8>> {
     let command = given.operands.words().first()?;
     let Ok(sources) = sources_of(given.alloc, given.operands.files(), given.texts) else {
@@ -207,15 +207,24 @@ fn notes_of(given: &FilesInput<'_>) -> Option<Vec<u8>> {
     }
 }
 
-/// Returns whether a run that ended with this status and line has accepted its plan: it was done, or says how deliveries or latencies are.
+/// Returns whether a run that ended with this status and line has accepted its plan: its status is 0, it has written what differs, or its line
+/// is about deliveries or latencies.
 fn has_accepted(status: u8, line: &[u8]) -> bool {
-    status == DONE || line.starts_with(b"cqf: check: ") || line.starts_with(b"cqf: latency: ")
+    status == DONE
+        || is_difference(status, line)
+        || line.starts_with(b"cqf: check: ")
+        || line.starts_with(b"cqf: latency: ")
+}
+
+/// Returns whether a run with this status and line has written what differs: it is refused without a line.
+fn is_difference(status: u8, line: &[u8]) -> bool {
+    status == REFUSED && line.is_empty()
 }
 
 /// Writes notes, if there are any.
 fn write_notes(rt: &HostRuntime, notes: &Option<Vec<u8>>) {
     if let Some(text) = notes {
-        write_out(&mut Told::new(rt.stderr()), text.as_slice());
+        write_out(&mut CheckedSink::new(rt.stderr()), text.as_slice());
     }
 }
 
@@ -224,7 +233,7 @@ fn write_notes(rt: &HostRuntime, notes: &Option<Vec<u8>>) {
 struct Ended {
     status: u8,
     /// The line that it prints about a fault.
-    told: Told<Vec<u8>>,
+    reported: CheckedSink<Vec<u8>>,
     /// The notes on the plan that it made, if they are wanted.
     plan_notes: Option<Vec<u8>>,
 }
@@ -237,12 +246,19 @@ fn run(
     words: &[&str],
     input: &[u8],
 ) -> Result<Ended, AllocError> {
-    let mut told = Told::new(Vec::with_capacity(alloc, ROOM)?);
-    let (mut heard, mut output) = (Heard::new(alloc, input), Told::new(rt.stdout()));
-    let status = engine(threads, alloc, words, &mut heard, &mut output, &mut told);
+    let mut reported = CheckedSink::new(Vec::with_capacity(alloc, ROOM)?);
+    let (mut heard, mut output) = (Heard::new(alloc, input), CheckedSink::new(rt.stdout()));
+    let status = engine(
+        threads,
+        alloc,
+        words,
+        &mut heard,
+        &mut output,
+        &mut reported,
+    );
     Ok(Ended {
         status,
-        told,
+        reported,
         plan_notes: None,
     })
 }
@@ -250,12 +266,12 @@ fn run(
 /// Returns whether notes on the plan that a job makes are wanted: the job asks for them, or standard error is a terminal.
 fn wants_plan_notes<F: IsTerminal>(job: &Job, faults: &F) -> bool {
     match *job {
-        Job::Plan { table, verbose, .. } => !table && (verbose || faults.is_terminal()),
+        Job::Plan { ref options } => { !options.table && (options.verbose || faults.is_terminal()) }
         _ => false,
     }
 }
 
-/// Returns the notes on a plan that was made; none if memory lacks.
+/// Returns the notes on a plan that was made; none if an allocation fails.
 fn plan_notes_of(given: &FilesInput<'_>, plan: &[u8]) -> Option<Vec<u8>> {
     let Ok(sources) = sources_of(given.alloc, given.operands.files(), given.texts) else {
         return None;
@@ -263,8 +279,8 @@ fn plan_notes_of(given: &FilesInput<'_>, plan: &[u8]) -> Option<Vec<u8>> {
     plan_notes(given.alloc, given.limits, sources.as_slice(), plan).ok()
 }
 
-/// The same as [`run`] for a plan on which notes are wanted. They are made of the plan before it is written, since no memory is allocated once
-/// its output has begun.
+/// Runs the engine as [`run`] does, for a plan on which notes are wanted. The notes are made before the plan is written, since no memory is
+/// allocated once output has begun.
 fn run_plan(
     rt: &HostRuntime,
     threads: &(impl Threads + Wait + Sync),
@@ -272,40 +288,40 @@ fn run_plan(
     input: &[u8],
 ) -> Result<Ended, AllocError> {
     let (alloc, words) = (given.alloc, given.operands.words());
-    let mut told = Told::new(Vec::with_capacity(alloc, ROOM)?);
-    let (mut heard, mut plan) = (Heard::new(alloc, input), Told::new(Vec::new(alloc)));
-    let status = engine(threads, alloc, words, &mut heard, &mut plan, &mut told);
-    let text = told_text(plan)?;
+    let mut reported = CheckedSink::new(Vec::with_capacity(alloc, ROOM)?);
+    let (mut heard, mut plan) = (Heard::new(alloc, input), CheckedSink::new(Vec::new(alloc)));
+    let status = engine(threads, alloc, words, &mut heard, &mut plan, &mut reported);
+    let text = written_text(plan)?;
     if status != DONE {
         return Ok(Ended {
             status,
-            told,
+            reported,
             plan_notes: None,
         });
     }
     let plan_notes = plan_notes_of(given, text.as_slice());
-    let (stop, mut output) = (Stop { status, text }, Told::new(rt.stdout()));
-    let status = tell(&stop, &mut output, &mut told);
+    let (stop, mut output) = (Stop { status, text }, CheckedSink::new(rt.stdout()));
+    let status = write(&stop, &mut output, &mut reported);
     Ok(Ended {
         status,
-        told,
+        reported,
         plan_notes,
     })
 }
 
 /// Returns the line about a run that ended with this status. In a refusal, after which no output was written, a line's number in the script
 /// is replaced by that in the file of calls. Returns an error if an allocation fails.
-fn line_told(
+fn line_written(
     alloc: Global,
     front: &Front,
     status: u8,
-    told: Vec<u8>,
+    reported: Vec<u8>,
 ) -> Result<Vec<u8>, AllocError> {
     match &front.numbers {
         Some(numbers) if status == REFUSED => {
-            renumbered(alloc, numbers.as_slice(), told.as_slice())
+            renumbered(alloc, numbers.as_slice(), reported.as_slice())
         }
-        _ => Ok(told),
+        _ => Ok(reported),
     }
 }
 
@@ -326,19 +342,19 @@ fn run_front(
     let Ok(
         Ended {
             status,
-            told,
+            reported,
             plan_notes,
         },
     ) = ended
     else {
         return end(rt, &Stop::memory(alloc));
     };
-    let line = line_told(alloc, front, status, told.into_writer());
+    let line = line_written(alloc, front, status, reported.into_writer());
     let Ok(line) = line else {
         return end(rt, &Stop::memory(alloc));
     };
-    write_out(&mut Told::new(rt.stderr()), line.as_slice());
-    if status == REFUSED {
+    write_out(&mut CheckedSink::new(rt.stderr()), line.as_slice());
+    if status == REFUSED && !line.is_empty() {
         explain(rt, given, line.as_slice());
     }
     if has_accepted(status, line.as_slice()) {
@@ -361,7 +377,7 @@ pub(crate) fn run_files(
         Err(stop) => return end(rt, &stop),
     };
     let names = operands.files();
-    if let Err(stop) = check_files(alloc, names) {
+    if let Err(stop) = check_files(alloc, &job, names) {
         return end(rt, &stop);
     }
     let words = operands.words();
@@ -385,7 +401,7 @@ pub(crate) fn run_files(
     }
 }
 
-/// The same, after the files were read: there are as many texts as names.
+/// Runs words that name files, after the files were read. There are as many texts as names.
 fn run_texts(
     rt: &HostRuntime,
     threads: &(impl Threads + Wait + Sync),
@@ -410,10 +426,11 @@ fn refuse(rt: &HostRuntime, given: &FilesInput<'_>, stop: &Stop) -> ExitCode {
     ended
 }
 
-/// The same if the line of a script may be one of a file of calls.
+/// Prints the end and explains a refusal, as [`refuse`] does. If its line is about a line of the script that is made from a file of calls, it
+/// gets the file's line number.
 fn refuse_made(rt: &HostRuntime, given: &FilesInput<'_>, front: &Front, stop: Stop) -> ExitCode {
     let Stop { status, text } = stop;
-    match line_told(given.alloc, front, status, text) {
+    match line_written(given.alloc, front, status, text) {
         Ok(text) => refuse(rt, given, &Stop { status, text }),
         Err(_) => end(rt, &Stop::memory(given.alloc)),
     }

@@ -37,11 +37,11 @@ default_in_range Offset n h = let e : 0 ≡ n = cc in subst (IsTellableNumber Of
 
 -- a number that can be written is represented
 represented : (at : TrafficKey) (n : ℕ) → IsTellableNumber at n → IsInRange at n
-represented Interval n told = record { least = told.least; most = told.most }
-represented Frames n told = record { least = told.least; most = told.most }
-represented Size n told = record { least = told.least; most = told.most }
-represented Jitter n told = record { least = told.least; most = omega (arith, told.most) }
-represented Offset n told = record { least = told.least; most = omega (arith, told.most) }
+represented Interval n reported = record { least = reported.least; most = reported.most }
+represented Frames n reported = record { least = reported.least; most = reported.most }
+represented Size n reported = record { least = reported.least; most = reported.most }
+represented Jitter n reported = record { least = reported.least; most = omega (arith, reported.most) }
+represented Offset n reported = record { least = reported.least; most = omega (arith, reported.most) }
 
 -- a request's numbers are at most 2^32 - 1
 record HasFew (request : PacedText) : Type 0 where
@@ -95,13 +95,13 @@ module _ (table : Members) where
   pub traffic_in_range : (traffic : Option TrafficText) → traffic_from table ≡ Ok traffic → IfSome traffic IsTrafficText
   traffic_in_range None h = tt
   traffic_in_range (Some t) h =
-      let told : IsTellableTraffic t = traffic_is_tellable (Some t) h in
+      let reported : IsTellableTraffic t = traffic_is_tellable (Some t) h in
       let good : IsTrafficText t = record {
-        interval = represented Interval t.interval told.interval;
-        frames = represented Frames t.frames told.frames;
-        size = represented Size t.size told.size;
-        jitter = represented Jitter t.jitter told.jitter;
-        offset = represented Offset t.offset told.offset;
+        interval = represented Interval t.interval reported.interval;
+        frames = represented Frames t.frames reported.frames;
+        size = represented Size t.size reported.size;
+        jitter = represented Jitter t.jitter reported.jitter;
+        offset = represented Offset t.offset reported.offset;
       } in
       good
 

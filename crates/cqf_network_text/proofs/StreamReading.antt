@@ -24,9 +24,9 @@ use Rattle.cqf_traffic.specs.TrafficText.{TrafficText, first_owed, has_traffic, 
 use Rattle.cqf_traffic.specs.TrafficText.{traffic_from, value_at as traffic_at}
 use Rattle.cqf_traffic.specs.FlowsText.{FlowText, first_lack, flow_from, or_streams}
 use Rattle.cqf_network_text.specs.DomainMembers.{texts_data}
-use Rattle.cqf_network_text.specs.StreamMembers.{branches_data, every_told, is_each_cycle, number_of_traffic, phase_told, stream_members}
+use Rattle.cqf_network_text.specs.StreamMembers.{branches_data, every_written, is_each_cycle, number_of_traffic, phase_written, stream_members}
 use Rattle.cqf_network_text.specs.Plans.{IsTellable, IsTellableNumber, IsTellableTraffic, unpaced}
-use Rattle.cqf_network_text.proofs.DomainReading.{number_if_reads, number_reads, told_or}
+use Rattle.cqf_network_text.proofs.DomainReading.{number_if_reads, number_reads, written_or}
 use Rattle.cqf_network_text.proofs.StreamValues.{HasStream, has_stream, number_data, path_data, paths_data}
 
 -- texts, and branches
@@ -86,21 +86,21 @@ module _ (table : Members) (request : PacedText) (deadline : Option ℕ) (traffi
       ∙ ap (λ o. ok_or o (BadValue at)) (number_reads 0 4294967295 n (omega arith) few)
 
   -- the cycles in which it is offered
-  told_few : (same : Bool) (n : ℕ) → n ≤ 4294967295 → IfSome (cond same None (Some n)) (λ n. n ≤ 4294967295)
-  told_few true n few = tt
-  told_few false n few = few
+  written_few : (same : Bool) (n : ℕ) → n ≤ 4294967295 → IfSome (cond same None (Some n)) (λ n. n ≤ 4294967295)
+  written_few true n few = tt
+  written_few false n few = few
 
   every_read : request.every ≤ 4294967295 → number_or key.Every 1 table ≡ Ok request.every
   every_read few =
       let same : Bool = is_each_cycle request.every request.phase in
-      number_or_reads key.Every 1 (every_told request) has.every_at (told_few same request.every few)
-      ∙ ap Ok (told_or same request.every 1 (λ is. each_every request.every request.phase is))
+      number_or_reads key.Every 1 (every_written request) has.every_at (written_few same request.every few)
+      ∙ ap Ok (written_or same request.every 1 (λ is. each_every request.every request.phase is))
 
   phase_read : request.phase ≤ 4294967295 → number_or key.Phase 0 table ≡ Ok request.phase
   phase_read few =
       let same : Bool = is_each_cycle request.every request.phase in
-      number_or_reads key.Phase 0 (phase_told request) has.phase_at (told_few same request.phase few)
-      ∙ ap Ok (told_or same request.phase 0 (λ is. each_phase request.every request.phase is))
+      number_or_reads key.Phase 0 (phase_written request) has.phase_at (written_few same request.phase few)
+      ∙ ap Ok (written_or same request.phase 0 (λ is. each_phase request.every request.phase is))
 
   -- the request, with its cycles and without
   request_reads : request.octets ≤ 4294967295 → request_from table ≡ Ok (unpaced request)

@@ -27,7 +27,7 @@ pub record IsWrittenPlan (d : Domain) (flows : List FlowText) (text : List ℕ) 
   pub written : IsDocumentText false (plan_members d flows) text
   pub document : parse_document text ≡ Some (plan_members d flows)
 
--- a number may stand in a text at a key of traffic, and so may each of some traffic
+-- a number that a text may have at a key of traffic, and traffic in which each number is one
 pub record IsTellableNumber (key : TrafficKey) (n : ℕ) : Type 0 where
   pub least : least_of key ≤ n
   pub most : n ≤ most_of key

@@ -1,6 +1,6 @@
 -- From the result of each step of a run to the result of the run.
 use Rattle.std.proofs.Common.{◌≡◌, ◌≢◌, ◌⊎◌, ◌≤◌, ◌<◌, ℕ, List, [], ◌∷◌, Bool, true, false, Option, Some}
-use Rattle.std.proofs.Common.{None, length, arith, codes, inl, inr, sym, subst, subst₂, refl, ap, ◌∙◌, map, Bor}
+use Rattle.std.proofs.Common.{None, length, arith, codes, if◌then◌else◌, inl, inr, sym, subst, subst₂, refl, ap, ◌∙◌, ◌==◌, map, Bor}
 use Rattle.std.specs.Str.{IsUtf8}
 use Rattle.std.specs.declared.io.ErrorKind.{ErrorKind}
 use Rattle.std.specs.Io.KnownBytes.{IsAtEnd}
@@ -14,13 +14,14 @@ use Rattle.cqf_program_engine.specs.Edge.{IsHeard, Marks, Reading}
 use Rattle.cqf_output.specs.Edge.{Writing}
 use Rattle.cqf_output.specs.Kinds.{NoKind, SomeKind}
 use Rattle.cqf_program_engine.specs.Run.{first_line, input_of, version_line, words_of, AskForVersion, Ends}
-use Rattle.cqf_program_engine.specs.Run.{EndsByStatus, EndsFaulty, EndsInput, EndsRead, HandsOver, HasCause, HasFault}
-use Rattle.cqf_program_engine.specs.Run.{HasRun, HasWords, most_line, IsBehindWords, IsDone, IsEnd, IsFailure, IsOutput}
-use Rattle.cqf_program_engine.specs.Run.{IsFailedRun, IsMisuse, IsRefusedRun, TellsPlainly}
-use Rattle.cqf_program_engine.specs.Run.{IsRefusal, IsStopped, StopsWithAnswer, IsToldOutput, IsTooLong, IsWithin, most_bytes}
-use Rattle.cqf_program_engine.specs.Run.{FaultIsOfThreads, FaultIsOfThreadsOrOutput, TellsStop, TellsFaultAlone}
+use Rattle.cqf_program_engine.specs.Run.{EndsByStatus, EndsDone, EndsFaulty, EndsInput, EndsRead, HandsOver, HasCause, HasFault}
+use Rattle.cqf_program_engine.specs.Run.{HasRun, HasWords, most_line, IsAfterWords, IsDone, IsEnd, IsFailure, IsOutput, IsResult, is_diff}
+use Rattle.cqf_program_engine.specs.Run.{IsFailedRun, IsMisuse, IsRefusedRun, WritesPlainly}
+use Rattle.cqf_program_engine.specs.Run.{IsRefusal, IsStopped, StopsWithAnswer, IsWrittenOutput, IsTooLong, IsWithin, most_bytes}
+use Rattle.cqf_program_engine.specs.Run.{FaultIsOfThreads, FaultIsOfThreadsOrOutput, WritesStop, WritesFaultAlone}
 use Rattle.cqf_program_engine.specs.Run.{IsRunOf, IsThreadedRun, LeavesThreads, OnlyThreadsAreLeft, is_threaded}
-use Rattle.cqf_program_engine.specs.Prepared.{Begins}
+use Rattle.cqf_program_engine.specs.Prepared.{Begins, HasResult, HasText, is_of_diff, status_after}
+use Rattle.cqf_program_engine.specs.declared.prepared.PreparedOutput.{PreparedOutput}
 use Rattle.cqf_program_engine.specs.declared.begun.Begun.{Begun}
 use Rattle.cqf_program_engine.specs.declared.begun.Begun.TheVariants.{Ready, Threads}
 use Rattle.cqf_program_engine.specs.declared.begun.ThreadedRun.{ThreadedRun}
@@ -31,19 +32,19 @@ use Rattle.cqf_program_engine.specs.declared.heard.ReadFailure.{ReadFailure}
 use Rattle.cqf_program_engine.specs.declared.heard.ReadFailure.TheVariants.{Memory, Fault}
 use Rattle.cqf_program_words.specs.declared.words.Format.TheVariants as form
 use Rattle.cqf_program_words.specs.declared.words.Job.{Job}
-use Rattle.cqf_program_words.specs.declared.words.Job.TheVariants.{Check, Compile, Deliveries, Hops, Latency, Line, Load, Offers, Plan, Port, Report, Run, Summary}
+use Rattle.cqf_program_words.specs.declared.words.Job.TheVariants.{Check, Compile, Deliveries, Diff, Hops, Latency, Line, Load, Offers, Plan, Port, Report, Run, Summary}
 
 -- given words that mean no job stop the run before anything is read
 pub IsStopped-by_words : (words : List (List ℕ)) (input : Reading) (stop : Stop) → words ≢ [] → input.failed ≡ false → EndsWords words stop
-    → ¬ AskForVersion words → ShowsWords words stop → TellsPlainly words stop → IsStopped words input stop
-IsStopped-by_words [] input stop some sound e no_version shows tells = absurd (some refl)
-IsStopped-by_words (word ∷ words) input stop some sound e no_version shows tells = elim e.statuses [
+    → ¬ AskForVersion words → ShowsWords words stop → WritesPlainly words stop → IsStopped words input stop
+IsStopped-by_words [] input stop some sound e no_version shows reports = absurd (some refl)
+IsStopped-by_words (word ∷ words) input stop some sound e no_version shows reports = elim e.statuses [
   | inl zero_is ↦ inl (zero_is, record { answered = inl (e.help zero_is); at_end = λ none. absurd (some none); sound = sound })
   | inr (inl two) ↦
       let misused : IsMisuse (word ∷ words) input.bytes stop = record {
         status = two;
         short = λ none. absurd (some none);
-        cause = inr (inr ((λ none. absurd (some none)), e.mistake two, e.no_job (λ three. omega arith), no_version, (shows, tells)));
+        cause = inr (inr ((λ none. absurd (some none)), e.mistake two, e.no_job (λ three. omega arith), no_version, (shows, reports)));
       } in
       inr (inr (inl (two, record { misused = misused; at_end = λ none. absurd (some none); sound = sound })))
   | inr (inr three) ↦ inr (inr (inr (inl (three, e.memory three))))
@@ -65,20 +66,20 @@ no_words_ask (inr same) = (cc)
 
 -- words of the first line that mean no job stop it too
 pub HasCause-by_line : (bytes : List ℕ) (stop : Stop) → length bytes ≤ most_bytes [] → HasWords bytes → EndsWords (words_of [] bytes) stop
-    → ShowsLine (first_line bytes) stop → (is_shown_whole (first_line bytes) ≡ true → TellsPlainly (words_of [] bytes) stop) → HasCause [] bytes stop
-HasCause-by_line bytes stop short text e shows tells = elim e.statuses [
+    → ShowsLine (first_line bytes) stop → (is_shown_whole (first_line bytes) ≡ true → WritesPlainly (words_of [] bytes) stop) → HasCause [] bytes stop
+HasCause-by_line bytes stop short text e shows reports = elim e.statuses [
   | inl zero_is ↦ inl (zero_is, inl (e.help zero_is))
   | inr (inl two) ↦
-      inr (inr (inl (record { status = two; short = λ none. short; cause = inr (inr ((λ none. text), e.mistake two, e.no_job (λ three. omega arith), no_words_ask, (shows, tells))) })))
+      inr (inr (inl (record { status = two; short = λ none. short; cause = inr (inr ((λ none. text), e.mistake two, e.no_job (λ three. omega arith), no_words_ask, (shows, reports))) })))
   | inr (inr three) ↦ inr (inr (inr (inl (three, e.memory three))))
 ]
 
 -- the report about a line's words, for the same line and words under other names
-pub TellsPlainly-of : {line first : List ℕ} {words taken : List (List ℕ)} (stop : Stop) → line ≡ first → words ≡ taken →
-    (is_shown_whole line ≡ true → TellsPlainly words stop) → is_shown_whole first ≡ true → TellsPlainly taken stop
-TellsPlainly-of {line} {first} {words} {taken} stop same_line same_words tells =
-    subst (λ (text : List ℕ). is_shown_whole text ≡ true → TellsPlainly taken stop) same_line
-    (subst (λ (those : List (List ℕ)). is_shown_whole line ≡ true → TellsPlainly those stop) same_words tells)
+pub WritesPlainly-of : {line first : List ℕ} {words taken : List (List ℕ)} (stop : Stop) → line ≡ first → words ≡ taken →
+    (is_shown_whole line ≡ true → WritesPlainly words stop) → is_shown_whole first ≡ true → WritesPlainly taken stop
+WritesPlainly-of {line} {first} {words} {taken} stop same_line same_words reports =
+    subst (λ (text : List ℕ). is_shown_whole text ≡ true → WritesPlainly taken stop) same_line
+    (subst (λ (those : List (List ℕ)). is_shown_whole line ≡ true → WritesPlainly those stop) same_words reports)
 
 -- a first line that isn't text stops it
 pub HasCause-by_bytes : (bytes : List ℕ) (stop : Stop) → length bytes ≤ most_bytes [] → ¬ IsUtf8 (first_line bytes)
@@ -138,45 +139,27 @@ IsStopped-by_cause words input stop sound at_end (inr (inr (inl misused))) =
 IsStopped-by_cause words input stop sound at_end (inr (inr (inr (inl e)))) = inr (inr (inr (inl e)))
 IsStopped-by_cause words input stop sound at_end (inr (inr (inr (inr e)))) = inr (inr (inr (inr (e.0, inr (sound, at_end, e.1)))))
 
--- a refused input has status 1 or 3
-refusal_statuses : (limits : Limits) (job : Job) (input : List ℕ) (stop : Stop) → IsRefusal limits job input stop → (stop.status ≡ 1) ⊎ (stop.status ≡ 3)
-refusal_statuses limits (Port until rate) input stop h = h.statuses
-refusal_statuses limits (Line cycles) input stop h = h.statuses
-refusal_statuses limits (Compile form.List edge_gates) input stop h = h.statuses
-refusal_statuses limits (Compile (form.Tc is_software) edge_gates) input stop h = h.statuses
-refusal_statuses limits (Compile (form.Env bridge) edge_gates) input stop h = h.statuses
-refusal_statuses limits (Compile form.Json edge_gates) input stop h = h.statuses
-refusal_statuses limits (Load false) input stop h = h.statuses
-refusal_statuses limits (Load true) input stop h = h.statuses
-refusal_statuses limits (Latency strict) input stop h = h.statuses
-refusal_statuses limits (Run cycles threads) input stop h = h.statuses
-refusal_statuses limits (Report cycles) input stop h = h.statuses
-refusal_statuses limits (Deliveries cycles) input stop h = h.statuses
-refusal_statuses limits (Check cycles) input stop h = h.statuses
-refusal_statuses limits (Summary cycles) input stop h = h.statuses
-refusal_statuses limits (Offers cycles seed) input stop h = h.statuses
-refusal_statuses limits (Hops cycles stream frame) input stop h = h.statuses
-refusal_statuses limits (Plan table given verbose) input stop h = h.statuses
-
--- a refused input with status 3 has no text
-refusal_memory : (limits : Limits) (job : Job) (input : List ℕ) (stop : Stop) → IsRefusal limits job input stop → stop.status ≡ 3 → stop.text.items ≡ []
-refusal_memory limits (Port until rate) input stop h = h.memory
-refusal_memory limits (Line cycles) input stop h = h.memory
-refusal_memory limits (Compile form.List edge_gates) input stop h = h.memory
-refusal_memory limits (Compile (form.Tc is_software) edge_gates) input stop h = h.memory
-refusal_memory limits (Compile (form.Env bridge) edge_gates) input stop h = h.memory
-refusal_memory limits (Compile form.Json edge_gates) input stop h = h.memory
-refusal_memory limits (Load false) input stop h = h.memory
-refusal_memory limits (Load true) input stop h = h.memory
-refusal_memory limits (Latency strict) input stop h = h.memory
-refusal_memory limits (Run cycles threads) input stop h = h.memory
-refusal_memory limits (Report cycles) input stop h = h.memory
-refusal_memory limits (Deliveries cycles) input stop h = h.memory
-refusal_memory limits (Check cycles) input stop h = h.memory
-refusal_memory limits (Summary cycles) input stop h = h.memory
-refusal_memory limits (Offers cycles seed) input stop h = h.memory
-refusal_memory limits (Hops cycles stream frame) input stop h = h.memory
-refusal_memory limits (Plan table given verbose) input stop h = h.memory
+-- a refused input has status 1 or 3; with status 3 it has no text
+refusal_end : (limits : Limits) (job : Job) (input : List ℕ) (stop : Stop) → IsRefusal limits job input stop
+    → ((stop.status ≡ 1) ⊎ (stop.status ≡ 3)) × (stop.status ≡ 3 → stop.text.items ≡ [])
+refusal_end limits (Port until rate) input stop h = (h.statuses, h.memory)
+refusal_end limits (Line cycles) input stop h = (h.statuses, h.memory)
+refusal_end limits (Compile form.List edge_gates) input stop h = (h.statuses, h.memory)
+refusal_end limits (Compile (form.Tc is_software) edge_gates) input stop h = (h.statuses, h.memory)
+refusal_end limits (Compile (form.Env bridge) edge_gates) input stop h = (h.statuses, h.memory)
+refusal_end limits (Compile form.Json edge_gates) input stop h = (h.statuses, h.memory)
+refusal_end limits (Load false) input stop h = (h.statuses, h.memory)
+refusal_end limits (Load true) input stop h = (h.statuses, h.memory)
+refusal_end limits (Latency strict) input stop h = (h.statuses, h.memory)
+refusal_end limits (Run cycles threads) input stop h = (h.statuses, h.memory)
+refusal_end limits (Report cycles) input stop h = (h.statuses, h.memory)
+refusal_end limits (Deliveries cycles) input stop h = (h.statuses, h.memory)
+refusal_end limits (Check cycles) input stop h = (h.statuses, h.memory)
+refusal_end limits (Summary cycles) input stop h = (h.statuses, h.memory)
+refusal_end limits (Offers cycles seed) input stop h = (h.statuses, h.memory)
+refusal_end limits (Hops cycles stream frame) input stop h = (h.statuses, h.memory)
+refusal_end limits (Plan options) input stop h = (h.statuses, h.memory)
+refusal_end limits (Diff quiet) input stop h = (h.statuses, h.memory)
 
 -- a job that fails has status 4
 failure_status : (limits : Limits) (job : Job) (input : List ℕ) (stop : Stop) → IsFailure limits job input stop → stop.status ≡ 4
@@ -193,16 +176,19 @@ failure_status limits (Check cycles) input stop h = absurd h
 failure_status limits (Summary cycles) input stop h = absurd h
 failure_status limits (Offers cycles seed) input stop h = absurd h
 failure_status limits (Hops cycles stream frame) input stop h = absurd h
-failure_status limits (Plan table given verbose) input stop h = absurd h
+failure_status limits (Plan options) input stop h = absurd h
+failure_status limits (Diff quiet) input stop h = absurd h
 
 -- an input that is refused stops it
 HasCause-by_refusal : (words : List (List ℕ)) (bytes : List ℕ) (job : Job) (stop : Stop) → length bytes ≤ most_bytes words
     → (words ≡ [] → HasWords bytes) → Mean (words_of words bytes) job → IsRefusal (limits_of (words_of words bytes)) job (input_of words bytes) stop
     → HasCause words bytes stop
-HasCause-by_refusal words bytes job stop short text means h = elim (refusal_statuses (limits_of (words_of words bytes)) job (input_of words bytes) stop h) [
-  | inl one ↦ inr (inl (record { status = one; length_first = inr (short, text, (job, means, h)) }))
-  | inr three ↦ HasCause-by_memory words bytes stop three (refusal_memory (limits_of (words_of words bytes)) job (input_of words bytes) stop h three)
-]
+HasCause-by_refusal words bytes job stop short text means h =
+    let ended = refusal_end (limits_of (words_of words bytes)) job (input_of words bytes) stop h in
+    elim ended.0 [
+      | inl one ↦ inr (inl (record { status = one; length_first = inr (short, text, (job, means, h)) }))
+      | inr three ↦ HasCause-by_memory words bytes stop three (ended.1 three)
+    ]
 
 -- a job that fails stops it
 HasCause-by_failure : (words : List (List ℕ)) (bytes : List ℕ) (job : Job) (stop : Stop) → length bytes ≤ most_bytes words
@@ -220,24 +206,24 @@ HasCause-by_end words bytes job stop short text means (inl h) = HasCause-by_refu
 HasCause-by_end words bytes job stop short text means (inr h) = HasCause-by_failure words bytes job stop short text means h
 
 -- a run of the first line's words is done, given these words, their limits and the rest of the input under other names
-pub IsDone-by_line : (bytes rest output : List ℕ) (words : List (List ℕ)) (limits : Limits) (job : Job) → length bytes ≤ most_bytes [] → HasWords bytes
-    → words ≡ words_of [] bytes → limits ≡ limits_of (words_of [] bytes) → rest ≡ input_of [] bytes → Mean words job → IsOutput limits job rest output
-    → IsDone [] bytes output
-IsDone-by_line bytes rest output words limits job short text same within behind means h = record {
+pub IsDone-by_line : (bytes rest output : List ℕ) (status : ℕ) (words : List (List ℕ)) (limits : Limits) (job : Job) → length bytes ≤ most_bytes [] → HasWords bytes
+    → words ≡ words_of [] bytes → limits ≡ limits_of (words_of [] bytes) → rest ≡ input_of [] bytes → Mean words job → IsResult limits job rest output status
+    → IsDone [] bytes output status
+IsDone-by_line bytes rest output status words limits job short text same within following means h = record {
   short = short;
   text = λ _. text;
   job = job;
   means = subst (λ (those : List (List ℕ)). Mean those job) same means;
-  is_output = subst₂ (λ (set : Limits) (input : List ℕ). IsOutput set job input output) within behind h;
+  result = subst₂ (λ (set : Limits) (input : List ℕ). IsResult set job input output status) within following h;
 }
 
 -- and one that ends without its output is stopped
 pub HasCause-by_line_end : (bytes rest : List ℕ) (words : List (List ℕ)) (limits : Limits) (job : Job) (stop : Stop) → length bytes ≤ most_bytes []
     → HasWords bytes → words ≡ words_of [] bytes → limits ≡ limits_of (words_of [] bytes) → rest ≡ input_of [] bytes → Mean words job
     → IsEnd limits job rest stop → HasCause [] bytes stop
-HasCause-by_line_end bytes rest words limits job stop short text same within behind means h =
+HasCause-by_line_end bytes rest words limits job stop short text same within following means h =
     HasCause-by_end [] bytes job stop short (λ _. text) (subst (λ (those : List (List ℕ)). Mean those job) same means)
-    (subst₂ (λ (set : Limits) (input : List ℕ). IsEnd set job input stop) within behind h)
+    (subst₂ (λ (set : Limits) (input : List ℕ). IsEnd set job input stop) within following h)
 
 -- if words are given, they are the run's
 means_given : (words : List (List ℕ)) (bytes : List ℕ) (job : Job) → words ≢ [] → Mean words job → Mean (words_of words bytes) job
@@ -263,15 +249,15 @@ IsStopped-by_given words input job stop some sound at_end short means h =
     (input_given words input.bytes some) h))
 
 -- a run of words that are given is done
-pub HasRun-given : (words : List (List ℕ)) (input : Reading) (output : List ℕ) (job : Job) → words ≢ [] → input.failed ≡ false → IsAtEnd input.after
-    → length input.bytes ≤ most_bytes words → Mean words job → IsOutput (limits_of words) job input.bytes output → HasRun words input output
-HasRun-given words input output job some sound at_end short means h = record {
+pub HasRun-given : (words : List (List ℕ)) (input : Reading) (output : List ℕ) (status : ℕ) (job : Job) → words ≢ [] → input.failed ≡ false → IsAtEnd input.after
+    → length input.bytes ≤ most_bytes words → Mean words job → IsResult (limits_of words) job input.bytes output status → HasRun words input output status
+HasRun-given words input output status job some sound at_end short means h = record {
   is_done = record {
     short = short;
     text = λ none. absurd (some none);
     job = job;
     means = means_given words input.bytes job some means;
-    is_output = subst₂ (λ (those : List (List ℕ)) (bytes : List ℕ). IsOutput (limits_of those) job bytes output)
+    result = subst₂ (λ (those : List (List ℕ)) (bytes : List ℕ). IsResult (limits_of those) job bytes output status)
         (words_given words input.bytes some) (input_given words input.bytes some) h;
   };
   at_end = at_end;
@@ -286,27 +272,53 @@ answer_of words input stop (inr (inr (inl e))) none = absurd (omega (arith, e.0,
 answer_of words input stop (inr (inr (inr (inl e)))) none = absurd (omega (arith, e.0, none))
 answer_of words input stop (inr (inr (inr (inr e)))) none = absurd (omega (arith, e.0, none))
 
+-- the status after an output is 0 or 1
+status_by_length : (none : Bool) (status : ℕ) → status ≡ (if none then 0 else 1) → (status ≡ 0) ⊎ (status ≡ 1)
+status_by_length true status is = inl is
+status_by_length false status is = inr is
+
+statuses_after : (of_diff : Bool) (text : List ℕ) → (status_after of_diff text ≡ 0) ⊎ (status_after of_diff text ≡ 1)
+statuses_after false text = inl refl
+statuses_after true text = status_by_length (length text == 0) (status_after true text) refl
+
+-- the output of a job has the job's status
+pub HasResult-of : (limits : Limits) (job : Job) (input : List ℕ) (output : PreparedOutput) → is_of_diff output ≡ is_diff job
+    → HasText (IsOutput limits job input) output → HasResult (IsResult limits job input) output
+HasResult-of limits job input output same reported =
+    (reported.0, reported.1, record { is_output = reported.2; is_status = ap (λ (of_diff : Bool). status_after of_diff reported.0) same })
+
 -- a run over a reader and an output that fail and refuse only for such kinds of error
 module _ (fails refuses : ErrorKind → Type 0) (words : List (List ℕ)) (input : Reading) (output faults : Writing)
     (may_fail : input.failed ≡ true → SomeKind fails) (may_refuse : output.refused ≡ true → SomeKind refuses) where
+  -- a run that writes all of its output is done
+  EndsDone-reported : (wanted : ℕ) (text : List ℕ) (status : ℕ) → IsWrittenOutput words input text wanted → input.failed ≡ false
+      → HandsOver wanted text output faults status → status ≡ wanted → EndsDone words input output faults wanted
+  EndsDone-reported wanted text status is_output sound h same = record {
+    text = text;
+    is_output = is_output;
+    written = Appends-whole output text h.reported (h.done same).0;
+    clean = (h.done same).1;
+    sound = sound;
+    accepted = (h.done same).0;
+  }
+
+  -- so its status is one of two
+  by_done : (wanted status : ℕ) → (wanted ≡ 0) ⊎ (wanted ≡ 1) → status ≡ wanted → EndsDone words input output faults wanted
+      → EndsByStatus fails refuses words input output faults status
+  by_done wanted status (inl zero_is) same done =
+      inl (same ∙ zero_is, subst (λ (given : ℕ). EndsDone words input output faults given) zero_is done)
+  by_done wanted status (inr one) same done =
+      inr (inl (same ∙ one, inl (subst (λ (given : ℕ). EndsDone words input output faults given) one done)))
+
   -- a run that writes its output ends with that, or with the output's fault
-  Ends-told : (text : List ℕ) (status : ℕ) → IsHeard (most_bytes words) input → IsBehindWords words input → IsToldOutput words input text → input.failed ≡ false
-      → HandsOver text output faults status → Ends fails refuses words input output faults status
-  Ends-told text status heard behind_words is_output sound h = record {
+  Ends-reported : (wanted : ℕ) (text : List ℕ) (status : ℕ) → (wanted ≡ 0) ⊎ (wanted ≡ 1) → IsHeard (most_bytes words) input → IsAfterWords words input
+      → IsWrittenOutput words input text wanted → input.failed ≡ false → HandsOver wanted text output faults status
+      → Ends fails refuses words input output faults status
+  Ends-reported wanted text status few heard after_words is_output sound h = record {
     heard = heard;
-    behind_words = behind_words;
+    after_words = after_words;
     by_status = elim h.statuses [
-      | inl none ↦ inl (
-        none,
-        record {
-          text = text;
-          is_output = is_output;
-          written = Appends-whole output text h.told (h.done none).0;
-          clean = (h.done none).1;
-          sound = sound;
-          accepted = (h.done none).0;
-        },
-      )
+      | inl same ↦ by_done wanted status few same (EndsDone-reported wanted text status is_output sound h same)
       | inr four ↦ inr (inr (inr (inr (
         four,
         inr (inl (record {
@@ -314,8 +326,9 @@ module _ (fails refuses : ErrorKind → Type 0) (words : List (List ℕ)) (input
           may = may_refuse (h.fault four).0;
           sound = sound;
           text = text;
+          wanted = wanted;
           is_output = is_output;
-          told = h.told;
+          reported = h.reported;
           line = (h.fault four).1;
         })),
       ))))
@@ -323,45 +336,47 @@ module _ (fails refuses : ErrorKind → Type 0) (words : List (List ℕ)) (input
   }
 
   -- a run that is done ends with its output
-  pub Ends-ran : (text : List ℕ) (status : ℕ) → IsHeard (most_bytes words) input → IsBehindWords words input → HasRun words input text → HandsOver text output faults status
+  pub Ends-ran : (of_diff : Bool) (text : List ℕ) (status : ℕ) → IsHeard (most_bytes words) input → IsAfterWords words input
+      → HasRun words input text (status_after of_diff text) → HandsOver (status_after of_diff text) text output faults status
       → Ends fails refuses words input output faults status
-  Ends-ran text status heard behind_words ran h = Ends-told text status heard behind_words (inl (ran.is_done, ran.at_end)) ran.sound h
+  Ends-ran of_diff text status heard after_words ran h =
+      Ends-reported (status_after of_diff text) text status (statuses_after of_diff text) heard after_words (inl (ran.is_done, ran.at_end)) ran.sound h
 
   -- a run that is stopped with status 4 ends with the fault of the reader, or of the run
-  fault_told : (stop : Stop) → HasFault words input stop → TellsFaultAlone stop.text.items output faults
+  fault_written : (stop : Stop) → HasFault words input stop → WritesFaultAlone stop.text.items output faults
       → EndsFaulty fails refuses words input output faults
-  fault_told stop (inl h) told = inl (record {
+  fault_written stop (inl h) reported = inl (record {
     failed = h.0;
     may = may_fail h.0;
-    told = subst (λ text. TellsFaultAlone text output faults) h.1 told;
+    reported = subst (λ text. WritesFaultAlone text output faults) h.1 reported;
   })
-  fault_told stop (inr h) told = inr (inr (record { sound = h.0; at_end = h.1; stop = stop; failed = h.2; told = told }))
+  fault_written stop (inr h) reported = inr (inr (record { sound = h.0; at_end = h.1; stop = stop; failed = h.2; reported = reported }))
 
   -- the one case of a run that is stopped by its own line
-  barred_by_status : (stop : Stop) → IsStopped words input stop → stop.status ≢ 0 → stop.status ≢ 3 → TellsFaultAlone stop.text.items output faults
+  barred_by_status : (stop : Stop) → IsStopped words input stop → stop.status ≢ 0 → stop.status ≢ 3 → WritesFaultAlone stop.text.items output faults
       → EndsByStatus fails refuses words input output faults stop.status
-  barred_by_status stop (inl e) some known told = absurd (some e.0)
-  barred_by_status stop (inr (inl e)) some known told =
-      inr (inl (e.0, record { stop = stop; refused = e.1.refused; told = told; whole = e.1.whole; sound = e.1.sound }))
-  barred_by_status stop (inr (inr (inl e))) some known told =
-      inr (inr (inl (e.0, record { stop = stop; misused = e.1.misused; told = told; at_end = e.1.at_end; sound = e.1.sound })))
-  barred_by_status stop (inr (inr (inr (inl e)))) some known told = absurd (known e.0)
-  barred_by_status stop (inr (inr (inr (inr e)))) some known told = inr (inr (inr (inr (e.0, fault_told stop e.1 told))))
+  barred_by_status stop (inl e) some known reported = absurd (some e.0)
+  barred_by_status stop (inr (inl e)) some known reported =
+      inr (inl (e.0, inr (record { stop = stop; refused = e.1.refused; reported = reported; whole = e.1.whole; sound = e.1.sound })))
+  barred_by_status stop (inr (inr (inl e))) some known reported =
+      inr (inr (inl (e.0, record { stop = stop; misused = e.1.misused; reported = reported; at_end = e.1.at_end; sound = e.1.sound })))
+  barred_by_status stop (inr (inr (inr (inl e)))) some known reported = absurd (known e.0)
+  barred_by_status stop (inr (inr (inr (inr e)))) some known reported = inr (inr (inr (inr (e.0, fault_written stop e.1 reported))))
 
   -- a run that is stopped ends as it was stopped
-  pub Ends-stopped : (stop : Stop) (status : ℕ) → IsHeard (most_bytes words) input → IsBehindWords words input → IsStopped words input stop
-      → TellsStop stop output faults status → Ends fails refuses words input output faults status
-  Ends-stopped stop status heard behind_words s (inl t) =
+  pub Ends-stopped : (stop : Stop) (status : ℕ) → IsHeard (most_bytes words) input → IsAfterWords words input → IsStopped words input stop
+      → WritesStop stop output faults status → Ends fails refuses words input output faults status
+  Ends-stopped stop status heard after_words s (inl t) =
       let answer = answer_of words input stop s t.0 in
-      Ends-told stop.text.items status heard behind_words (inr (answer.answered, answer.at_end)) answer.sound t.1
-  Ends-stopped stop status heard behind_words s (inr (inl t)) = record {
+      Ends-reported 0 stop.text.items status (inl refl) heard after_words (inr (refl, answer.answered, answer.at_end)) answer.sound t.1
+  Ends-stopped stop status heard after_words s (inr (inl t)) = record {
     heard = heard;
-    behind_words = behind_words;
+    after_words = after_words;
     by_status = inr (inr (inr (inl (t.1, t.2))));
   }
-  Ends-stopped stop status heard behind_words s (inr (inr t)) = record {
+  Ends-stopped stop status heard after_words s (inr (inr t)) = record {
     heard = heard;
-    behind_words = behind_words;
+    after_words = after_words;
     by_status = subst (λ (given : ℕ). EndsByStatus fails refuses words input output faults given) (sym t.2) (barred_by_status stop s t.0 t.1 t.3);
   }
 
@@ -384,15 +399,15 @@ faulty_of fails refuses words input output faults e = elim e.by_status [
 pub faults-read : (fails refuses : ErrorKind → Type 0) → NoKind fails → FaultIsOfThreadsOrOutput fails refuses
 faults-read fails refuses none words input output faults e = elim (faulty_of fails refuses words input output faults e) [
   | inl read ↦ absurd (none_of fails none read.may)
-  | inr (inl told) ↦ inr told
+  | inr (inl reported) ↦ inr reported
   | inr (inr run) ↦ inl run
 ]
 
 -- and one of threads, if the output refuses nothing
-pub faults-told : (fails refuses : ErrorKind → Type 0) → NoKind fails → NoKind refuses → FaultIsOfThreads fails refuses
-faults-told fails refuses none nothing words input output faults e = elim (faults-read fails refuses none words input output faults e) [
+pub faults-reported : (fails refuses : ErrorKind → Type 0) → NoKind fails → NoKind refuses → FaultIsOfThreads fails refuses
+faults-reported fails refuses none nothing words input output faults e = elim (faults-read fails refuses none words input output faults e) [
   | inl run ↦ run
-  | inr told ↦ absurd (none_of refuses nothing told.may)
+  | inr reported ↦ absurd (none_of refuses nothing reported.may)
 ]
 
 -- a number that is read from a text is at most the limit
@@ -414,7 +429,8 @@ job_within (Check cycles) name rows is = number_within 1 100000 cycles (first_of
 job_within (Summary cycles) name rows is = number_within 1 100000 cycles (first_of (codes "cycles") rows) is.1
 job_within (Offers cycles seed) name rows is = number_within 1 100000 cycles (first_of (codes "cycles") rows) is.1
 job_within (Hops cycles stream frame) name rows is = number_within 1 100000 cycles (first_of (codes "cycles") rows) is.1
-job_within (Plan table given verbose) name rows is = tt
+job_within (Plan options) name rows is = tt
+job_within (Diff quiet) name rows is = tt
 
 -- the numbers of a job that options give are within their ranges
 found_within : (job : Job) (found : Option (Text × List Row)) → IsJob job found → IsWithin job
@@ -431,9 +447,9 @@ no_words [] none = refl
 no_words (word ∷ words) none = absurd (omega (arith, none))
 
 -- the result of a run has a property that follows from another
-pub Begins-weaker : {A B : List ℕ → Type 0} {P Q : ThreadedRun → Type 0} (begun : Begun) → ((text : List ℕ) → A text → B text)
+pub Begins-weaker : {A B : List ℕ → ℕ → Type 0} {P Q : ThreadedRun → Type 0} (begun : Begun) → ((text : List ℕ) (status : ℕ) → A text status → B text status)
     → ((threaded : ThreadedRun) → P threaded → Q threaded) → Begins A P begun → Begins B Q begun
-Begins-weaker (Ready output) outputs runs told = (told.0, told.1, outputs told.0 told.2)
+Begins-weaker (Ready output) outputs runs reported = (reported.0, reported.1, outputs reported.0 (status_after (is_of_diff output) reported.0) reported.2)
 Begins-weaker (Threads threaded) outputs runs left = runs threaded left
 
 -- a job that is a run on threads leaves it, if its words are given
@@ -468,14 +484,17 @@ threads_within words bytes threaded is = IsWithin-means (words_of words bytes) (
 
 -- if a run on threads is left, its output is that of the run
 pub HasRun-threads : (words : List (List ℕ)) (input : Reading) (threaded : ThreadedRun) (output : List ℕ) → LeavesThreads words input threaded
-    → IsThreadsOutput threaded.limits threaded.cycles (input_of words input.bytes) output → HasRun words input output
+    → IsThreadsOutput threaded.limits threaded.cycles (input_of words input.bytes) output → HasRun words input output 0
 HasRun-threads words input threaded output left h = record {
   is_done = record {
     short = left.is_run.short;
     text = left.is_run.text;
     job = Run threaded.cycles true;
     means = left.is_run.means;
-    is_output = subst (λ (limits : Limits). IsThreadsOutput limits threaded.cycles (input_of words input.bytes) output) left.is_run.within h;
+    result = record {
+      is_output = subst (λ (limits : Limits). IsThreadsOutput limits threaded.cycles (input_of words input.bytes) output) left.is_run.within h;
+      is_status = refl;
+    };
   };
   at_end = left.at_end;
   sound = left.sound;
@@ -519,7 +538,8 @@ no_threads (Check own) name rows cycles is other h = not_both name (codes "check
 no_threads (Summary own) name rows cycles is other h = not_both name (codes "summary") (codes "run") is.0 h.0 (λ e. omega (arith, e))
 no_threads (Offers own seed) name rows cycles is other h = not_both name (codes "offers") (codes "run") is.0 h.0 (λ e. omega (arith, e))
 no_threads (Hops own stream frame) name rows cycles is other h = not_both name (codes "hops") (codes "run") is.0 h.0 (λ e. omega (arith, e))
-no_threads (Plan table given verbose) name rows cycles is other h = not_both name (codes "plan") (codes "run") is.0 h.0 (λ e. omega (arith, e))
+no_threads (Plan options) name rows cycles is other h = not_both name (codes "plan") (codes "run") is.0 h.0 (λ e. omega (arith, e))
+no_threads (Diff quiet) name rows cycles is other h = not_both name (codes "diff") (codes "run") is.0 h.0 (λ e. omega (arith, e))
 
 -- what is read from words isn't both
 no_threads_found : (job : Job) (found : Option (Text × List Row)) (cycles : ℕ) → IsJob job found → is_threaded job ≡ false → IsJob (Run cycles true) found → ⊥

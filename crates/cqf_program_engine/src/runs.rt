@@ -1,24 +1,24 @@
 //! A run of the program, from its words and its input to its output or its end.
-ghost use Rattle.std.specs.Prelude.{ℕ, ◌≡◌, ◌≢◌, ◌≤◌, List, [], false, IfOk, IfErr, IfSome, IsOk, Ok, OnErr, MatchOption, map, length, option_map, string_bytes, true};
+ghost use Rattle.std.specs.Prelude.{ℕ, ◌≡◌, ◌≢◌, ◌≤◌, ◌<◌, List, [], false, IfOk, IfErr, IfSome, IsOk, Ok, OnErr, MatchOption, map, length, option_map, string_bytes, true};
 ghost use Rattle.std.specs.List.{slice_split};
 ghost use Rattle.cqf_program_engine.specs.Edge.{IsHeard, IsUnheard, reading};
-ghost use Rattle.cqf_program_engine.specs.Prepared.{Begins, HasText, IsTextOf};
+ghost use Rattle.cqf_program_engine.specs.Prepared.{Begins, HasResult, HasText, IsTextOf, is_of_diff, status_after};
 ghost use Rattle.cqf_output.specs.Edge.{writing};
 ghost use Rattle.cqf_program_threads.specs.ThreadsOutput.{EndsThreads, IsThreadsOutput};
 ghost use Rattle.cqf_program_words.specs.Shown.{ShowsLine, is_shown_whole};
 ghost use Rattle.cqf_program_words.specs.Words.{EndsWords, Mean};
 ghost use Rattle.cqf_program_summary.specs.Hops.Known.{wanted_scenario};
 ghost use Rattle.cqf_program_summary.specs.Hops.Output.{IsHopsOutput};
-ghost use Rattle.cqf_program_planning.specs.PlanOutput.{IsPlanOf, IsPlanRefusal};
+ghost use Rattle.cqf_program_without.specs.Output.{IsPlanWithout, IsRefusalWithout};
 ghost use Rattle.cqf_program_words.specs.Candidates.{times_of};
 ghost use Rattle.cqf_network.specs.NetworkDomain.{AreCandidates};
 ghost use Rattle.cqf_output.specs.Stops.{EndsWith, IsRefused};
 ghost use Rattle.cqf_program_tc.specs.Output.{env_of_input};
 ghost use Rattle.cqf_program_engine.specs.Run.{IsRunOf, IsThreadedRun, LeavesThreads, MeanNoThreads};
 ghost use Rattle.cqf_program_engine.specs.Run.{version_line, IsAsking, IsVersionWord, IsWithin, IsOutput, input_of, words_of};
-ghost use Rattle.cqf_program_engine.specs.Run.{IsRefusal, IsBehindWords, Ends, EndsTold, HandsOver, HasCause, HasRun};
-ghost use Rattle.cqf_program_engine.specs.Run.{IsDone, IsStopped, TellsPlainly, TellsStop, is_space, is_threaded, first_line, wanted_of};
-ghost use Rattle.cqf_program_engine.specs.Run.{behind_first_line, most_bytes};
+ghost use Rattle.cqf_program_engine.specs.Run.{IsRefusal, IsAfterWords, Ends, EndsWritten, HandsOver, HasCause, HasRun};
+ghost use Rattle.cqf_program_engine.specs.Run.{IsDone, IsResult, IsStopped, WritesPlainly, WritesStop, is_space, is_threaded, first_line, wanted_of};
+ghost use Rattle.cqf_program_engine.specs.Run.{after_first_line, is_diff, most_bytes, search_of};
 ghost use Rattle.cqf_model.specs.Limits.{most_cycles};
 
 use crate::begun::{Begun, ThreadedRun};
@@ -27,10 +27,11 @@ use crate::inputs::{MOST_BYTES, most_bytes, read_input};
 use crate::prepared::PreparedOutput;
 use crate::sources::Source;
 use cqf_model::Limits;
-use cqf_output::{DONE, FAULT, NO_MEMORY, Sink, Stop, Told, USAGE, told_text, write_out};
+use cqf_output::{CheckedSink, DONE, FAULT, NO_MEMORY, Sink, Stop, USAGE, write_out, written_text};
+use cqf_program_diff::diff_output;
 use cqf_program_json::json_output;
 use cqf_program_offers::offers_output;
-use cqf_program_planning::plan_output;
+use cqf_program_planning::Search;
 use cqf_program_plans::{
     compile_output, latency_output, load_output, load_streams_output, port_output,
 };
@@ -38,8 +39,9 @@ use cqf_program_runs::{check_output, deliveries_output, line_output, report_outp
 use cqf_program_summary::{FrameFilter, hops_output, summary_output};
 use cqf_program_tc::{env_output, tc_output};
 use cqf_program_threads::threads_output;
+use cqf_program_without::plan_without;
 use cqf_program_words::{
-    Candidates, Format, Job, limits_of, read_words, stop_of_line, stop_of_long_line,
+    Candidates, Format, Job, PlanOptions, limits_of, read_words, stop_of_line, stop_of_long_line,
 };
 use cqf_text::split_line;
 use cqf_units::{Memory, Name};
@@ -57,6 +59,7 @@ fn prepare_variables(
     input: &[u8],
 ) -> Result<PreparedOutput, Stop>
     ensures ok { IfOk result (HasText (λ output. env_of_input limits edge_gates bridge.now input.now ≡ Ok output)) }
+    ensures of_diff { IfOk result (λ output. is_of_diff output ≡ false) }
     ensures err { IfErr result (IsRefused (env_of_input limits edge_gates bridge.now input.now)) }
 {
     Ok(PreparedOutput::Variables(env_output(alloc, limits, edge_gates, bridge.as_str(), input)?))
@@ -73,6 +76,7 @@ fn prepare_compiled(
     input: &[u8],
 ) -> Result<PreparedOutput, Stop>
     ensures ok { IfOk result (HasText (IsOutput limits (Job.Compile format.now edge_gates) input.now)) }
+    ensures of_diff { IfOk result (λ output. is_of_diff output ≡ false) }
     ensures err { IfErr result (IsRefusal limits (Job.Compile format.now edge_gates) input.now) }
 {
     match *format {
@@ -96,6 +100,7 @@ fn prepare_load(
     input: &[u8],
 ) -> Result<PreparedOutput, Stop>
     ensures ok { IfOk result (HasText (IsOutput limits (Job.Load streams) input.now)) }
+    ensures of_diff { IfOk result (λ output. is_of_diff output ≡ false) }
     ensures err { IfErr result (IsRefusal limits (Job.Load streams) input.now) }
 {
     if streams {
@@ -126,6 +131,7 @@ fn prepare_hops(
 ) -> Result<PreparedOutput, Stop>
     requires { cycles ≤ most_cycles }
     ensures ok { IfOk result (HasText (IsHopsOutput limits cycles (wanted_of stream.now frame) input.now)) }
+    ensures of_diff { IfOk result (λ output. is_of_diff output ≡ false) }
     ensures err { IfErr result (IsRefused (wanted_scenario limits cycles (wanted_of stream.now frame) input.now)) }
 {
     let choice = FrameFilter {
@@ -149,20 +155,30 @@ fn times_of(alloc: Global, given: Option<Candidates>) -> Result<Option<Vec<u32>>
     }
 }
 
-/// Returns the output of `plan` for an input that is read within given limits, with the given candidates for the cycle
-/// time, if any. Errors are those of [`prepare`].
+/// Returns how `plan` searches with these options.
+fn search_of(options: &PlanOptions) -> Search
+    ensures { result ≡ search_of options.now }
+{
+    Search {
+        tries: options.tries,
+        best: options.best,
+    }
+}
+
+/// Returns the output of `plan` with these options for an input that is read within given limits. Errors are those of [`prepare`].
 fn planned(
     alloc: Global,
     limits: Limits,
-    table: bool,
-    given: Option<Candidates>,
+    options: &PlanOptions,
     input: &[u8],
 ) -> Result<Vec<u8>, Stop>
-    ensures ok { IfOk result (λ text. IsPlanOf limits table (option_map times_of given) input.now (Ok text.items)) }
-    ensures err { IfErr result (IsPlanRefusal limits table (option_map times_of given) input.now) }
+    ensures ok { IfOk result (λ text. IsPlanWithout limits options.now.table (search_of options.now) (option_map times_of options.now.given) options.now.without.items input.now (Ok text.items)) }
+    ensures err { IfErr result (IsRefusalWithout limits options.now.table (search_of options.now) (option_map times_of options.now.given) options.now.without.items input.now) }
 {
-    match times_of(alloc, given) {
-        Ok(times) => plan_output(alloc, limits, table, times, input),
+    let search = search_of(options);
+    let links = options.without.as_slice();
+    match times_of(alloc, options.given) {
+        Ok(times) => plan_without(alloc, limits, options.table, search, times, links, input),
         Err(_) => Err(Stop::memory(alloc)),
     }
 }
@@ -182,6 +198,7 @@ fn prepare(
     requires within { IsWithin job.now }
     requires unthreaded { is_threaded job.now ≡ false }
     ensures ok { IfOk result (HasText (IsOutput limits job.now input.now)) }
+    ensures of_diff { IfOk result (λ output. is_of_diff output ≡ is_diff job.now) }
     ensures err { IfErr result (IsRefusal limits job.now input.now) }
 {
     match *job {
@@ -222,19 +239,22 @@ fn prepare(
             ref stream,
             frame,
         } => prepare_hops(alloc, limits, cycles, stream, frame, input),
-        Job::Plan { table, given, .. } => Ok(PreparedOutput::Text(planned(
-            alloc, limits, table, given, input,
+        Job::Plan { ref options } => Ok(PreparedOutput::Text(planned(
+            alloc, limits, options, input,
         )?)),
+        Job::Diff { quiet } => {
+            Ok(PreparedOutput::Differences(diff_output(alloc, limits, quiet, input)?))
+        }
     }
 }
 
 /// Returns the text of an output. Returns `Memory` if an allocation fails.
-fn text_told(alloc: Global, output: PreparedOutput) -> Result<Vec<u8>, Memory>
-    ensures { IfOk result (λ told. (text : List ℕ) → IsTextOf output text → told.items ≡ text) }
+fn text_written(alloc: Global, output: PreparedOutput) -> Result<Vec<u8>, Memory>
+    ensures { IfOk result (λ reported. (text : List ℕ) → IsTextOf output text → reported.items ≡ text) }
 {
-    let mut told = Told::new(Vec::new(alloc));
-    output.tell(&mut told);
-    told_text(told)
+    let mut reported = CheckedSink::new(Vec::new(alloc));
+    output.write(&mut reported);
+    written_text(reported)
 }
 
 /// Returns the output of a job other than a run on threads, for an input that is read within given limits. `rt` is for
@@ -255,7 +275,7 @@ pub fn answer(
     ensures err { IfErr result (IsRefusal limits job.now input.now) }
 {
     let output = prepare(rt, alloc, limits, job, input)?;
-    match text_told(alloc, output) {
+    match text_written(alloc, output) {
         Ok(text) => Ok(text),
         Err(_) => Err(Stop::memory(alloc)),
     }
@@ -287,7 +307,7 @@ fn output_of(
     input: &[u8],
 ) -> Result<Begun, Stop>
     requires { IsWithin job.now }
-    ensures ok { IfOk result (Begins (IsOutput limits job.now input.now) (IsRunOf limits job.now)) }
+    ensures ok { IfOk result (Begins (IsResult limits job.now input.now) (IsRunOf limits job.now)) }
     ensures err { IfErr result (IsRefusal limits job.now input.now) }
 {
     match threaded_cycles(job) {
@@ -358,7 +378,7 @@ fn run_given<R: Source>(
     requires given { map (λ word. word.now) words.now ≢ [] }
     requires unheard { IsUnheard input.old }
     ensures heard { IsHeard (most_bytes (map (λ word. word.now) words.now)) (reading R.remaining input.old input.new) }
-    ensures behind_words { IsBehindWords (map (λ word. word.now) words.now) (reading R.remaining input.old input.new) }
+    ensures after_words { IsAfterWords (map (λ word. word.now) words.now) (reading R.remaining input.old input.new) }
     ensures ok { IfOk result (Begins (HasRun (map (λ word. word.now) words.now) (reading R.remaining input.old input.new)) (LeavesThreads (map (λ word. word.now) words.now) (reading R.remaining input.old input.new))) }
     ensures err { IfErr result (IsStopped (map (λ word. word.now) words.now) (reading R.remaining input.old input.new)) }
 {
@@ -378,7 +398,7 @@ fn run_given<R: Source>(
 /// Returns the first line of the bytes, and what follows it.
 fn split_first_line(bytes: &[u8]) -> (&[u8], &[u8])
     ensures line { result.0.now ≡ first_line bytes.now }
-    ensures rest { result.1.now ≡ behind_first_line bytes.now }
+    ensures rest { result.1.now ≡ after_first_line bytes.now }
 {
     match split_line(bytes) {
         Some(found) => found,
@@ -392,7 +412,7 @@ fn read_line(alloc: Global, line: &str, words: &[&str]) -> Result<Job, Stop>
     ensures ok { IfOk result (Mean (map (λ word. word.now) words.now)) }
     ensures err { IfErr result (EndsWords (map (λ word. word.now) words.now)) }
     ensures shows { IfErr result (ShowsLine line.now) }
-    ensures tells { IfErr result (λ stop. is_shown_whole line.now ≡ true → TellsPlainly (map (λ word. word.now) words.now) stop) }
+    ensures reports { IfErr result (λ stop. is_shown_whole line.now ≡ true → WritesPlainly (map (λ word. word.now) words.now) stop) }
 {
     match read_words(alloc, words) {
         Ok(job) => Ok(job),
@@ -449,7 +469,7 @@ fn run<R: Source>(
 ) -> Result<Begun, Stop>
     requires { IsUnheard input.old }
     ensures heard { IsHeard (most_bytes (map (λ word. word.now) words.now)) (reading R.remaining input.old input.new) }
-    ensures behind_words { IsBehindWords (map (λ word. word.now) words.now) (reading R.remaining input.old input.new) }
+    ensures after_words { IsAfterWords (map (λ word. word.now) words.now) (reading R.remaining input.old input.new) }
     ensures ok { IfOk result (Begins (HasRun (map (λ word. word.now) words.now) (reading R.remaining input.old input.new)) (LeavesThreads (map (λ word. word.now) words.now) (reading R.remaining input.old input.new))) }
     ensures err { IfErr result (IsStopped (map (λ word. word.now) words.now) (reading R.remaining input.old input.new)) }
 {
@@ -460,44 +480,58 @@ fn run<R: Source>(
     }
 }
 
-/// Returns the status after an output was written: 4 if the output refused some of it. A line on the writer of faults
-/// says so.
-fn end_told<O: Sink, F: Sink>(output: &Told<O>, faults: &mut Told<F>) -> u8
-    ensures { EndsTold output.now.refused (writing F.contents faults.old faults.new) result }
+/// Returns the status after an output was written: the given one; or 4 if the output refused some of it. A line on the
+/// writer of faults says so.
+fn end_written<O: Sink, F: Sink>(
+    wanted: u8,
+    output: &CheckedSink<O>,
+    faults: &mut CheckedSink<F>,
+) -> u8
+    requires { wanted < 4 }
+    ensures { EndsWritten wanted output.now.refused (writing F.contents faults.old faults.new) result }
 {
     if output.is_refused() {
         write_out(faults, b"cqf: output fault\n");
         return FAULT;
     }
-    DONE
+    wanted
 }
 
-/// Writes all of a text. Returns the status: 4 if the output refuses some of it.
-fn hand_over<O: Sink, F: Sink>(text: &[u8], output: &mut Told<O>, faults: &mut Told<F>) -> u8
-    ensures { HandsOver text.now (writing O.contents output.old output.new) (writing F.contents faults.old faults.new) result }
+/// Writes all of a text. Returns the status: 0, or 4 if the output refuses some of it.
+fn hand_over<O: Sink, F: Sink>(
+    text: &[u8],
+    output: &mut CheckedSink<O>,
+    faults: &mut CheckedSink<F>,
+) -> u8
+    ensures { HandsOver 0 text.now (writing O.contents output.old output.new) (writing F.contents faults.old faults.new) result }
 {
     write_out(output, text);
-    end_told(output, faults)
+    end_written(DONE, output, faults)
 }
 
-/// Writes all of an output. Returns the status: 4 if the writer refuses some of it.
-fn tell_output<O: Sink, F: Sink>(
+/// Writes all of an output. Returns the status: that of the output, or 4 if the writer refuses some of it.
+fn write_output<O: Sink, F: Sink>(
     prepared: PreparedOutput,
-    output: &mut Told<O>,
-    faults: &mut Told<F>,
+    output: &mut CheckedSink<O>,
+    faults: &mut CheckedSink<F>,
 ) -> u8
     ensures { (text : List ℕ) → IsTextOf prepared text →
-        HandsOver text (writing O.contents output.old output.new) (writing F.contents faults.old faults.new) result }
+        HandsOver (status_after (is_of_diff prepared) text) text (writing O.contents output.old output.new) (writing F.contents faults.old faults.new) result }
 {
-    prepared.tell(output);
-    end_told(output, faults)
+    let wanted = prepared.status();
+    prepared.write(output);
+    end_written(wanted, output, faults)
 }
 
 /// Writes the text of a stop: help or the version on the output, and anything else on the writer of faults. Returns the
 /// status.
-pub fn tell<O: Sink, F: Sink>(stop: &Stop, output: &mut Told<O>, faults: &mut Told<F>) -> u8
+pub fn write<O: Sink, F: Sink>(
+    stop: &Stop,
+    output: &mut CheckedSink<O>,
+    faults: &mut CheckedSink<F>,
+) -> u8
     requires { output.old.refused ≡ false }
-    ensures { TellsStop stop.now (writing O.contents output.old output.new) (writing F.contents faults.old faults.new) result }
+    ensures { WritesStop stop.now (writing O.contents output.old output.new) (writing F.contents faults.old faults.new) result }
 {
     if stop.status == DONE {
         return hand_over(stop.text.as_slice(), output, faults);
@@ -521,13 +555,13 @@ pub fn run_unless_threaded<R: Source, O: Sink, F: Sink>(
     alloc: Global,
     words: &[&str],
     input: &mut Heard<R>,
-    output: &mut Told<O>,
-    faults: &mut Told<F>,
+    output: &mut CheckedSink<O>,
+    faults: &mut CheckedSink<F>,
 ) -> Result<u8, ThreadedRun>
     requires unheard { IsUnheard input.old }
     requires accepted { output.old.refused ≡ false }
     ensures heard { IsHeard (most_bytes (map (λ word. word.now) words.now)) (reading R.remaining input.old input.new) }
-    ensures behind_words { IsBehindWords (map (λ word. word.now) words.now) (reading R.remaining input.old input.new) }
+    ensures after_words { IsAfterWords (map (λ word. word.now) words.now) (reading R.remaining input.old input.new) }
     ensures ended { IfOk result (Ends R.fails O.refuses (map (λ word. word.now) words.now) (reading R.remaining input.old input.new)
         (writing O.contents output.old output.new) (writing F.contents faults.old faults.new)) }
     ensures left { IfErr result (LeavesThreads (map (λ word. word.now) words.now) (reading R.remaining input.old input.new)) }
@@ -536,9 +570,9 @@ pub fn run_unless_threaded<R: Source, O: Sink, F: Sink>(
     ensures ends { MeanNoThreads (words_of (map (λ word. word.now) words.now) input.new.bytes) → IsOk result }
 {
     match run(rt, alloc, words, input) {
-        Ok(Begun::Ready(prepared)) => Ok(tell_output(prepared, output, faults)),
+        Ok(Begun::Ready(prepared)) => Ok(write_output(prepared, output, faults)),
         Ok(Begun::Threads(threaded)) => Err(threaded),
-        Err(stop) => Ok(tell(&stop, output, faults)),
+        Err(stop) => Ok(write(&stop, output, faults)),
     }
 }
 
@@ -567,6 +601,7 @@ fn prepare_threads(
 ) -> Result<PreparedOutput, Stop>
     requires { threaded.cycles ≤ most_cycles }
     ensures ok { IfOk result (HasText (IsThreadsOutput threaded.limits threaded.cycles input.now)) }
+    ensures of_diff { IfOk result (λ output. is_of_diff output ≡ false) }
     ensures err { IfErr result (EndsThreads threaded.limits threaded.cycles input.now) }
 {
     let ThreadedRun { limits, cycles } = threaded;
@@ -586,7 +621,7 @@ fn prepare_threads(
 /// Returns the exit status:
 ///
 /// * 0: done;
-/// * 1: the input was refused;
+/// * 1: the input was refused; or, for `diff`, something differs;
 /// * 2: the words were wrong;
 /// * 3: an allocation failed;
 /// * 4: a read, a write or a run on threads failed.
@@ -595,8 +630,8 @@ pub fn engine<R: Source, O: Sink, F: Sink>(
     alloc: Global,
     words: &[&str],
     input: &mut Heard<R>,
-    output: &mut Told<O>,
-    faults: &mut Told<F>,
+    output: &mut CheckedSink<O>,
+    faults: &mut CheckedSink<F>,
 ) -> u8
     requires unheard { IsUnheard input.old }
     requires accepted { output.old.refused ≡ false }
@@ -608,7 +643,7 @@ pub fn engine<R: Source, O: Sink, F: Sink>(
         Err(threaded) => threaded,
     };
     match prepare_threads(rt, alloc, threaded, input_of(words, input.bytes())) {
-        Ok(prepared) => tell_output(prepared, output, faults),
-        Err(stop) => tell(&stop, output, faults),
+        Ok(prepared) => write_output(prepared, output, faults),
+        Err(stop) => write(&stop, output, faults),
     }
 }

@@ -1,15 +1,15 @@
-//! Networks with open parts, and streams that don't enter as their text says.
+//! Networks with open parts, and streams that can't enter the network as their `from`, `to` and paths say.
 
 use crate::given::CommandInput;
 use crate::hints::plan_hint;
 use crate::network::{Network, WrittenLink};
-use crate::plan_faults::tell_no_talkers;
+use crate::plan_faults::report_no_talkers;
 use crate::planning::{nanos_question, talker_of};
 use crate::refusal::Refusal;
-use crate::told::ToldLines;
+use crate::reported::ReportedLines;
 use crate::words::shortened;
 use crate::written::{KeyOwner, WrittenItem};
-use cqf_program_files::{lacks_octets, lacks_turns, lacks_way};
+use cqf_program_files::{lacks_active_cycles, lacks_octets, lacks_path};
 use std::alloc::{AllocError, Global};
 use toml::Value;
 
@@ -67,19 +67,18 @@ fn branches_of<'p>(alloc: Global, item: &WrittenItem<'p>) -> Result<Vec<&'p [Val
     Ok(branches)
 }
 
-/// Returns the texts that name a station's access links, with `or` between.
+/// Returns the texts that name a station's access links, with `or` between. If a bridge is given, the access link to it is left out.
 fn texts_of_links(
     alloc: Global,
     network: &Network<'_>,
     station: &str,
+    besides: Option<&str>,
 ) -> Result<String, AllocError> {
     let mut words = String::new(alloc);
     for link in &network.links {
-        if is_access(network, link, station) {
-            let (between, edge) = (
-                if words.is_empty() { "" } else { " or " },
-                network.edge_of(link),
-            );
+        let edge = network.edge_of(link);
+        if is_access(network, link, station) && besides != Some(edge) {
+            let between = if words.is_empty() { "" } else { " or " };
             let more = format!(in alloc; "{between}{station}@{edge}")?;
             words.push_str(more.as_str())?;
         }
@@ -93,17 +92,24 @@ pub(crate) fn links_words(
     network: &Network<'_>,
     station: &str,
 ) -> Result<String, AllocError> {
-    let texts = texts_of_links(alloc, network, station)?;
+    let texts = texts_of_links(alloc, network, station, None)?;
     format!(in alloc; "; did you mean {texts}?")
 }
 
-/// Returns the words about a stream whose talker has several access links.
+/// Returns the words about a stream whose talker has several access links. If the talker's text names one, then `plan --without` leaves that
+/// one out, and the words name the others.
 fn several_words(alloc: Global, network: &Network<'_>, talker: &str) -> Result<String, AllocError> {
-    let texts = texts_of_links(alloc, network, talker)?;
-    format!(in alloc; "from: {talker} has several access links: say which, as {texts}")
+    let (station, bridge) = ends_of_talker(talker);
+    let texts = texts_of_links(alloc, network, station, bridge)?;
+    if bridge.is_some() {
+        return format!(in alloc;
+            "from: {talker} is left out, and {station} has several other access links: say which, as {texts}"
+        );
+    }
+    format!(in alloc; "from: {station} has several access links: say which, as {texts}")
 }
 
-/// Returns the words about a stream whose path begins at another bridge than where its talker's streams enter.
+/// Returns the words about a stream whose path doesn't begin at the bridge at which its talker's streams enter.
 fn other_edge_words(
     alloc: Global,
     network: &Network<'_>,
@@ -119,17 +125,17 @@ fn other_edge_words(
         if begins != edge {
             let (begins, talker) = (shortened(alloc, begins)?, shortened(alloc, talker)?);
             return format!(in alloc;
-                "its path begins at {begins}, and its talker {talker} comes in at {edge}: let it begin there"
+                "its path begins at {begins}, but its talker {talker} enters the network at {edge}: begin the path there"
             );
         }
     }
     Ok(String::new(alloc))
 }
 
-/// Reports the stream of a name that doesn't enter as its text says.
-pub(crate) fn tell_entering(
+/// Reports the stream of a name that can't enter the network as its `from`, `to` and paths say.
+pub(crate) fn report_entering(
     given: &CommandInput<'_>,
-    told: &mut ToldLines,
+    reported: &mut ReportedLines,
     stream: &str,
     fault: &str,
 ) -> Result<(), AllocError> {
@@ -144,12 +150,12 @@ pub(crate) fn tell_entering(
             "OtherEdge" => ("from", other_edge_words(alloc, &network, item, talker)?),
             _ => {
                 let words =
-                    "to: its listeners aren't those of its paths, in their order; without to they are";
+                    "to: name the listeners of its paths in the order of the paths, or leave out to";
                 ("to", String::from_str(alloc, words)?)
             }
         };
         let (place, label) = (item.place_of(key), item.label(alloc)?);
-        return told.tell(format!(in alloc; "{place}: {label}: {words}")?);
+        return reported.report(format!(in alloc; "{place}: {label}: {words}")?);
     }
     Ok(())
 }
@@ -157,35 +163,38 @@ pub(crate) fn tell_entering(
 /// Returns what `plan` would add to a stream, in words; an empty text if nothing is open.
 fn open_words(item: &WrittenItem<'_>) -> &'static str {
     match item.value.as_table() {
-        Some(table) if lacks_way(table) => "has no path",
+        Some(table) if lacks_path(table) => "has no path",
         Some(table) if lacks_octets(table) => "has no octets",
-        Some(table) if lacks_turns(table) => "is in step, and has no every and phase",
+        Some(table) if lacks_active_cycles(table) => "is in step, but has no every and phase",
         _ => "",
     }
 }
 
 /// Reports each stream that has an open part.
-fn tell_open(given: &CommandInput<'_>, told: &mut ToldLines) -> Result<(), AllocError> {
+fn report_open(given: &CommandInput<'_>, reported: &mut ReportedLines) -> Result<(), AllocError> {
     let hint = plan_hint(given)?;
     for item in &given.written.items(KeyOwner::Stream)? {
         let words = open_words(item);
-        if words.is_empty() || told.is_counted() {
+        if words.is_empty() || reported.is_counted() {
             continue;
         }
         let (place, label) = (item.place(), item.label(given.alloc)?);
-        told.tell(format!(in given.alloc; "{place}: {label} {words}{hint}")?)?;
+        reported.report(format!(in given.alloc; "{place}: {label} {words}{hint}")?)?;
     }
     Ok(())
 }
 
 /// Reports a cycle time that is open.
-fn tell_open_cycle(given: &CommandInput<'_>, told: &mut ToldLines) -> Result<(), AllocError> {
+fn report_open_cycle(
+    given: &CommandInput<'_>,
+    reported: &mut ReportedLines,
+) -> Result<(), AllocError> {
     let hint = plan_hint(given)?;
     let Some(found) = given.written.top("cycle") else {
         return Ok(());
     };
     let place = found.place;
-    told.tell(format!(in given.alloc; "{place}: cycle has several cycle times{hint}")?)
+    reported.report(format!(in given.alloc; "{place}: cycle has several cycle times{hint}")?)
 }
 
 /// Returns what a stream takes of its access link, in tenths of a Mb/s: its frames with their preambles and gaps.
@@ -208,7 +217,7 @@ fn in_tenths(alloc: Global, tenths: u64) -> Result<String, AllocError> {
 /// How many streams a line about an access link names.
 const MOST_NAMED: u64 = 4;
 
-/// Returns what a link's streams take of it: all together in tenths of a Mb/s, and each in words. Returns `None` if it has no streams.
+/// Returns what a link's streams with traffic take of it: all together in tenths of a Mb/s, and each in words. Returns `None` if it has none.
 fn use_words(
     given: &CommandInput<'_>,
     network: &Network<'_>,
@@ -219,7 +228,10 @@ fn use_words(
     let mut question = String::new(alloc);
     for item in &given.written.items(KeyOwner::Stream)? {
         let talker = item.text("from").unwrap_or("");
-        if talker.is_empty() || !is_access(network, link, talker) {
+        if talker.is_empty()
+            || !is_access(network, link, talker)
+            || item.get("interval").is_none()
+        {
             continue;
         }
         let taken = taken_by(item);
@@ -242,15 +254,15 @@ fn use_words(
         let more = count - MOST_NAMED;
         words.push_str(format!(in alloc; " and {more} more")?.as_str())?;
     }
-    words.push_str("; give it a higher rate, or them longer intervals")?;
+    words.push_str("; give the link a higher rate, or its streams longer intervals")?;
     words.push_str(question.as_str())?;
     Ok(Some((all, words)))
 }
 
 /// Reports what the streams of a station take of its access links.
-fn tell_full(
+fn report_full(
     given: &CommandInput<'_>,
-    told: &mut ToldLines,
+    reported: &mut ReportedLines,
     station: &str,
 ) -> Result<(), AllocError> {
     let (alloc, network) = (given.alloc, given.network()?);
@@ -267,7 +279,7 @@ fn tell_full(
             link.item.number("rate"),
             in_tenths(alloc, all)?,
         );
-        told.tell(format!(in alloc;
+        reported.report(format!(in alloc;
             "{place}: link {number}, {station}>{edge}: its streams take {all} Mb/s of {rate}: {words}"
         )?)?;
     }
@@ -275,16 +287,16 @@ fn tell_full(
 }
 
 /// Reports why a network is refused.
-pub(crate) fn tell_network(
+pub(crate) fn report_network(
     given: &CommandInput<'_>,
-    told: &mut ToldLines,
+    reported: &mut ReportedLines,
     refusal: Refusal<'_>,
 ) -> Result<(), AllocError> {
     match refusal.fault {
-        "OpenCycle" => tell_open_cycle(given, told),
-        "Open" => tell_open(given, told),
-        "AccessFull" => tell_full(given, told, refusal.value),
-        "NoTalker" => tell_no_talkers(given, told),
-        fault => tell_entering(given, told, refusal.value, fault),
+        "OpenCycle" => report_open_cycle(given, reported),
+        "Open" => report_open(given, reported),
+        "AccessFull" => report_full(given, reported, refusal.value),
+        "NoTalker" => report_no_talkers(given, reported),
+        fault => report_entering(given, reported, refusal.value, fault),
     }
 }

@@ -7,16 +7,15 @@ ghost use Rattle.cqf_program_explanations.specs.Explanations.{AreNotes};
 use crate::explaining::NamedFile;
 use crate::given::given_of;
 use crate::planning::is_in_step;
-use crate::told::ToldLines;
+use crate::reading::read_streams;
+use crate::reported::ReportedLines;
 use crate::written::{KeyOwner, WrittenItem};
-use cqf_edge::{EdgeFault, EdgeStreams, edge_streams, read_streams_are_written};
+use cqf_edge::{EdgeFault, EdgeStreams, edge_streams};
 use cqf_model::{LEAST_OCTETS, LONGEST_CYCLE, Limits};
-use cqf_network::{
-    FlowsFault, NetworkDomain, NetworkFault, Pacing, Stream, WantedWay, read_network_streams,
-};
-use cqf_topology::{DomainFault, StreamsFault};
+use cqf_network::{NetworkDomain, NetworkFault, Pacing, Stream, WantedPath};
+use cqf_topology::DomainFault;
 use cqf_traffic::Traffic;
-use cqf_units::Nanos;
+use cqf_units::{Octets, counted};
 use std::alloc::{AllocError, Global};
 use std::fmt;
 
@@ -66,13 +65,15 @@ impl fmt::Display for DataRate {
     }
 }
 
-/// A plan as it is read: its streams at their edge bridges, and what their talkers promise at the hand-over, by the same places.
+/// A plan as it is read: its streams at their edge bridges, and what their talkers promise at the hand-over, both by stream number.
 #[derive(Drop)]
 struct ReadPlan {
     /// In nanoseconds.
     cycle: u64,
     /// How far any two clocks may differ, in nanoseconds.
     sync: u64,
+    /// The octets of a frame that gates don't count.
+    overhead: u32,
     promised: Vec<Option<Traffic>>,
     edge: EdgeStreams,
 }
@@ -86,9 +87,10 @@ struct PlannedStream {
     /// What it reserves in one of `every` cycles.
     octets: u32,
     every: u32,
-    /// Its interval, and the octets that it sends in one.
+    /// Its interval, the octets that it sends in one, and those of them that gates count.
     interval: u64,
     sent: u64,
+    counted: u64,
     /// How late its frames may be there, and at the hand-over.
     jitter: u64,
     own_jitter: u64,
@@ -101,18 +103,6 @@ struct PlannedStream {
     deadline: Option<u32>,
     /// How many bridges its longest path has.
     bridges: u64,
-}
-
-/// Returns the streams of a plan; none if they are refused.
-fn read_streams(alloc: Global, plan: &[u8]) -> Result<Vec<Stream>, AllocError>
-    ensures { IfOk result (λ streams. All IsWrittenStream (map stream_text streams.items)) }
-{
-    read_streams_are_written();
-    match read_network_streams(alloc, plan) {
-        Ok(streams) => Ok(streams),
-        Err(FlowsFault::Streams(StreamsFault::Memory)) => Err(AllocError),
-        Err(_) => Ok(Vec::new(alloc)),
-    }
 }
 
 /// Returns what the talkers of streams promise.
@@ -154,15 +144,16 @@ fn read_plan(alloc: Global, limits: Limits, plan: &[u8]) -> Result<Option<ReadPl
     Ok(Some(ReadPlan {
         cycle: u64::from(network.open_cycle()),
         sync: u64::from(network.sync()),
+        overhead: network.overhead(),
         promised,
         edge,
     }))
 }
 
 /// Returns how many bridges the longest path of a stream has; 0 if it has none yet.
-fn bridges_on(way: &WantedWay) -> u64 {
+fn bridges_on(path: &WantedPath) -> u64 {
     let mut most: u64 = 0;
-    if let WantedWay::Along(paths) = way {
+    if let WantedPath::Along(paths) = path {
         for path in paths {
             most = most.max((path.len() as u64).saturating_sub(1));
         }
@@ -171,7 +162,7 @@ fn bridges_on(way: &WantedWay) -> u64 {
 }
 
 impl ReadPlan {
-    /// Returns the stream at a place, if it has traffic.
+    /// Returns the stream with a number, if it has traffic.
     fn stream_at(&self, place: usize) -> Option<PlannedStream> {
         let stream = self.edge.streams.get(place)?;
         let every = match stream.pacing {
@@ -185,6 +176,7 @@ impl ReadPlan {
         let promised = *self.promised.get(place)?;
         let (octets, traffic, promised) = (stream.octets?, stream.traffic?, promised?);
         let frames = u64::from(traffic.frames());
+        let counted = counted(Octets(self.overhead), traffic.size()).0;
         Some(PlannedStream {
             cycle: self.cycle,
             sync: self.sync,
@@ -192,13 +184,14 @@ impl ReadPlan {
             every,
             interval: traffic.interval().0,
             sent: frames.saturating_mul(u64::from(traffic.size().0)),
+            counted: frames.saturating_mul(u64::from(counted)),
             jitter: traffic.jitter().0,
             own_jitter: promised.jitter().0,
             offset: promised.offset().0,
             least,
             most,
             deadline: stream.deadline,
-            bridges: bridges_on(&stream.way),
+            bridges: bridges_on(&stream.path),
         })
     }
 }
@@ -227,7 +220,7 @@ impl PlannedStream {
         let rest = within.checked_rem(self.interval).unwrap_or(0);
         let intervals = whole.saturating_add(u64::from(rest > 0));
         intervals
-            .saturating_mul(self.sent)
+            .saturating_mul(self.counted)
             .max(u64::from(LEAST_OCTETS))
     }
 
@@ -267,11 +260,15 @@ impl PlannedStream {
 
 /// Appends a form that costs less to others.
 fn put_form(forms: &mut String, form: &str) -> Result<(), AllocError> {
-    forms.push_str(if forms.is_empty() { ": " } else { ", or " })?;
+    forms.push_str(if forms.is_empty() {
+        "; to reserve less: "
+    } else {
+        ", or "
+    })?;
     forms.push_str(form)
 }
 
-/// Returns what would cost less, after a colon; nothing if nothing is known that would.
+/// Returns what would cost less, in words; an empty text if nothing is known.
 fn cheaper_forms(
     alloc: Global,
     item: &WrittenItem<'_>,
@@ -285,7 +282,7 @@ fn cheaper_forms(
     }
     let waiting = planned.jitter.saturating_sub(planned.own_jitter);
     if planned.needed(waiting).saturating_mul(2) <= needed {
-        put_form(&mut forms, "less jitter")?;
+        put_form(&mut forms, "lower jitter")?;
     }
     if !is_in_step(item) && planned.may_take_turns() {
         put_form(&mut forms, "in-step = true")?;
@@ -299,23 +296,24 @@ fn cheaper_forms(
 /// Notes a stream if it reserves much more than it sends.
 fn note_stream(
     alloc: Global,
-    told: &mut ToldLines,
+    reported: &mut ReportedLines,
     item: &WrittenItem<'_>,
     planned: &PlannedStream,
 ) -> Result<(), AllocError> {
     let (reserved, sent) = (planned.reserved(), planned.sent());
-    if !reserved.is_above(MOST_TIMES, sent) || told.is_counted() {
+    if !reserved.is_above(MOST_TIMES, sent) || reported.is_counted() {
         return Ok(());
     }
     let (place, label) = (item.place_of("interval"), item.label(alloc)?);
     let forms = cheaper_forms(alloc, item, planned)?;
-    told.tell(format!(in alloc;
+    reported.report(format!(in alloc;
         "{place}: {label} reserves {reserved} for {sent} of traffic{forms}"
     )?)
 }
 
-/// Returns notes on the streams of a plan that reserve more than eight times what they send, with what would cost less: a line each, of the
-/// form of [`notes`](crate::notes). `sources` are the files from which the plan was made, and `plan` is its text.
+/// Returns notes on the streams of a plan that reserve more than eight times what they send. Each has a line, of the form of
+/// [`notes`](crate::notes), which also says what would cost less. `sources` are the files from which the plan was made, and `plan` is its text,
+/// read within `limits`.
 ///
 /// # Errors
 /// If an allocation fails.
@@ -327,15 +325,15 @@ pub fn plan_notes(
 ) -> Result<Vec<u8>, AllocError>
     ensures { IfOk result (λ text. AreNotes text.items) }
 {
-    let mut told = ToldLines::new(alloc);
+    let mut reported = ReportedLines::new(alloc);
     if let Some(read) = read_plan(alloc, limits, plan)? {
         let given = given_of(alloc, "plan", None, &[], limits, sources, "note")?;
         // the plan has the streams of all files in their order
         for (place, item) in given.written.items(KeyOwner::Stream)?.iter().enumerate() {
             if let Some(planned) = read.stream_at(place) {
-                note_stream(alloc, &mut told, item, &planned)?;
+                note_stream(alloc, &mut reported, item, &planned)?;
             }
         }
     }
-    told.text("note: ")
+    reported.text("note: ")
 }

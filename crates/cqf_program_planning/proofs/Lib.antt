@@ -1,17 +1,18 @@
 mod AllPlaced
 mod SoundPlans
-mod InTurns
+mod InActiveCycles
 mod PlacedLemmas
 mod TriedLemmas
 mod TextLemmas
 mod ChoiceLemmas
+mod BestLemmas
 mod ChoicesMade
 mod EdgeRead
 pub mod ReadNetworks
-mod Inputs
+pub mod Inputs
 mod Rounds
 mod Erased
-mod PlacedWays
+mod PlacedPaths
 mod Retold
 mod EndsRead
 mod Ones
@@ -22,4 +23,9 @@ mod AgainTables
 mod ReadBack
 mod Shallow
 mod Strict
-mod ToldPlans
+mod WrittenPlans
+mod OrderSteps
+mod OrderLemmas
+mod OtherOrders
+pub mod Tried
+mod Searches

@@ -9,7 +9,7 @@ use Rattle.cqf_access.specs.Arriving.{longest_wait}
 use Rattle.cqf_edge.specs.declared.edge.Passage.{Passage}
 use Rattle.cqf_edge.specs.declared.uses.AccessBound.{AccessBound}
 use Rattle.cqf_edge.specs.declared.uses.Handed.{Handed}
-use Rattle.cqf_edge.specs.Edge.{closer_word, grid_word, link_by, longest_way, shortest_way, times_on, word_from, word_on}
+use Rattle.cqf_edge.specs.Edge.{closer_word, grid_word, link_by, longest_travel, shortest_travel, times_on, word_from, word_on}
 use Rattle.cqf_edge.specs.EdgeFlows.{passage_of}
 use Rattle.cqf_edge.specs.Entrances.{link_at}
 use Rattle.cqf_edge.specs.Uses.{handed_over, longest_frame, shortest_frame, time_in}
@@ -21,7 +21,7 @@ use Rattle.cqf_program_planning.proofs.Rounds.{comes_round}
 
 -- what is handed over, where offers begin at a chosen instant
 abbrev pub retold : Handed → Option ℕ → Handed
-retold h offset = record { place = h.place; octets = h.octets; shortest = h.shortest; traffic = chosen_traffic offset h.traffic }
+retold h offset = record { index = h.index; octets = h.octets; shortest = h.shortest; traffic = chosen_traffic offset h.traffic }
 
 -- it is the same, apart from when it begins
 erased_by : (offset : Option ℕ) (traffic : Option TrafficText) → option_map (beginning_at 0) (chosen_traffic offset traffic) ≡ option_map (beginning_at 0) traffic
@@ -30,15 +30,15 @@ erased_by (Some o) None = refl
 erased_by (Some o) (Some t) = refl
 
 pub erased_retold : (h : Handed) (offset : Option ℕ) → erased (retold h offset) ≡ erased h
-erased_retold h offset = (λ i. record { place = h.place; octets = h.octets; shortest = h.shortest; traffic = erased_by offset h.traffic i })
+erased_retold h offset = (λ i. record { index = h.index; octets = h.octets; shortest = h.shortest; traffic = erased_by offset h.traffic i })
 
 -- frames are as large as they were
-frame_same : (octets others : ℕ) (offset : Option ℕ) (traffic : Option TrafficText) → (traffic ≡ None → octets ≡ others) →
-    longest_frame others (chosen_traffic offset traffic) ≡ longest_frame octets traffic
-frame_same octets others None None same = ap (λ n. min n 1522) (sym (same refl))
-frame_same octets others None (Some t) same = refl
-frame_same octets others (Some o) None same = ap (λ n. min n 1522) (sym (same refl))
-frame_same octets others (Some o) (Some t) same = refl
+frame_same : (overhead octets others : ℕ) (offset : Option ℕ) (traffic : Option TrafficText) → (traffic ≡ None → octets ≡ others) →
+    longest_frame overhead others (chosen_traffic offset traffic) ≡ longest_frame overhead octets traffic
+frame_same overhead octets others None None same = ap (λ n. min (n + overhead) 1522) (sym (same refl))
+frame_same overhead octets others None (Some t) same = refl
+frame_same overhead octets others (Some o) None same = ap (λ n. min (n + overhead) 1522) (sym (same refl))
+frame_same overhead octets others (Some o) (Some t) same = refl
 
 short_same : (shortest : Option ℕ) (offset : Option ℕ) (traffic : Option TrafficText) →
     shortest_frame shortest (chosen_traffic offset traffic) ≡ shortest_frame shortest traffic
@@ -47,12 +47,12 @@ short_same None None traffic = refl
 short_same None (Some o) None = refl
 short_same None (Some o) (Some t) = refl
 
-pub handed_retold : (place octets others : ℕ) (shortest : Option ℕ) (offset : Option ℕ) (traffic : Option TrafficText) → (traffic ≡ None → octets ≡ others) →
-    handed_over place others shortest (chosen_traffic offset traffic) ≡ retold (handed_over place octets shortest traffic) offset
-handed_retold place octets others shortest offset traffic same =
-    let long = frame_same octets others offset traffic same in
+pub handed_retold : (overhead index octets others : ℕ) (shortest : Option ℕ) (offset : Option ℕ) (traffic : Option TrafficText) → (traffic ≡ None → octets ≡ others) →
+    handed_over overhead index others shortest (chosen_traffic offset traffic) ≡ retold (handed_over overhead index octets shortest traffic) offset
+handed_retold overhead index octets others shortest offset traffic same =
+    let long = frame_same overhead octets others offset traffic same in
     let short = short_same shortest offset traffic in
-    (λ i. record { place = place; octets = long i; shortest = min (short i) (long i); traffic = chosen_traffic offset traffic })
+    (λ i. record { index = index; octets = long i; shortest = min (short i) (long i); traffic = chosen_traffic offset traffic })
 
 -- ---- how it goes by the link
 
@@ -60,7 +60,7 @@ abbrev pub Found : Type 0
 Found = Option (TalkerLink × AccessBound)
 
 abbrev pub found_at : NetworkDomain → List AccessBound → ℕ → Found
-found_at network bounds place = option_and_then (λ (link : TalkerLink). option_map (λ (b : AccessBound). (link, b)) (slice_get bounds place)) (link_at network place)
+found_at network bounds index = option_and_then (λ (link : TalkerLink). option_map (λ (b : AccessBound). (link, b)) (slice_get bounds index)) (link_at network index)
 
 abbrev pub made : TalkerLink → Handed → AccessBound → Passage
 made link h b = record { link = link; handed = h; bound = b }
@@ -68,8 +68,8 @@ made link h b = record { link = link; handed = h; bound = b }
 abbrev pub passage_with : Found → Handed → Option Passage
 passage_with found h = option_map (λ (both : TalkerLink × AccessBound). made both.0 h both.1) found
 
-pub passage_found : (network : NetworkDomain) (bounds : List AccessBound) (h : Handed) → passage_of network bounds (Some h) ≡ passage_with (found_at network bounds h.place) h
-passage_found network bounds h = by (link_at network h.place) (slice_get bounds h.place)
+pub passage_found : (network : NetworkDomain) (bounds : List AccessBound) (h : Handed) → passage_of network bounds (Some h) ≡ passage_with (found_at network bounds h.index) h
+passage_found network bounds h = by (link_at network h.index) (slice_get bounds h.index)
   where
     by : (l : Option TalkerLink) (b : Option AccessBound) →
         option_and_then (λ (link : TalkerLink). option_map (λ (found : AccessBound). made link h found) b) l
@@ -89,7 +89,7 @@ module _ (link : TalkerLink) (b : AccessBound) (h : Handed) where
 
   pub times_retold : (offset : Option ℕ) → times_on (made link (retold h offset) b) ≡ times_on (made link h b)
   times_retold offset =
-      (λ i. record { least = shortest_way (made link h b); most = longest_way (made link h b) + wait_same offset h.traffic i })
+      (λ i. record { least = shortest_travel (made link h b); most = longest_travel (made link h b) + wait_same offset h.traffic i })
 
   -- with the same word, if its beginning wasn't chosen
   pub word_given : word_on (made link (retold h None) b) ≡ word_on (made link h b)
@@ -112,5 +112,5 @@ module _ (link : TalkerLink) (b : AccessBound) (h : Handed) where
         frames = refl;
         size = refl;
         jitter = less;
-        offset = comes_round at (shortest_way p) (every * cycle_time) some;
+        offset = comes_round at (shortest_travel p) (every * cycle_time) some;
       }

@@ -16,27 +16,29 @@ use Rattle.cqf_program_plans.specs.Latency.Text.{latencies_of}
 use Rattle.cqf_program_offers.specs.OffersOutput.{asked_in}
 use Rattle.cqf_program_placing.specs.Placing.{PlacedStreams}
 use Rattle.cqf_program_placing.specs.Settled.{SettledStream}
+use Rattle.cqf_program_planning.specs.declared.choosing.Search.{Search}
 use Rattle.cqf_program_planning.specs.Choosing.{IsPlanned}
 use Rattle.cqf_program_planning.specs.Judging.{deadlines_placed, first_late, first_unplaced, flow_of, flows_placed, latencies_placed, those_placed}
-use Rattle.cqf_program_planning.specs.PlanLaws.{IsSoundPlan, ReservesEnough, ToldPlanIsAdmitted, deadlines_of}
-use Rattle.cqf_program_planning.proofs.AllPlaced.{AreAllGranted, all_granted, all_in_time, neither}
+use Rattle.cqf_program_planning.specs.PlanLaws.{IsSoundPlan, ReservesEnough, WrittenPlanIsAdmitted, deadlines_of}
+use Rattle.cqf_program_planning.proofs.AllPlaced.{AreAllGranted, all_in_time, neither}
+use Rattle.cqf_program_planning.proofs.Tried.{tried_known}
 
 -- a stream that reserves enough lacks nothing
-lacks_nothing : (cycle_time place octets : ℕ) (traffic : Option TrafficText) → ForSome traffic (λ (t : TrafficText). needed cycle_time (promise_of t) ≤ octets) →
-    lack_at cycle_time place octets traffic ≡ None
-lacks_nothing cycle_time place octets None enough = refl
-lacks_nothing cycle_time place octets (Some t) enough =
-    let need : ℕ = needed cycle_time (promise_of t) in
+lacks_nothing : (overhead cycle_time index octets : ℕ) (traffic : Option TrafficText) → ForSome traffic (λ (t : TrafficText). needed overhead cycle_time (promise_of t) ≤ octets) →
+    lack_at overhead cycle_time index octets traffic ≡ None
+lacks_nothing overhead cycle_time index octets None enough = refl
+lacks_nothing overhead cycle_time index octets (Some t) enough =
+    let need : ℕ = needed overhead cycle_time (promise_of t) in
     let no_less : nat_lt octets need ≡ false = le-ltb octets need (enough t refl) in
     cond-false (nat_lt octets need) _ None no_less
 
-pub none_lacks : (cycle_time place : ℕ) (flows : List FlowText) → All (ReservesEnough cycle_time) flows → first_lack cycle_time place (map planned_octets flows) ≡ None
-none_lacks cycle_time place [] enough = refl
-none_lacks cycle_time place (flow ∷ flows) enough =
-    let first : ReservesEnough cycle_time flow = enough 0 flow (omega arith) in
-    let rest : All (ReservesEnough cycle_time) flows = λ k other within. enough (suc k) other (omega (arith, within)) in
-    ap (λ o. option_or o (first_lack cycle_time (place + 1) (map planned_octets flows))) (lacks_nothing cycle_time place flow.0.0.octets flow.1 first)
-    ∙ none_lacks cycle_time (place + 1) flows rest
+pub none_lacks : (overhead cycle_time index : ℕ) (flows : List FlowText) → All (ReservesEnough overhead cycle_time) flows → first_lack overhead cycle_time index (map planned_octets flows) ≡ None
+none_lacks overhead cycle_time index [] enough = refl
+none_lacks overhead cycle_time index (flow ∷ flows) enough =
+    let first : ReservesEnough overhead cycle_time flow = enough 0 flow (omega arith) in
+    let rest : All (ReservesEnough overhead cycle_time) flows = λ k other within. enough (suc k) other (omega (arith, within)) in
+    ap (λ o. option_or o (first_lack overhead cycle_time (index + 1) (map planned_octets flows))) (lacks_nothing overhead cycle_time index flow.0.0.octets flow.1 first)
+    ∙ none_lacks overhead cycle_time (index + 1) flows rest
 
 -- if all streams are placed and none may be late, the plan is sound
 sound_of : (streams : List SettledStream) (placed : PlacedStreams) →
@@ -57,29 +59,29 @@ sound_of streams placed all in_time =
       entries = placed.entries;
       admitted = all.admitted 1;
       enough = all.enough;
-      none_lacks = none_lacks d.cycle_time 1 flows all.enough;
+      none_lacks = none_lacks d.overhead d.cycle_time 1 flows all.enough;
       in_time = all_in_time (latencies_of d (held_in d placed.entries 0) (deadlines_of flows)) there;
     }
 
 -- the streams of a plan are all granted
-planned_granted : SealsAreCounted → (network : NetworkDomain) (streams : List SettledStream) (d : Domain) (flows : List FlowText)
-    (plan : IsPlanned network streams d flows) →
+planned_granted : SealsAreCounted → (network : NetworkDomain) (streams : List SettledStream) (search : Search) (d : Domain) (flows : List FlowText)
+    (plan : IsPlanned network streams search d flows) →
     AreAllGranted plan.placed.domain [] streams (flows_placed plan.placed.domain.cycle_time streams plan.placed.outcomes) plan.placed.entries
-planned_granted counted network streams d flows plan =
+planned_granted counted network streams search d flows plan =
     let placed = plan.placed in
     let good = neither (first_unplaced streams placed.outcomes) (first_late (latencies_placed streams placed)) plan.good in
-    all_granted placed.domain streams [] placed.entries placed.outcomes counted good.0 plan.are_placed.placed_are
+    (tried_known network streams search.tries plan.cycle_time placed plan.are_placed).granted counted good.0
 
-pub plan_granted : SealsAreCounted → (network : NetworkDomain) (streams : List SettledStream) (d : Domain) (flows : List FlowText) →
-    IsPlanned network streams d flows → AreGranted d [] (map asked_in flows)
-plan_granted counted network streams d flows plan =
+pub plan_granted : SealsAreCounted → (network : NetworkDomain) (streams : List SettledStream) (search : Search) (d : Domain) (flows : List FlowText) →
+    IsPlanned network streams search d flows → AreGranted d [] (map asked_in flows)
+plan_granted counted network streams search d flows plan =
     subst₂ (λ (there : Domain) (those : List FlowText). AreGranted there [] (map asked_in those)) (sym plan.domain_is) (sym plan.flows_are)
-    (planned_granted counted network streams d flows plan).granted
+    (planned_granted counted network streams search d flows plan).granted
 
-pub told_plan_is_admitted : SealsAreCounted → ToldPlanIsAdmitted
-told_plan_is_admitted counted network streams d flows plan =
+pub written_plan_is_admitted : SealsAreCounted → WrittenPlanIsAdmitted
+written_plan_is_admitted counted network streams search d flows plan =
     let placed = plan.placed in
     let good = neither (first_unplaced streams placed.outcomes) (first_late (latencies_placed streams placed)) plan.good in
-    let all = planned_granted counted network streams d flows plan in
+    let all = planned_granted counted network streams search d flows plan in
     subst (λ (there : Domain). IsSoundPlan streams there flows) (sym plan.domain_is)
     (subst (λ (those : List FlowText). IsSoundPlan streams placed.domain those) (sym plan.flows_are) (sound_of streams placed all good.1))

@@ -7,7 +7,7 @@ use Rattle.cqf_model.specs.declared.topology.Row.{Row}
 use Rattle.cqf_model.specs.Domain.{Domain, budget}
 use Rattle.cqf_model.specs.History.{Asked, held_in, seals}
 use Rattle.cqf_admission.specs.Costs.{most_cost}
-use Rattle.cqf_network.specs.NetworkDomain.{NetworkDomain, domain_at, longest_guard}
+use Rattle.cqf_network.specs.NetworkDomain.{NetworkDomain, domain_at}
 use Rattle.cqf_traffic.specs.FlowsText.{FlowText}
 use Rattle.cqf_traffic.specs.TrafficText.{TrafficText}
 use Rattle.cqf_network.specs.declared.pacing.Pacing.{Pacing}
@@ -16,7 +16,7 @@ use Rattle.cqf_program_plans.specs.Latency.Text.{is_not_sure, latencies_of}
 use Rattle.cqf_program_placing.specs.declared.faults.PlanFault.TheVariants as fault
 use Rattle.cqf_program_placing.specs.Placing.{ArePlaced, PlacedOr, PlacedStreams, Placed, Unplaced}
 use Rattle.cqf_program_placing.specs.Settled.{SettledStream}
-use Rattle.cqf_program_placing.specs.Turns.{is_in_step}
+use Rattle.cqf_program_placing.specs.ActiveCycles.{is_in_step}
 use Rattle.cqf_program_planning.specs.declared.candidates.Candidate.{Candidate}
 use Rattle.cqf_program_planning.specs.declared.candidates.CandidateFault.{CandidateFault}
 use Rattle.cqf_program_planning.specs.declared.candidates.CandidateFault.TheVariants as shut
@@ -28,14 +28,14 @@ abbrev pub traffic_by : ℕ → Pacing → ℕ → TrafficText → TrafficText
 traffic_by cycle_time pacing phase t =
     if is_in_step cycle_time pacing t then record t { offset = phase * cycle_time + t.offset % cycle_time } else t
 
-abbrev pub traffic_told : ℕ → SettledStream → ℕ → Option TrafficText
-traffic_told cycle_time stream phase = option_map (traffic_by cycle_time stream.pacing phase) stream.traffic
+abbrev pub traffic_written : ℕ → SettledStream → ℕ → Option TrafficText
+traffic_written cycle_time stream phase = option_map (traffic_by cycle_time stream.pacing phase) stream.traffic
 
 -- a stream that is placed, as the plan has it: with its deadline and its traffic
 abbrev pub flow_of : ℕ → SettledStream → Asked → FlowText
 flow_of cycle_time stream asked = (
   (record { name = asked.name; octets = asked.octets; every = asked.every; phase = asked.phase; paths = asked.paths }, stream.deadline),
-  traffic_told cycle_time stream asked.phase,
+  traffic_written cycle_time stream asked.phase,
 )
 
 -- those of some streams that are placed, each with its request
@@ -130,16 +130,3 @@ shut_candidate cycle_time =
 pub record ArePlacedAt (network : NetworkDomain) (streams : List SettledStream) (cycle_time : ℕ) (placed : PlacedStreams) : Type 0 where
   pub domain : placed.domain ≡ domain_at network cycle_time
   pub placed_are : ArePlaced streams placed
-
--- the verdict on a candidate
-pub record IsJudgedBy (network : NetworkDomain) (streams : List SettledStream) (cycle_time : ℕ) (candidate : Candidate) : Type 0 where
-  pub shut : cycle_time ≤ longest_guard network → candidate ≡ shut_candidate cycle_time
-  pub open_to : longest_guard network < cycle_time → (placed : PlacedStreams) × ArePlacedAt network streams cycle_time placed × (candidate ≡ candidate_of streams placed)
-
--- the verdicts on some candidates, in their order
-abbrev pub AreJudgedBy : NetworkDomain → List SettledStream → List ℕ → List Candidate → Type 0
-AreJudgedBy network streams [] [] = Unit {0}
-AreJudgedBy network streams [] (candidate ∷ more) = ⊥
-AreJudgedBy network streams (cycle_time ∷ cycles) [] = ⊥
-AreJudgedBy network streams (cycle_time ∷ cycles) (candidate ∷ more) =
-    IsJudgedBy network streams cycle_time candidate × AreJudgedBy network streams cycles more

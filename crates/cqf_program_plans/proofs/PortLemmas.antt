@@ -25,9 +25,9 @@ AreOfferable-read arrivals are = record {
 -- arrivals that can be offered are those that a port takes
 pub AreTaken-offerable : (arrivals : List Arrival) → AreOfferable arrivals → AreTaken arrivals
 AreTaken-offerable arrivals are = record {
-  classes = λ place inside. are.classes place no_arrival inside;
-  early = λ place inside. are.early place no_arrival inside;
-  by_class = λ place later before inside same. are.in_order place later no_arrival before inside;
+  classes = λ index inside. are.classes index no_arrival inside;
+  early = λ index inside. are.early index no_arrival inside;
+  by_class = λ index later before inside same. are.in_order index later no_arrival before inside;
 }
 
 -- what a port has started can be written

@@ -24,8 +24,8 @@ fn put_start_at<W: Sink>(
     requires early { start.1 < 2 ^ 63 }
     ensures { Puts W.contents writer.old writer.new (line_of_fields (start_fields (ticks_of_octet rate) (start_of arrivals.now start))) }
 {
-    let (place, instant) = start;
-    let arrival = arrivals[place];
+    let (index, instant) = start;
+    let arrival = arrivals[index];
     let started = Start {
         start: Nanos(instant),
         class: arrival.class,

@@ -4,7 +4,7 @@ ghost use Rattle.std.specs.List.{list_any};
 ghost use Rattle.cqf_lists.specs.Lists.{each_below};
 ghost use Rattle.cqf_output.specs.Writer.{Puts};
 ghost use Rattle.cqf_program_tc.specs.Text.{choice_line, choice_text, common_words, gate_command, given_text, given_words, link_note, link_text, list_command};
-ghost use Rattle.cqf_program_tc.specs.Text.{making_text, offload_notes, port_end, port_words, removing_text, software_notes};
+ghost use Rattle.cqf_program_tc.specs.Text.{less_notes, making_text, notes_by, offload_notes, port_end, port_words, removing_text, software_notes, whole_notes};
 ghost use Rattle.cqf_program_tc.specs.Text.{last_gate, multiple, name_text, names_text, no_gates_text, notes_text, old_gates_text};
 ghost use Rattle.cqf_program_tc.specs.Text.{opening_text, tc_gate_text, usage_text};
 ghost use Rattle.cqf_program_tc.specs.Bridge.{has_own_guard};
@@ -54,15 +54,15 @@ pub(crate) fn put_usage<W: Sink>(writer: &mut Writer<'_, W>, domain: &Domain, ro
     );
     writer.put(b"#             done; interfaces are then looked up only if IP is set\n");
     writer.put(
-        b"# A variable has _ for each - of a name. Where an earlier link or stream has the same, _N and the own number follow, as in\n",
+        b"# A variable has _ for each - of a name. If an earlier link or stream has the same, _N with its own number follows, as in\n",
     );
     writer.put(b"# OUT_A_B_N7; each variable is explained where it is used.\n");
     writer.put(
-        b"# An interface has one neighbour. So OUT_A_B and IN_B_A may be the same, TALKER_R and TALKER_S where one talker has both\n",
+        b"# An interface has one neighbour. So OUT_A_B and IN_B_A may be the same, TALKER_R and TALKER_S if one talker has both\n",
     );
-    writer.put(b"# streams, OUT_A_B and TALKER_S where B is the talker of S; no others may.\n");
+    writer.put(b"# streams, OUT_A_B and TALKER_S if B is the talker of S; no others may.\n");
     writer.put(
-        b"# All of this is checked before anything is changed. Where a command fails then, what this run has set is taken back; what it\n",
+        b"# All of this is checked before anything is changed. If a command fails then, what this run has set is taken back; what it\n",
     );
     writer.put(
         b"# replaced is gone.\n# Forwarding is yours: a stream may leave a bridge by the interfaces that its line here names, and by no others.\n",
@@ -74,7 +74,7 @@ fn put_offload_notes<W: Sink>(writer: &mut Writer<'_, W>)
     ensures { Puts W.contents writer.old writer.new offload_notes }
 {
     writer.put(
-        b"# A gate in software doesn't give frames the class in its list (IPV), so the filters are for hardware alone (skip_sw). Where\n",
+        b"# A gate in software doesn't give frames the class in its list (IPV), so the filters are for hardware alone (skip_sw). If\n",
     );
     writer.put(
         b"# an interface can't offload taprio, the script fails, and it undoes what it has set.\n",
@@ -104,9 +104,9 @@ fn put_kind_notes<W: Sink>(writer: &mut Writer<'_, W>, software: bool)
     }
 }
 
-/// Puts the notes on the gates of Linux.
-pub(crate) fn put_notes<W: Sink>(writer: &mut Writer<'_, W>, software: bool)
-    ensures { Puts W.contents writer.old writer.new (notes_text software) }
+/// Puts the notes on what gates count, if they count whole frames.
+fn put_whole_notes<W: Sink>(writer: &mut Writer<'_, W>)
+    ensures { Puts W.contents writer.old writer.new whole_notes }
 {
     writer.put(
         b"# Octets of a gate are those of whole frames, from the destination address to the FCS. Linux counts 22 fewer a frame, without\n",
@@ -114,13 +114,50 @@ pub(crate) fn put_notes<W: Sink>(writer: &mut Writer<'_, W>, software: bool)
     writer.put(
         b"# the header's 14, the tag's 4 and the FCS's 4: frames of 1500, 1500 and 64 octets pass a gate of 3000. One that it drops counts.\n",
     );
+}
+
+/// Puts the notes on what gates count, if they don't count whole frames.
+fn put_less_notes<W: Sink>(writer: &mut Writer<'_, W>)
+    ensures { Puts W.contents writer.old writer.new less_notes }
+{
+    writer.put(
+        b"# Octets of a gate are those of frames, from the destination address to the FCS, without those of gate-overhead. Linux leaves out\n",
+    );
+    writer.put(
+        b"# 22 of each: the header's 14, the tag's 4 and the FCS's 4. A frame that it drops counts.\n",
+    );
+}
+
+/// Puts the notes on what gates count.
+fn put_counting_notes<W: Sink>(writer: &mut Writer<'_, W>, whole: bool)
+    ensures { Puts W.contents writer.old writer.new (if whole then whole_notes else less_notes) }
+{
+    if whole {
+        put_whole_notes(writer);
+    } else {
+        put_less_notes(writer);
+    }
+}
+
+/// Puts the notes on the gates of Linux.
+fn put_notes_by<W: Sink>(writer: &mut Writer<'_, W>, whole: bool, software: bool)
+    ensures { Puts W.contents writer.old writer.new (notes_by whole software) }
+{
+    put_counting_notes(writer, whole);
     put_kind_notes(writer, software);
     writer.put(
         b"# What the bridge itself sends, as IPv6 neighbour discovery and MLD, may have class 7: keep it off these interfaces.\n",
     );
     writer.put(
-        b"# Where CHAIN isn't 0, only a filter of yours in chain 0 with goto chain CHAIN leads frames to the gates.\n",
+        b"# If CHAIN isn't 0, only a filter of yours in chain 0 with goto chain CHAIN leads frames to the gates.\n",
     );
+}
+
+/// Puts the notes on the gates of Linux, for a domain.
+pub(crate) fn put_notes<W: Sink>(writer: &mut Writer<'_, W>, domain: &Domain, software: bool)
+    ensures { Puts W.contents writer.old writer.new (notes_text domain.now software) }
+{
+    put_notes_by(writer, domain.overhead() == 0, software);
 }
 
 /// Puts the name of a bridge, after a space.
@@ -147,7 +184,7 @@ pub(crate) fn put_opening<W: Sink>(writer: &mut Writer<'_, W>, domain: &Domain)
     writer.put(b"set -euf\nexport LC_ALL=C\ntc=${TC:-tc} ip=${IP:-} chain=${CHAIN:-0} bridges=\"");
     put_names(writer, domain);
     writer.put(
-        b" \"\nused=\"\" ways=\"\" old=\"\" streams=\"\" gates=\"\" undo=\"\" object=\"\"\n\n# ends the script where nothing is changed yet\nrefuse() {\n",
+        b" \"\nused=\"\" ways=\"\" old=\"\" streams=\"\" gates=\"\" undo=\"\" object=\"\"\n\n# ends the script before anything is changed\nrefuse() {\n",
     );
     writer.put(b"    printf '%s\\n' \"$*\" >&2\n    exit 1\n}\n\n");
 }

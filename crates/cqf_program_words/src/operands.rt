@@ -1,16 +1,18 @@
 //! The files that the words of a command line name.
-ghost use Rattle.std.specs.Prelude.{◌≡◌, IfErr, IfOk, OnErr, OnOk, codes, false, map, string_bytes, true};
-ghost use Rattle.cqf_output.specs.Stops.{EndsWith, line_of};
-ghost use Rattle.cqf_program_words.specs.Operands.{behind_word, ends_options, is_option, is_standard, is_standard_twice, names_file};
+ghost use Rattle.std.specs.Prelude.{◌≡◌, IfErr, IfOk, None, OnOk, Some, map, string_bytes};
+ghost use Rattle.clap.specs.Words.{Text};
+ghost use Rattle.cqf_output.specs.Stops.{EndsWith};
+ghost use Rattle.cqf_program_words.specs.Operands.{after_word, ends_options, files_fault, is_option, is_standard, is_standard_twice, names_file, takes_files};
 ghost use Rattle.cqf_program_words.specs.Operands.{split_of, split_so_far, with_word};
 
+use crate::Job;
 use crate::commands::{is_command, wants_value};
 use cqf_output::{Stop, USAGE};
 use std::alloc::{AllocError, Global};
 
 /// What the next word is read as.
 #[derive(Clone, Copy, Debug, PartialEq, Eq)]
-enum WordPlace {
+enum WordPosition {
     /// The first word: a command or something else.
     Start,
     /// An option or a file.
@@ -18,7 +20,7 @@ enum WordPlace {
     /// The value of the option before it.
     Value,
     /// A file, regardless of its form.
-    Behind,
+    After,
     /// A word of no command that takes files.
     Other,
 }
@@ -28,7 +30,7 @@ enum WordPlace {
 pub struct Operands<'a> {
     words: Vec<&'a str>,
     files: Vec<&'a str>,
-    place: WordPlace,
+    position: WordPosition,
 }
 
 /// Returns whether the word is the one that ends the options.
@@ -48,19 +50,19 @@ fn is_option(word: &str) -> bool
     }
 }
 
-impl WordPlace {
+impl WordPosition {
     /// Returns what the word after this one is read as.
-    fn behind(self, word: &str) -> WordPlace
-        ensures { result ≡ behind_word self word.now }
+    fn following(self, word: &str) -> WordPosition
+        ensures { result ≡ after_word self word.now }
     {
         match self {
-            WordPlace::Start if is_command(word) => WordPlace::Free,
-            WordPlace::Start => WordPlace::Other,
-            WordPlace::Free if wants_value(word) => WordPlace::Value,
-            WordPlace::Free if ends_options(word) => WordPlace::Behind,
-            WordPlace::Free | WordPlace::Value => WordPlace::Free,
-            WordPlace::Behind => WordPlace::Behind,
-            WordPlace::Other => WordPlace::Other,
+            WordPosition::Start if is_command(word) => WordPosition::Free,
+            WordPosition::Start => WordPosition::Other,
+            WordPosition::Free if wants_value(word) => WordPosition::Value,
+            WordPosition::Free if ends_options(word) => WordPosition::After,
+            WordPosition::Free | WordPosition::Value => WordPosition::Free,
+            WordPosition::After => WordPosition::After,
+            WordPosition::Other => WordPosition::Other,
         }
     }
 
@@ -69,9 +71,9 @@ impl WordPlace {
         ensures { result ≡ names_file self word.now }
     {
         match self {
-            WordPlace::Free => !is_option(word),
-            WordPlace::Behind => true,
-            WordPlace::Start | WordPlace::Value | WordPlace::Other => false,
+            WordPosition::Free => !is_option(word),
+            WordPosition::After => true,
+            WordPosition::Start | WordPosition::Value | WordPosition::Other => false,
         }
     }
 }
@@ -95,12 +97,12 @@ impl<'a> Operands<'a> {
     fn put(&mut self, word: &'a str) -> Result<(), AllocError>
         ensures { OnOk result (split_so_far self.new ≡ with_word (split_so_far self.old) word.now) }
     {
-        if self.place.names_file(word) {
+        if self.position.names_file(word) {
             self.files.push(word)?;
         } else {
             self.words.push(word)?;
         }
-        self.place = self.place.behind(word);
+        self.position = self.position.following(word);
         Ok(())
     }
 }
@@ -113,7 +115,7 @@ pub fn split_operands<'a>(alloc: Global, words: &[&'a str]) -> Result<Operands<'
     let mut operands = Operands {
         words: Vec::new(alloc),
         files: Vec::new(alloc),
-        place: WordPlace::Start,
+        position: WordPosition::Start,
     };
     for word in words {
         operands.put(word)?;
@@ -149,18 +151,37 @@ fn is_standard_twice(files: &[&str]) -> bool
     files.iter().filter(|file| is_standard(file)).count() >= 2
 }
 
-/// Checks that at most one of the files is standard input, whose text can be read only once. Returns `Err` with status 2 and a line that
-/// says so if two are.
-pub fn check_files(alloc: Global, files: &[&str]) -> Result<(), Stop>
-    ensures ok { OnOk result (is_standard_twice (map (λ file. file.now) files.now) ≡ false) }
-    ensures twice { OnErr result (is_standard_twice (map (λ file. file.now) files.now) ≡ true) }
-    ensures err { IfErr result (EndsWith 2 (line_of (codes "cqf: words: - is named twice: standard input can be read only once"))) }
+/// Returns whether the job takes this number of files: `diff` takes two, any other job takes any number.
+fn takes_files(job: &Job, count: usize) -> bool
+    ensures { result ≡ takes_files job.now count }
+{
+    match *job {
+        Job::Diff { .. } => count == 2,
+        _ => true,
+    }
+}
+
+/// Checks that a job takes these files, at least one.
+///
+/// # Errors
+/// With status 2 and a line if standard input is named twice, since it can be read only once; or if the job takes two files and there are
+/// more or fewer. With status 3 if an allocation for the line fails.
+pub fn check_files(alloc: Global, job: &Job, files: &[&str]) -> Result<(), Stop>
+    ensures ok { OnOk result (files_fault job.now (map (λ file. file.now) files.now) ≡ None) }
+    ensures err { IfErr result (λ stop. (line : Text) × (files_fault job.now (map (λ file. file.now) files.now) ≡ Some line) × EndsWith 2 line stop) }
 {
     if is_standard_twice(files) {
         return Err(Stop::with_line(
             alloc,
             USAGE,
             "cqf: words: - is named twice: standard input can be read only once\n",
+        ));
+    }
+    if !takes_files(job, files.len()) {
+        return Err(Stop::with_line(
+            alloc,
+            USAGE,
+            "cqf: words: diff takes two files: cqf diff OLD NEW\n",
         ));
     }
     Ok(())

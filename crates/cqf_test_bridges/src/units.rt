@@ -81,7 +81,7 @@ const CYCLES: &[(u64, u32)] = &[(0, 0), (124_999, 0), (125_000, 1)];
 #[test]
 fn reservations_cost_their_octets_and_the_gaps(rt: HostRuntime) {
     for (reserved, octets) in COSTS {
-        assert!(rt; cost(Octets(*reserved)) == Octets(*octets));
+        assert!(rt; cost(Octets(0), Octets(*reserved)) == Octets(*octets));
     }
 }
 

@@ -386,14 +386,14 @@ fn ends_in(asked: &Admission, entries: usize, reply: Reply) -> bool {
 }
 
 /// Returns whether an entry is at this index of a full history.
-fn is_of_full(place: usize, entry: &Entry) -> bool {
+fn is_of_full(index: usize, entry: &Entry) -> bool {
     match &entry.call {
         Call::Admit(_) | Call::AdmitPaced(_) => false,
         Call::Withdraw(name) => {
             let is_refused = entry.reply == Reply::Refused(Refused::NotHeld);
-            is_refused && place < 100_000 && name.as_str() == "q"
+            is_refused && index < 100_000 && name.as_str() == "q"
         }
-        Call::Seal => entry.reply == Reply::Sealed && place >= 100_000,
+        Call::Seal => entry.reply == Reply::Sealed && index >= 100_000,
     }
 }
 
@@ -404,7 +404,7 @@ fn is_full(asked: &Admission) -> bool {
         && entries
             .iter()
             .enumerate()
-            .all(|(place, entry)| is_of_full(place, entry))
+            .all(|(index, entry)| is_of_full(index, entry))
 }
 
 /// Returns whether a step has its result.
@@ -457,9 +457,9 @@ fn first_wrong(alloc: Global, text: &str, cases: &[Case]) -> Option<usize> {
     let Ok(domain) = Domain::read(alloc, text.as_bytes()) else {
         return Some(0);
     };
-    for place in 0..cases.len() {
-        if !comes_out(alloc, &domain, &cases[place]) {
-            return Some(place);
+    for index in 0..cases.len() {
+        if !comes_out(alloc, &domain, &cases[index]) {
+            return Some(index);
         }
     }
     None
@@ -500,7 +500,7 @@ const BEFORE: &[Look] = &[
 ];
 
 /// The queries to that of cycle 1, from which on x is withdrawn, and y is held.
-const BEHIND: &[Look] = &[
+const AFTER: &[Look] = &[
     Look::Rows(2),
     Look::Named("x", 0, true),
     Look::Named("x", 1, false),
@@ -515,7 +515,7 @@ fn stay(alloc: Global, asked: &mut Admission, table: Table) -> bool {
     };
     let goes_on = is_answer(asked.withdraw(0, "x"), Ok((0, 1)))
         && admits(alloc, asked, &("y", 64, WHOLE), Ok((1, 1)))
-        && seals(alloc, asked, 1, BEHIND);
+        && seals(alloc, asked, 1, AFTER);
     let kept = is_table(&copy, 0, BEFORE) && is_table(&table, 0, BEFORE);
     drop(table);
     goes_on && kept && is_table(&copy, 0, BEFORE)

@@ -675,7 +675,7 @@ const PACED: &[(&str, &str, &str)] = &[
 ];
 
 #[test]
-fn cycles_of_streams_are_read_behind_octets(rt: HostRuntime) {
+fn cycles_of_streams_are_read_after_octets(rt: HostRuntime) {
     for (text, wanted, unpaced) in PACED {
         assert!(rt; is_refused_so(rt.alloc(), text, wanted, unpaced), "{text}");
     }

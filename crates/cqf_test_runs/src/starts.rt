@@ -1,6 +1,6 @@
 //! Starts in the runs of small histories, computed by hand.
 use crate::cases::{Case, first_wrong};
-use crate::ways::Wanted;
+use crate::paths::Wanted;
 use cqf_model::Reason;
 use cqf_test_fixtures::{fork, line};
 

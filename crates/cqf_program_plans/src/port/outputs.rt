@@ -16,7 +16,7 @@ pub struct PortOutput {
 impl Model for PortOutput {
     ghost use Rattle.std.specs.Prelude.{map};
     ghost use Rattle.cqf_port.specs.PortState.{start_of};
-    ghost use Rattle.cqf_program_plans.specs.Port.Told.{StartsAtRate};
+    ghost use Rattle.cqf_program_plans.specs.Port.Written.{StartsAtRate};
     ghost use Rattle.cqf_program_scenario.specs.PortLines.{AreTellable};
 
     ghost Value = { StartsAtRate };
