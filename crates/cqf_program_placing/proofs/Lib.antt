@@ -5,6 +5,10 @@ pub mod Stepping
 pub mod Emptiest
 pub mod Loads
 pub mod HopLemmas
+pub mod ApartLemmas
+pub mod PartLemmas
+pub mod NeighborLemmas
+pub mod ShutLemmas
 pub mod AskLemmas
 pub mod IndexLemmas
 pub mod Chosen
