@@ -122,6 +122,15 @@ attend() {
     return "$status"
 }
 
+# calls a function when this shell ends, also if a signal ends it
+at_end() {
+    # shellcheck disable=SC2064
+    trap "$1" EXIT
+    trap 'exit 129' HUP
+    trap 'exit 130' INT
+    trap 'exit 143' TERM
+}
+
 # runs a command without the lock, so that none of its processes holds the lock if this shell is killed
 unlocked() {
     exec 9>&-
@@ -198,10 +207,7 @@ build() {
     fi
     making=$kept/$name
     want_files "$making" "$making.lock" "$making.next" "$making.sources"
-    trap clean_up EXIT
-    trap 'exit 129' HUP
-    trap 'exit 130' INT
-    trap 'exit 143' TERM
+    at_end clean_up
     exec 9>"$making.lock"
     ! attend python3 -c "$LOCK" || sweep
     find_hash
@@ -226,7 +232,7 @@ build() {
 # makes the quick program from a copy of the sources
 make_quick() {
     echo "cqf: building the program unproved, optimised and with run-time checks, in three to four minutes; ./prove builds the proved one" >&2
-    (cd "$1" && TMPDIR=${1%/*} "$top/build/quick" "$2" >&2) && [ -x "$2" ] && return
+    (cd "$1" && TMPDIR=${1%/*} "$top/build/quick.py" "$2" >&2) && [ -x "$2" ] && return
     echo "cqf: the build failed" >&2
     return 1
 }

@@ -1,5 +1,5 @@
 # Completes the words of cqf in bash.
-# Made by build/completions from the program's table of commands; changes here are lost.
+# Made by build/completions.py from the program's table of commands; changes here are lost.
 
 _cqf() {
     local IFS=$' \t\n' word=${COMP_WORDS[COMP_CWORD]} before='' own='' choices='' place option
@@ -12,12 +12,12 @@ _cqf() {
         before=${COMP_WORDS[COMP_CWORD - 2]}
     fi
     if ((COMP_CWORD == 1)); then
-        mapfile -t COMPREPLY < <(compgen -W 'port line compile load latency run report deliveries check summary hops offers plan help --help --version' -- "$word")
+        mapfile -t COMPREPLY < <(compgen -W 'port line compile load latency run report deliveries check summary hops offers plan diff help --help --version' -- "$word")
         return
     fi
     case ${COMP_WORDS[1]} in
     help)
-        ((COMP_CWORD > 2)) || mapfile -t COMPREPLY < <(compgen -W 'port line compile load latency run report deliveries check summary hops offers plan' -- "$word")
+        ((COMP_CWORD > 2)) || mapfile -t COMPREPLY < <(compgen -W 'port line compile load latency run report deliveries check summary hops offers plan diff' -- "$word")
         return
         ;;
     port) own='--until --rate --help' ;;
@@ -32,7 +32,8 @@ _cqf() {
     summary) own='--cycles --large --help' ;;
     hops) own='--cycles --stream --frame --large --help' ;;
     offers) own='--cycles --seed --large --help' ;;
-    plan) own='--table --cycle --verbose --large --help' ;;
+    plan) own='--table --cycle --tries --best --without --verbose --large --help' ;;
+    diff) own='-q --quiet --large --help' ;;
     *) return ;;
     esac
     for ((place = 2; place < COMP_CWORD; place++)); do
@@ -45,14 +46,14 @@ _cqf() {
     case $before in
     --rate) choices='10 100 1000 2500 5000 10000 25000 40000 100000' ;;
     --format) choices='list tc env json' ;;
-    --until|--cycles|--bridge|--stream|--frame|--seed|--cycle) return ;;
+    --until|--cycles|--bridge|--stream|--frame|--seed|--cycle|--tries|--without) return ;;
     esac
     if [[ $choices ]]; then
         mapfile -t COMPREPLY < <(compgen -W "$choices" -- "$word")
     elif [[ $word == -* ]]; then
-        # each option is given once
+        # each option is given once, unless it may be given again
         for option in $own; do
-            [[ " ${COMP_WORDS[*]:2:COMP_CWORD-2} " == *" $option "* ]] || choices+=" $option"
+            [[ " ${COMP_WORDS[*]:2:COMP_CWORD-2} " == *" $option "* && ' --without ' != *" $option "* ]] || choices+=" $option"
         done
         mapfile -t COMPREPLY < <(compgen -W "$choices" -- "$word")
     else

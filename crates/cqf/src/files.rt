@@ -45,7 +45,7 @@ fn stop_of_error(alloc: Global, name: &str, error: &io::Error) -> Stop {
     }
 }
 
-/// Returns the end after a read of the file of a name failed: the next read says why, if it fails too.
+/// Returns the end after a read of the file of a name failed. It has the error of one more read, if that fails too.
 fn stop_of_read(alloc: Global, name: &str, file: &mut File) -> Stop {
     match file.read(&mut [0]) {
         Ok(_) => stop_of_file(alloc, name, "a read failed"),
@@ -135,15 +135,15 @@ fn sources_of<'t>(
 /// Returns the cycle times that the words of `plan` give, in nanoseconds; none for other words. Returns `None` if an allocation fails.
 fn cycle_times_of(alloc: Global, job: &Job) -> Option<Vec<u32>> {
     match *job {
-        Job::Plan {
-            given: Some(candidates),
-            ..
-        } => candidates.list(alloc).ok(),
+        Job::Plan { ref options } => match options.given {
+            Some(candidates) => candidates.list(alloc).ok(),
+            None => Some(Vec::new(alloc)),
+        },
         _ => Some(Vec::new(alloc)),
     }
 }
 
-/// Writes the explanation of the line of a refusal; nothing if there is nothing to say, or if memory lacks.
+/// Writes the explanation of the line of a refusal; nothing if it has none, or if an allocation fails.
 fn explain(rt: &HostRuntime, given: &FilesInput<'_>, line: &[u8]) {
     let Some(command) = given.operands.words().first() else {
         return;
@@ -167,7 +167,7 @@ fn explain(rt: &HostRuntime, given: &FilesInput<'_>, line: &[u8]) {
     }
 }
 
-/// Writes the explanation of the line `cqf: parts` for a standard input that is empty, for words that name no files.
+/// Writes the explanation of the line `cqf: parts`, for words that name no files if standard input is empty.
 pub(crate) fn explain_nothing<F: Sink>(alloc: Global, words: &[&str], faults: &mut Told<F>) {
     let Some(command) = words.first() else {
         return;
@@ -194,8 +194,8 @@ pub(crate) fn explain_nothing<F: Sink>(alloc: Global, words: &[&str], faults: &m
     }
 }
 
-/// Returns the notes on a plan, if the run doesn't refuse it; none if memory lacks. They are made before the run, which allocates no memory
-/// once its output has begun.
+/// Returns the notes on a plan, which are written unless the run refuses it; none if an allocation fails. They are made before the run, which
+/// allocates no memory once its output has begun.
 fn notes_of(given: &FilesInput<'_>) -> Option<Vec<u8>> {
     let command = given.operands.words().first()?;
     let Ok(sources) = sources_of(given.alloc, given.operands.files(), given.texts) else {
@@ -207,9 +207,18 @@ fn notes_of(given: &FilesInput<'_>) -> Option<Vec<u8>> {
     }
 }
 
-/// Returns whether a run that ended with this status and line has accepted its plan: it was done, or says how deliveries or latencies are.
+/// Returns whether a run that ended with this status and line has accepted its plan: its status is 0, it has written what differs, or its line
+/// is about deliveries or latencies.
 fn has_accepted(status: u8, line: &[u8]) -> bool {
-    status == DONE || line.starts_with(b"cqf: check: ") || line.starts_with(b"cqf: latency: ")
+    status == DONE
+        || is_difference(status, line)
+        || line.starts_with(b"cqf: check: ")
+        || line.starts_with(b"cqf: latency: ")
+}
+
+/// Returns whether a run with this status and line has written what differs: it is refused without a line.
+fn is_difference(status: u8, line: &[u8]) -> bool {
+    status == REFUSED && line.is_empty()
 }
 
 /// Writes notes, if there are any.
@@ -250,12 +259,12 @@ fn run(
 /// Returns whether notes on the plan that a job makes are wanted: the job asks for them, or standard error is a terminal.
 fn wants_plan_notes<F: IsTerminal>(job: &Job, faults: &F) -> bool {
     match *job {
-        Job::Plan { table, verbose, .. } => !table && (verbose || faults.is_terminal()),
+        Job::Plan { ref options } => { !options.table && (options.verbose || faults.is_terminal()) }
         _ => false,
     }
 }
 
-/// Returns the notes on a plan that was made; none if memory lacks.
+/// Returns the notes on a plan that was made; none if an allocation fails.
 fn plan_notes_of(given: &FilesInput<'_>, plan: &[u8]) -> Option<Vec<u8>> {
     let Ok(sources) = sources_of(given.alloc, given.operands.files(), given.texts) else {
         return None;
@@ -263,8 +272,8 @@ fn plan_notes_of(given: &FilesInput<'_>, plan: &[u8]) -> Option<Vec<u8>> {
     plan_notes(given.alloc, given.limits, sources.as_slice(), plan).ok()
 }
 
-/// The same as [`run`] for a plan on which notes are wanted. They are made of the plan before it is written, since no memory is allocated once
-/// its output has begun.
+/// Runs the engine as [`run`] does, for a plan on which notes are wanted. The notes are made before the plan is written, since no memory is
+/// allocated once output has begun.
 fn run_plan(
     rt: &HostRuntime,
     threads: &(impl Threads + Wait + Sync),
@@ -338,7 +347,7 @@ fn run_front(
         return end(rt, &Stop::memory(alloc));
     };
     write_out(&mut Told::new(rt.stderr()), line.as_slice());
-    if status == REFUSED {
+    if status == REFUSED && !line.is_empty() {
         explain(rt, given, line.as_slice());
     }
     if has_accepted(status, line.as_slice()) {
@@ -361,7 +370,7 @@ pub(crate) fn run_files(
         Err(stop) => return end(rt, &stop),
     };
     let names = operands.files();
-    if let Err(stop) = check_files(alloc, names) {
+    if let Err(stop) = check_files(alloc, &job, names) {
         return end(rt, &stop);
     }
     let words = operands.words();
@@ -385,7 +394,7 @@ pub(crate) fn run_files(
     }
 }
 
-/// The same, after the files were read: there are as many texts as names.
+/// Runs words that name files, after the files were read. There are as many texts as names.
 fn run_texts(
     rt: &HostRuntime,
     threads: &(impl Threads + Wait + Sync),
@@ -410,7 +419,8 @@ fn refuse(rt: &HostRuntime, given: &FilesInput<'_>, stop: &Stop) -> ExitCode {
     ended
 }
 
-/// The same if the line of a script may be one of a file of calls.
+/// Prints the end and explains a refusal, as [`refuse`] does. If its line is about a line of the script that is made from a file of calls, it
+/// gets the file's line number.
 fn refuse_made(rt: &HostRuntime, given: &FilesInput<'_>, front: &Front, stop: Stop) -> ExitCode {
     let Stop { status, text } = stop;
     match line_told(given.alloc, front, status, text) {

@@ -1,7 +1,7 @@
 //! The program of cyclic queuing and forwarding: `main` reads the files that its words name, or standard input, and passes the input that
 //! they make to the engine (`cqf_program_engine`). The line of a refusal is followed by its explanation.
 //!
-//! `cqf --help` lists the commands, and the help of each says what it reads and writes.
+//! `cqf --help` lists the commands. The help of each command has what it reads and writes.
 //!
 //! If no word follows the program's name, the words are in the first line of the input:
 //!

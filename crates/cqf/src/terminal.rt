@@ -1,19 +1,19 @@
-//! The lines at a terminal.
+//! What the program prints if standard input is a terminal.
 
 use cqf_output::{Sink, Told, write_out};
 use cqf_program_words::read_words;
 use std::alloc::Global;
 use std::io::IsTerminal;
 
-/// Prints that standard input is read now, if it is a terminal.
+/// If standard input is a terminal, prints that it is read now.
 pub(crate) fn hint<I: IsTerminal, F: Sink>(input: &I, faults: &mut Told<F>) {
     if input.is_terminal() {
         write_out(faults, b"cqf: reading standard input to its end\n");
     }
 }
 
-/// Returns the words that are run without files: at a terminal a single empty one if none are given, since nobody wants to type the input
-/// then.
+/// Returns the words that are run without files. If none are given and standard input is a terminal, this is a single empty word, which
+/// shows help, since nobody wants to type the input then.
 pub(crate) fn words_at<'w, I: IsTerminal>(words: &'w [&'w str], input: &I) -> &'w [&'w str] {
     if words.is_empty() && input.is_terminal() {
         &[""]
@@ -22,7 +22,7 @@ pub(crate) fn words_at<'w, I: IsTerminal>(words: &'w [&'w str], input: &I) -> &'
     }
 }
 
-/// Prints the same before words without files are run, if they mean a job; else nothing is read.
+/// Prints it before words without files are run, if they mean a job. For other words nothing is read.
 pub(crate) fn hint_of_words<I: IsTerminal, F: Sink>(
     alloc: Global,
     words: &[&str],

@@ -22,7 +22,7 @@ up_by_pairs {X} key xs pairs i j d le inside =
     ]
 
 -- neither number is below the other if and only if they are equal
-ties_equal : (a b : ℕ) → (not (is_lt (nat_cmp a b)) && not (is_lt (nat_cmp b a))) ≡ (b == a)
+pub ties_equal : (a b : ℕ) → (not (is_lt (nat_cmp a b)) && not (is_lt (nat_cmp b a))) ≡ (b == a)
 ties_equal a b = elim (cases_order a b) [
   | inl same ↦
       let ab : nat_lt a b ≡ false = le-ltb a b (omega arith) in

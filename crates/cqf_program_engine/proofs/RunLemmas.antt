@@ -1,6 +1,6 @@
 -- From the result of each step of a run to the result of the run.
 use Rattle.std.proofs.Common.{◌≡◌, ◌≢◌, ◌⊎◌, ◌≤◌, ◌<◌, ℕ, List, [], ◌∷◌, Bool, true, false, Option, Some}
-use Rattle.std.proofs.Common.{None, length, arith, codes, inl, inr, sym, subst, subst₂, refl, ap, ◌∙◌, map, Bor}
+use Rattle.std.proofs.Common.{None, length, arith, codes, if◌then◌else◌, inl, inr, sym, subst, subst₂, refl, ap, ◌∙◌, ◌==◌, map, Bor}
 use Rattle.std.specs.Str.{IsUtf8}
 use Rattle.std.specs.declared.io.ErrorKind.{ErrorKind}
 use Rattle.std.specs.Io.KnownBytes.{IsAtEnd}
@@ -14,13 +14,14 @@ use Rattle.cqf_program_engine.specs.Edge.{IsHeard, Marks, Reading}
 use Rattle.cqf_output.specs.Edge.{Writing}
 use Rattle.cqf_output.specs.Kinds.{NoKind, SomeKind}
 use Rattle.cqf_program_engine.specs.Run.{first_line, input_of, version_line, words_of, AskForVersion, Ends}
-use Rattle.cqf_program_engine.specs.Run.{EndsByStatus, EndsFaulty, EndsInput, EndsRead, HandsOver, HasCause, HasFault}
-use Rattle.cqf_program_engine.specs.Run.{HasRun, HasWords, most_line, IsBehindWords, IsDone, IsEnd, IsFailure, IsOutput}
+use Rattle.cqf_program_engine.specs.Run.{EndsByStatus, EndsDone, EndsFaulty, EndsInput, EndsRead, HandsOver, HasCause, HasFault}
+use Rattle.cqf_program_engine.specs.Run.{HasRun, HasWords, most_line, IsBehindWords, IsDone, IsEnd, IsFailure, IsOutput, IsResult, is_diff}
 use Rattle.cqf_program_engine.specs.Run.{IsFailedRun, IsMisuse, IsRefusedRun, TellsPlainly}
 use Rattle.cqf_program_engine.specs.Run.{IsRefusal, IsStopped, StopsWithAnswer, IsToldOutput, IsTooLong, IsWithin, most_bytes}
 use Rattle.cqf_program_engine.specs.Run.{FaultIsOfThreads, FaultIsOfThreadsOrOutput, TellsStop, TellsFaultAlone}
 use Rattle.cqf_program_engine.specs.Run.{IsRunOf, IsThreadedRun, LeavesThreads, OnlyThreadsAreLeft, is_threaded}
-use Rattle.cqf_program_engine.specs.Prepared.{Begins}
+use Rattle.cqf_program_engine.specs.Prepared.{Begins, HasResult, HasText, is_of_diff, status_after}
+use Rattle.cqf_program_engine.specs.declared.prepared.PreparedOutput.{PreparedOutput}
 use Rattle.cqf_program_engine.specs.declared.begun.Begun.{Begun}
 use Rattle.cqf_program_engine.specs.declared.begun.Begun.TheVariants.{Ready, Threads}
 use Rattle.cqf_program_engine.specs.declared.begun.ThreadedRun.{ThreadedRun}
@@ -31,7 +32,7 @@ use Rattle.cqf_program_engine.specs.declared.heard.ReadFailure.{ReadFailure}
 use Rattle.cqf_program_engine.specs.declared.heard.ReadFailure.TheVariants.{Memory, Fault}
 use Rattle.cqf_program_words.specs.declared.words.Format.TheVariants as form
 use Rattle.cqf_program_words.specs.declared.words.Job.{Job}
-use Rattle.cqf_program_words.specs.declared.words.Job.TheVariants.{Check, Compile, Deliveries, Hops, Latency, Line, Load, Offers, Plan, Port, Report, Run, Summary}
+use Rattle.cqf_program_words.specs.declared.words.Job.TheVariants.{Check, Compile, Deliveries, Diff, Hops, Latency, Line, Load, Offers, Plan, Port, Report, Run, Summary}
 
 -- given words that mean no job stop the run before anything is read
 pub IsStopped-by_words : (words : List (List ℕ)) (input : Reading) (stop : Stop) → words ≢ [] → input.failed ≡ false → EndsWords words stop
@@ -138,45 +139,27 @@ IsStopped-by_cause words input stop sound at_end (inr (inr (inl misused))) =
 IsStopped-by_cause words input stop sound at_end (inr (inr (inr (inl e)))) = inr (inr (inr (inl e)))
 IsStopped-by_cause words input stop sound at_end (inr (inr (inr (inr e)))) = inr (inr (inr (inr (e.0, inr (sound, at_end, e.1)))))
 
--- a refused input has status 1 or 3
-refusal_statuses : (limits : Limits) (job : Job) (input : List ℕ) (stop : Stop) → IsRefusal limits job input stop → (stop.status ≡ 1) ⊎ (stop.status ≡ 3)
-refusal_statuses limits (Port until rate) input stop h = h.statuses
-refusal_statuses limits (Line cycles) input stop h = h.statuses
-refusal_statuses limits (Compile form.List edge_gates) input stop h = h.statuses
-refusal_statuses limits (Compile (form.Tc is_software) edge_gates) input stop h = h.statuses
-refusal_statuses limits (Compile (form.Env bridge) edge_gates) input stop h = h.statuses
-refusal_statuses limits (Compile form.Json edge_gates) input stop h = h.statuses
-refusal_statuses limits (Load false) input stop h = h.statuses
-refusal_statuses limits (Load true) input stop h = h.statuses
-refusal_statuses limits (Latency strict) input stop h = h.statuses
-refusal_statuses limits (Run cycles threads) input stop h = h.statuses
-refusal_statuses limits (Report cycles) input stop h = h.statuses
-refusal_statuses limits (Deliveries cycles) input stop h = h.statuses
-refusal_statuses limits (Check cycles) input stop h = h.statuses
-refusal_statuses limits (Summary cycles) input stop h = h.statuses
-refusal_statuses limits (Offers cycles seed) input stop h = h.statuses
-refusal_statuses limits (Hops cycles stream frame) input stop h = h.statuses
-refusal_statuses limits (Plan table given verbose) input stop h = h.statuses
-
--- a refused input with status 3 has no text
-refusal_memory : (limits : Limits) (job : Job) (input : List ℕ) (stop : Stop) → IsRefusal limits job input stop → stop.status ≡ 3 → stop.text.items ≡ []
-refusal_memory limits (Port until rate) input stop h = h.memory
-refusal_memory limits (Line cycles) input stop h = h.memory
-refusal_memory limits (Compile form.List edge_gates) input stop h = h.memory
-refusal_memory limits (Compile (form.Tc is_software) edge_gates) input stop h = h.memory
-refusal_memory limits (Compile (form.Env bridge) edge_gates) input stop h = h.memory
-refusal_memory limits (Compile form.Json edge_gates) input stop h = h.memory
-refusal_memory limits (Load false) input stop h = h.memory
-refusal_memory limits (Load true) input stop h = h.memory
-refusal_memory limits (Latency strict) input stop h = h.memory
-refusal_memory limits (Run cycles threads) input stop h = h.memory
-refusal_memory limits (Report cycles) input stop h = h.memory
-refusal_memory limits (Deliveries cycles) input stop h = h.memory
-refusal_memory limits (Check cycles) input stop h = h.memory
-refusal_memory limits (Summary cycles) input stop h = h.memory
-refusal_memory limits (Offers cycles seed) input stop h = h.memory
-refusal_memory limits (Hops cycles stream frame) input stop h = h.memory
-refusal_memory limits (Plan table given verbose) input stop h = h.memory
+-- a refused input has status 1 or 3; with status 3 it has no text
+refusal_end : (limits : Limits) (job : Job) (input : List ℕ) (stop : Stop) → IsRefusal limits job input stop
+    → ((stop.status ≡ 1) ⊎ (stop.status ≡ 3)) × (stop.status ≡ 3 → stop.text.items ≡ [])
+refusal_end limits (Port until rate) input stop h = (h.statuses, h.memory)
+refusal_end limits (Line cycles) input stop h = (h.statuses, h.memory)
+refusal_end limits (Compile form.List edge_gates) input stop h = (h.statuses, h.memory)
+refusal_end limits (Compile (form.Tc is_software) edge_gates) input stop h = (h.statuses, h.memory)
+refusal_end limits (Compile (form.Env bridge) edge_gates) input stop h = (h.statuses, h.memory)
+refusal_end limits (Compile form.Json edge_gates) input stop h = (h.statuses, h.memory)
+refusal_end limits (Load false) input stop h = (h.statuses, h.memory)
+refusal_end limits (Load true) input stop h = (h.statuses, h.memory)
+refusal_end limits (Latency strict) input stop h = (h.statuses, h.memory)
+refusal_end limits (Run cycles threads) input stop h = (h.statuses, h.memory)
+refusal_end limits (Report cycles) input stop h = (h.statuses, h.memory)
+refusal_end limits (Deliveries cycles) input stop h = (h.statuses, h.memory)
+refusal_end limits (Check cycles) input stop h = (h.statuses, h.memory)
+refusal_end limits (Summary cycles) input stop h = (h.statuses, h.memory)
+refusal_end limits (Offers cycles seed) input stop h = (h.statuses, h.memory)
+refusal_end limits (Hops cycles stream frame) input stop h = (h.statuses, h.memory)
+refusal_end limits (Plan options) input stop h = (h.statuses, h.memory)
+refusal_end limits (Diff quiet) input stop h = (h.statuses, h.memory)
 
 -- a job that fails has status 4
 failure_status : (limits : Limits) (job : Job) (input : List ℕ) (stop : Stop) → IsFailure limits job input stop → stop.status ≡ 4
@@ -193,16 +176,19 @@ failure_status limits (Check cycles) input stop h = absurd h
 failure_status limits (Summary cycles) input stop h = absurd h
 failure_status limits (Offers cycles seed) input stop h = absurd h
 failure_status limits (Hops cycles stream frame) input stop h = absurd h
-failure_status limits (Plan table given verbose) input stop h = absurd h
+failure_status limits (Plan options) input stop h = absurd h
+failure_status limits (Diff quiet) input stop h = absurd h
 
 -- an input that is refused stops it
 HasCause-by_refusal : (words : List (List ℕ)) (bytes : List ℕ) (job : Job) (stop : Stop) → length bytes ≤ most_bytes words
     → (words ≡ [] → HasWords bytes) → Mean (words_of words bytes) job → IsRefusal (limits_of (words_of words bytes)) job (input_of words bytes) stop
     → HasCause words bytes stop
-HasCause-by_refusal words bytes job stop short text means h = elim (refusal_statuses (limits_of (words_of words bytes)) job (input_of words bytes) stop h) [
-  | inl one ↦ inr (inl (record { status = one; length_first = inr (short, text, (job, means, h)) }))
-  | inr three ↦ HasCause-by_memory words bytes stop three (refusal_memory (limits_of (words_of words bytes)) job (input_of words bytes) stop h three)
-]
+HasCause-by_refusal words bytes job stop short text means h =
+    let ended = refusal_end (limits_of (words_of words bytes)) job (input_of words bytes) stop h in
+    elim ended.0 [
+      | inl one ↦ inr (inl (record { status = one; length_first = inr (short, text, (job, means, h)) }))
+      | inr three ↦ HasCause-by_memory words bytes stop three (ended.1 three)
+    ]
 
 -- a job that fails stops it
 HasCause-by_failure : (words : List (List ℕ)) (bytes : List ℕ) (job : Job) (stop : Stop) → length bytes ≤ most_bytes words
@@ -220,15 +206,15 @@ HasCause-by_end words bytes job stop short text means (inl h) = HasCause-by_refu
 HasCause-by_end words bytes job stop short text means (inr h) = HasCause-by_failure words bytes job stop short text means h
 
 -- a run of the first line's words is done, given these words, their limits and the rest of the input under other names
-pub IsDone-by_line : (bytes rest output : List ℕ) (words : List (List ℕ)) (limits : Limits) (job : Job) → length bytes ≤ most_bytes [] → HasWords bytes
-    → words ≡ words_of [] bytes → limits ≡ limits_of (words_of [] bytes) → rest ≡ input_of [] bytes → Mean words job → IsOutput limits job rest output
-    → IsDone [] bytes output
-IsDone-by_line bytes rest output words limits job short text same within behind means h = record {
+pub IsDone-by_line : (bytes rest output : List ℕ) (status : ℕ) (words : List (List ℕ)) (limits : Limits) (job : Job) → length bytes ≤ most_bytes [] → HasWords bytes
+    → words ≡ words_of [] bytes → limits ≡ limits_of (words_of [] bytes) → rest ≡ input_of [] bytes → Mean words job → IsResult limits job rest output status
+    → IsDone [] bytes output status
+IsDone-by_line bytes rest output status words limits job short text same within behind means h = record {
   short = short;
   text = λ _. text;
   job = job;
   means = subst (λ (those : List (List ℕ)). Mean those job) same means;
-  is_output = subst₂ (λ (set : Limits) (input : List ℕ). IsOutput set job input output) within behind h;
+  result = subst₂ (λ (set : Limits) (input : List ℕ). IsResult set job input output status) within behind h;
 }
 
 -- and one that ends without its output is stopped
@@ -263,15 +249,15 @@ IsStopped-by_given words input job stop some sound at_end short means h =
     (input_given words input.bytes some) h))
 
 -- a run of words that are given is done
-pub HasRun-given : (words : List (List ℕ)) (input : Reading) (output : List ℕ) (job : Job) → words ≢ [] → input.failed ≡ false → IsAtEnd input.after
-    → length input.bytes ≤ most_bytes words → Mean words job → IsOutput (limits_of words) job input.bytes output → HasRun words input output
-HasRun-given words input output job some sound at_end short means h = record {
+pub HasRun-given : (words : List (List ℕ)) (input : Reading) (output : List ℕ) (status : ℕ) (job : Job) → words ≢ [] → input.failed ≡ false → IsAtEnd input.after
+    → length input.bytes ≤ most_bytes words → Mean words job → IsResult (limits_of words) job input.bytes output status → HasRun words input output status
+HasRun-given words input output status job some sound at_end short means h = record {
   is_done = record {
     short = short;
     text = λ none. absurd (some none);
     job = job;
     means = means_given words input.bytes job some means;
-    is_output = subst₂ (λ (those : List (List ℕ)) (bytes : List ℕ). IsOutput (limits_of those) job bytes output)
+    result = subst₂ (λ (those : List (List ℕ)) (bytes : List ℕ). IsResult (limits_of those) job bytes output status)
         (words_given words input.bytes some) (input_given words input.bytes some) h;
   };
   at_end = at_end;
@@ -286,27 +272,53 @@ answer_of words input stop (inr (inr (inl e))) none = absurd (omega (arith, e.0,
 answer_of words input stop (inr (inr (inr (inl e)))) none = absurd (omega (arith, e.0, none))
 answer_of words input stop (inr (inr (inr (inr e)))) none = absurd (omega (arith, e.0, none))
 
+-- the status after an output is 0 or 1
+status_by_length : (none : Bool) (status : ℕ) → status ≡ (if none then 0 else 1) → (status ≡ 0) ⊎ (status ≡ 1)
+status_by_length true status is = inl is
+status_by_length false status is = inr is
+
+statuses_after : (of_diff : Bool) (text : List ℕ) → (status_after of_diff text ≡ 0) ⊎ (status_after of_diff text ≡ 1)
+statuses_after false text = inl refl
+statuses_after true text = status_by_length (length text == 0) (status_after true text) refl
+
+-- the output of a job has the job's status
+pub HasResult-of : (limits : Limits) (job : Job) (input : List ℕ) (output : PreparedOutput) → is_of_diff output ≡ is_diff job
+    → HasText (IsOutput limits job input) output → HasResult (IsResult limits job input) output
+HasResult-of limits job input output same told =
+    (told.0, told.1, record { is_output = told.2; is_status = ap (λ (of_diff : Bool). status_after of_diff told.0) same })
+
 -- a run over a reader and an output that fail and refuse only for such kinds of error
 module _ (fails refuses : ErrorKind → Type 0) (words : List (List ℕ)) (input : Reading) (output faults : Writing)
     (may_fail : input.failed ≡ true → SomeKind fails) (may_refuse : output.refused ≡ true → SomeKind refuses) where
+  -- a run that writes all of its output is done
+  EndsDone-told : (wanted : ℕ) (text : List ℕ) (status : ℕ) → IsToldOutput words input text wanted → input.failed ≡ false
+      → HandsOver wanted text output faults status → status ≡ wanted → EndsDone words input output faults wanted
+  EndsDone-told wanted text status is_output sound h same = record {
+    text = text;
+    is_output = is_output;
+    written = Appends-whole output text h.told (h.done same).0;
+    clean = (h.done same).1;
+    sound = sound;
+    accepted = (h.done same).0;
+  }
+
+  -- so its status is one of two
+  by_done : (wanted status : ℕ) → (wanted ≡ 0) ⊎ (wanted ≡ 1) → status ≡ wanted → EndsDone words input output faults wanted
+      → EndsByStatus fails refuses words input output faults status
+  by_done wanted status (inl zero_is) same done =
+      inl (same ∙ zero_is, subst (λ (given : ℕ). EndsDone words input output faults given) zero_is done)
+  by_done wanted status (inr one) same done =
+      inr (inl (same ∙ one, inl (subst (λ (given : ℕ). EndsDone words input output faults given) one done)))
+
   -- a run that writes its output ends with that, or with the output's fault
-  Ends-told : (text : List ℕ) (status : ℕ) → IsHeard (most_bytes words) input → IsBehindWords words input → IsToldOutput words input text → input.failed ≡ false
-      → HandsOver text output faults status → Ends fails refuses words input output faults status
-  Ends-told text status heard behind_words is_output sound h = record {
+  Ends-told : (wanted : ℕ) (text : List ℕ) (status : ℕ) → (wanted ≡ 0) ⊎ (wanted ≡ 1) → IsHeard (most_bytes words) input → IsBehindWords words input
+      → IsToldOutput words input text wanted → input.failed ≡ false → HandsOver wanted text output faults status
+      → Ends fails refuses words input output faults status
+  Ends-told wanted text status few heard behind_words is_output sound h = record {
     heard = heard;
     behind_words = behind_words;
     by_status = elim h.statuses [
-      | inl none ↦ inl (
-        none,
-        record {
-          text = text;
-          is_output = is_output;
-          written = Appends-whole output text h.told (h.done none).0;
-          clean = (h.done none).1;
-          sound = sound;
-          accepted = (h.done none).0;
-        },
-      )
+      | inl same ↦ by_done wanted status few same (EndsDone-told wanted text status is_output sound h same)
       | inr four ↦ inr (inr (inr (inr (
         four,
         inr (inl (record {
@@ -314,6 +326,7 @@ module _ (fails refuses : ErrorKind → Type 0) (words : List (List ℕ)) (input
           may = may_refuse (h.fault four).0;
           sound = sound;
           text = text;
+          wanted = wanted;
           is_output = is_output;
           told = h.told;
           line = (h.fault four).1;
@@ -323,9 +336,11 @@ module _ (fails refuses : ErrorKind → Type 0) (words : List (List ℕ)) (input
   }
 
   -- a run that is done ends with its output
-  pub Ends-ran : (text : List ℕ) (status : ℕ) → IsHeard (most_bytes words) input → IsBehindWords words input → HasRun words input text → HandsOver text output faults status
+  pub Ends-ran : (of_diff : Bool) (text : List ℕ) (status : ℕ) → IsHeard (most_bytes words) input → IsBehindWords words input
+      → HasRun words input text (status_after of_diff text) → HandsOver (status_after of_diff text) text output faults status
       → Ends fails refuses words input output faults status
-  Ends-ran text status heard behind_words ran h = Ends-told text status heard behind_words (inl (ran.is_done, ran.at_end)) ran.sound h
+  Ends-ran of_diff text status heard behind_words ran h =
+      Ends-told (status_after of_diff text) text status (statuses_after of_diff text) heard behind_words (inl (ran.is_done, ran.at_end)) ran.sound h
 
   -- a run that is stopped with status 4 ends with the fault of the reader, or of the run
   fault_told : (stop : Stop) → HasFault words input stop → TellsFaultAlone stop.text.items output faults
@@ -342,7 +357,7 @@ module _ (fails refuses : ErrorKind → Type 0) (words : List (List ℕ)) (input
       → EndsByStatus fails refuses words input output faults stop.status
   barred_by_status stop (inl e) some known told = absurd (some e.0)
   barred_by_status stop (inr (inl e)) some known told =
-      inr (inl (e.0, record { stop = stop; refused = e.1.refused; told = told; whole = e.1.whole; sound = e.1.sound }))
+      inr (inl (e.0, inr (record { stop = stop; refused = e.1.refused; told = told; whole = e.1.whole; sound = e.1.sound })))
   barred_by_status stop (inr (inr (inl e))) some known told =
       inr (inr (inl (e.0, record { stop = stop; misused = e.1.misused; told = told; at_end = e.1.at_end; sound = e.1.sound })))
   barred_by_status stop (inr (inr (inr (inl e)))) some known told = absurd (known e.0)
@@ -353,7 +368,7 @@ module _ (fails refuses : ErrorKind → Type 0) (words : List (List ℕ)) (input
       → TellsStop stop output faults status → Ends fails refuses words input output faults status
   Ends-stopped stop status heard behind_words s (inl t) =
       let answer = answer_of words input stop s t.0 in
-      Ends-told stop.text.items status heard behind_words (inr (answer.answered, answer.at_end)) answer.sound t.1
+      Ends-told 0 stop.text.items status (inl refl) heard behind_words (inr (refl, answer.answered, answer.at_end)) answer.sound t.1
   Ends-stopped stop status heard behind_words s (inr (inl t)) = record {
     heard = heard;
     behind_words = behind_words;
@@ -414,7 +429,8 @@ job_within (Check cycles) name rows is = number_within 1 100000 cycles (first_of
 job_within (Summary cycles) name rows is = number_within 1 100000 cycles (first_of (codes "cycles") rows) is.1
 job_within (Offers cycles seed) name rows is = number_within 1 100000 cycles (first_of (codes "cycles") rows) is.1
 job_within (Hops cycles stream frame) name rows is = number_within 1 100000 cycles (first_of (codes "cycles") rows) is.1
-job_within (Plan table given verbose) name rows is = tt
+job_within (Plan options) name rows is = tt
+job_within (Diff quiet) name rows is = tt
 
 -- the numbers of a job that options give are within their ranges
 found_within : (job : Job) (found : Option (Text × List Row)) → IsJob job found → IsWithin job
@@ -431,9 +447,9 @@ no_words [] none = refl
 no_words (word ∷ words) none = absurd (omega (arith, none))
 
 -- the result of a run has a property that follows from another
-pub Begins-weaker : {A B : List ℕ → Type 0} {P Q : ThreadedRun → Type 0} (begun : Begun) → ((text : List ℕ) → A text → B text)
+pub Begins-weaker : {A B : List ℕ → ℕ → Type 0} {P Q : ThreadedRun → Type 0} (begun : Begun) → ((text : List ℕ) (status : ℕ) → A text status → B text status)
     → ((threaded : ThreadedRun) → P threaded → Q threaded) → Begins A P begun → Begins B Q begun
-Begins-weaker (Ready output) outputs runs told = (told.0, told.1, outputs told.0 told.2)
+Begins-weaker (Ready output) outputs runs told = (told.0, told.1, outputs told.0 (status_after (is_of_diff output) told.0) told.2)
 Begins-weaker (Threads threaded) outputs runs left = runs threaded left
 
 -- a job that is a run on threads leaves it, if its words are given
@@ -468,14 +484,17 @@ threads_within words bytes threaded is = IsWithin-means (words_of words bytes) (
 
 -- if a run on threads is left, its output is that of the run
 pub HasRun-threads : (words : List (List ℕ)) (input : Reading) (threaded : ThreadedRun) (output : List ℕ) → LeavesThreads words input threaded
-    → IsThreadsOutput threaded.limits threaded.cycles (input_of words input.bytes) output → HasRun words input output
+    → IsThreadsOutput threaded.limits threaded.cycles (input_of words input.bytes) output → HasRun words input output 0
 HasRun-threads words input threaded output left h = record {
   is_done = record {
     short = left.is_run.short;
     text = left.is_run.text;
     job = Run threaded.cycles true;
     means = left.is_run.means;
-    is_output = subst (λ (limits : Limits). IsThreadsOutput limits threaded.cycles (input_of words input.bytes) output) left.is_run.within h;
+    result = record {
+      is_output = subst (λ (limits : Limits). IsThreadsOutput limits threaded.cycles (input_of words input.bytes) output) left.is_run.within h;
+      is_status = refl;
+    };
   };
   at_end = left.at_end;
   sound = left.sound;
@@ -519,7 +538,8 @@ no_threads (Check own) name rows cycles is other h = not_both name (codes "check
 no_threads (Summary own) name rows cycles is other h = not_both name (codes "summary") (codes "run") is.0 h.0 (λ e. omega (arith, e))
 no_threads (Offers own seed) name rows cycles is other h = not_both name (codes "offers") (codes "run") is.0 h.0 (λ e. omega (arith, e))
 no_threads (Hops own stream frame) name rows cycles is other h = not_both name (codes "hops") (codes "run") is.0 h.0 (λ e. omega (arith, e))
-no_threads (Plan table given verbose) name rows cycles is other h = not_both name (codes "plan") (codes "run") is.0 h.0 (λ e. omega (arith, e))
+no_threads (Plan options) name rows cycles is other h = not_both name (codes "plan") (codes "run") is.0 h.0 (λ e. omega (arith, e))
+no_threads (Diff quiet) name rows cycles is other h = not_both name (codes "diff") (codes "run") is.0 h.0 (λ e. omega (arith, e))
 
 -- what is read from words isn't both
 no_threads_found : (job : Job) (found : Option (Text × List Row)) (cycles : ℕ) → IsJob job found → is_threaded job ≡ false → IsJob (Run cycles true) found → ⊥

@@ -1,10 +1,10 @@
 -- The text of an output, and the result of a run before it waits for a thread.
-use Rattle.std.specs.Prelude.{ℕ, ◌≡◌, List}
+use Rattle.std.specs.Prelude.{ℕ, ◌≡◌, ◌==◌, Bool, true, false, List, if◌then◌else◌, length}
 use Rattle.cqf_program_engine.specs.declared.begun.Begun.{Begun}
 use Rattle.cqf_program_engine.specs.declared.begun.Begun.TheVariants.{Ready, Threads}
 use Rattle.cqf_program_engine.specs.declared.begun.ThreadedRun.{ThreadedRun}
 use Rattle.cqf_program_engine.specs.declared.prepared.PreparedOutput.{PreparedOutput}
-use Rattle.cqf_program_engine.specs.declared.prepared.PreparedOutput.TheVariants.{Account, Config, Deliveries, Hops, Latency, Line, Load, Object}
+use Rattle.cqf_program_engine.specs.declared.prepared.PreparedOutput.TheVariants.{Account, Config, Deliveries, Differences, Hops, Latency, Line, Load, Object}
 use Rattle.cqf_program_engine.specs.declared.prepared.PreparedOutput.TheVariants.{Port, Run, Script, StreamLoads, Summary, Text, Variables}
 use Rattle.cqf_program_json.specs.Output.{text_of_json}
 use Rattle.cqf_program_plans.specs.Compile.Told.{text_of_config}
@@ -23,6 +23,7 @@ use Rattle.cqf_program_threads.specs.AccountTold.{text_of_account}
 -- the text is one of the output
 abbrev pub IsTextOf : PreparedOutput → List ℕ → Type 0
 IsTextOf (Text output) text = text ≡ output.items
+IsTextOf (Differences output) text = text ≡ output.items
 IsTextOf (Port output) text = text ≡ text_of_port output
 IsTextOf (Line output) text = IsLineTold output text
 IsTextOf (Config output) text = text ≡ text_of_config output
@@ -38,11 +39,26 @@ IsTextOf (Deliveries output) text = AreDeliveriesTold output text
 IsTextOf (Summary output) text = text ≡ text_of_summary output
 IsTextOf (Hops output) text = IsToldText output text
 
+-- the output is that of `diff`
+abbrev pub is_of_diff : PreparedOutput → Bool
+is_of_diff (Differences output) = true
+is_of_diff output = false
+
+-- the status after an output was written: 1 for that of `diff` if something differs, 0 otherwise
+abbrev pub status_after : Bool → List ℕ → ℕ
+status_after false text = 0
+status_after true text = if length text == 0 then 0 else 1
+
 -- the output has a text with a given property
 abbrev pub HasText : (List ℕ → Type 0) → PreparedOutput → Type 0
 HasText wanted output = (text : List ℕ) × IsTextOf output text × wanted text
 
--- the result of a run before it waits for a thread: an output with a given property, or a run on threads with another
-abbrev pub Begins : (List ℕ → Type 0) → (ThreadedRun → Type 0) → Begun → Type 0
-Begins wanted left (Ready output) = HasText wanted output
+-- it has a text and a status with a given property
+abbrev pub HasResult : (List ℕ → ℕ → Type 0) → PreparedOutput → Type 0
+HasResult wanted output = (text : List ℕ) × IsTextOf output text × wanted text (status_after (is_of_diff output) text)
+
+-- the result of a run before it waits for a thread: an output whose text and status have a given property, or a run on threads with
+-- another
+abbrev pub Begins : (List ℕ → ℕ → Type 0) → (ThreadedRun → Type 0) → Begun → Type 0
+Begins wanted left (Ready output) = HasResult wanted output
 Begins wanted left (Threads threaded) = left threaded

@@ -8,6 +8,7 @@ use Rattle.cqf_text.specs.Lines.{is_line_feed}
 use Rattle.cqf_program_engine.specs.declared.begun.ThreadedRun.{ThreadedRun}
 use Rattle.cqf_program_engine.specs.declared.heard.ReadFailure.{ReadFailure}
 use Rattle.cqf_program_engine.specs.declared.heard.ReadFailure.TheVariants.{Memory, Fault}
+use Rattle.cqf_program_engine.specs.Prepared.{status_after}
 use Rattle.cqf_program_engine.specs.Edge.{IsHeard, Reading}
 use Rattle.cqf_output.specs.Edge.{HasTold, Writing}
 use Rattle.cqf_output.specs.Kinds.{SomeKind}
@@ -16,6 +17,7 @@ use Rattle.cqf_program_scenario.specs.Scenario.{scenario_input}
 use Rattle.std.specs.declared.alloc.Global.{Global}
 use Rattle.cqf_model.specs.declared.limits.Limits.{Limits}
 use Rattle.cqf_model.specs.Limits.{last_until, most_cycles}
+use Rattle.cqf_program_diff.specs.Output.{diff_of_input}
 use Rattle.cqf_program_json.specs.Output.{json_of_input}
 use Rattle.cqf_program_offers.specs.OffersOutput.{offered_input}
 use Rattle.cqf_program_plans.specs.Compile.Output.{compiled_input}
@@ -30,16 +32,18 @@ use Rattle.cqf_program_runs.specs.Line.Output.{IsLineOutput, line_input}
 use Rattle.cqf_program_runs.specs.Deliveries.PlannedScenario.{planned_scenario}
 use Rattle.cqf_program_runs.specs.Report.Output.{IsReportOutput}
 use Rattle.cqf_program_runs.specs.Run.Output.{IsRunOutput}
-use Rattle.cqf_program_planning.specs.PlanOutput.{IsPlanOf, IsPlanRefusal}
+use Rattle.cqf_program_planning.specs.declared.choosing.Search.{Search}
 use Rattle.cqf_program_summary.specs.Hops.Known.{wanted_scenario}
 use Rattle.cqf_program_summary.specs.Hops.Output.{IsHopsOutput}
 use Rattle.cqf_program_summary.specs.Hops.Legs.{Wanted}
 use Rattle.cqf_program_summary.specs.Summary.Output.{IsSummaryOutput}
 use Rattle.cqf_program_threads.specs.ThreadsOutput.{IsThreadsOutput, TellsFault}
+use Rattle.cqf_program_without.specs.Output.{IsPlanWithout, IsRefusalWithout}
 use Rattle.cqf_program_words.specs.Candidates.{times_of}
 use Rattle.cqf_program_words.specs.declared.words.Format.TheVariants as form
+use Rattle.cqf_program_words.specs.declared.plan_words.PlanOptions.{PlanOptions}
 use Rattle.cqf_program_words.specs.declared.words.Job.{Job}
-use Rattle.cqf_program_words.specs.declared.words.Job.TheVariants.{Check, Compile, Deliveries, Hops, Latency, Line, Load, Offers, Plan, Port, Report, Run, Summary}
+use Rattle.cqf_program_words.specs.declared.words.Job.TheVariants.{Check, Compile, Deliveries, Diff, Hops, Latency, Line, Load, Offers, Plan, Port, Report, Run, Summary}
 use Rattle.cqf_program_words.specs.Shown.{ShowsBehind, ShowsLine, ShowsWords, are_printable, is_shown_whole, no_command}
 use Rattle.cqf_program_words.specs.Words.{AreMistaken, AskForHelp, Mean, TellsMistake, ask_for_large, limits_of}
 use Rattle.cqf_program_engine.specs.declared.runs.TheConstants.{VERSION}
@@ -58,7 +62,12 @@ IsWithin (Check cycles) = cycles ≤ most_cycles
 IsWithin (Offers cycles seed) = cycles ≤ most_cycles
 IsWithin (Summary cycles) = cycles ≤ most_cycles
 IsWithin (Hops cycles stream frame) = cycles ≤ most_cycles
-IsWithin (Plan table given verbose) = ⊤
+IsWithin (Plan options) = ⊤
+IsWithin (Diff quiet) = ⊤
+
+-- how `plan` searches with these options
+abbrev pub search_of : PlanOptions → Search
+search_of options = record { tries = options.tries; best = options.best }
 
 -- whether the job is a run on threads
 abbrev pub is_threaded : Job → Bool
@@ -97,11 +106,22 @@ IsOutput limits (Check cycles) input output = IsChecked limits cycles input (Ok 
 IsOutput limits (Offers cycles seed) input output = offered_input limits cycles seed input ≡ Ok output
 IsOutput limits (Summary cycles) input output = IsSummaryOutput limits cycles input output
 IsOutput limits (Hops cycles stream frame) input output = IsHopsOutput limits cycles (wanted_of stream frame) input output
-IsOutput limits (Plan table given verbose) input output = IsPlanOf limits table (option_map times_of given) input (Ok output)
+IsOutput limits (Plan options) input output = IsPlanWithout limits options.table (search_of options) (option_map times_of options.given) options.without.items input (Ok output)
+IsOutput limits (Diff quiet) input output = diff_of_input limits quiet input ≡ Ok output
+
+-- the job is `diff`
+abbrev pub is_diff : Job → Bool
+is_diff (Diff quiet) = true
+is_diff job = false
+
+-- the output of a job for its input, and the status after it was written
+pub record IsResult (limits : Limits) (job : Job) (input output : List ℕ) (status : ℕ) : Type 0 where
+  pub is_output : IsOutput limits job input output
+  pub is_status : status ≡ status_after (is_diff job) output
 
 -- the input of a job, which is read within given limits, is refused with a line: of its first fault; for `latency` if
--- strict, of a deadline that isn't certain to be met; for `check`, of what isn't well; or for `plan`, if no candidate
--- for the cycle time is good
+-- strict, of a deadline that isn't certain to be met; for `diff` if quiet, that something differs; for `check`, of what
+-- isn't well; or for `plan`, if no candidate for the cycle time is good
 abbrev pub IsRefusal : Limits → Job → List ℕ → Stop → Type 0
 IsRefusal limits (Port until rate) input stop = IsRefused (port_input input) stop
 IsRefusal limits (Line cycles) input stop = IsRefused (line_input input) stop
@@ -119,7 +139,8 @@ IsRefusal limits (Check cycles) input stop = IsCheckRefusal limits cycles input 
 IsRefusal limits (Offers cycles seed) input stop = IsRefused (offered_input limits cycles seed input) stop
 IsRefusal limits (Summary cycles) input stop = IsRefused (planned_scenario limits cycles input) stop
 IsRefusal limits (Hops cycles stream frame) input stop = IsRefused (wanted_scenario limits cycles (wanted_of stream frame) input) stop
-IsRefusal limits (Plan table given verbose) input stop = IsPlanRefusal limits table (option_map times_of given) input stop
+IsRefusal limits (Plan options) input stop = IsRefusalWithout limits options.table (search_of options) (option_map times_of options.given) options.without.items input stop
+IsRefusal limits (Diff quiet) input stop = IsRefused (diff_of_input limits quiet input) stop
 
 -- a run on threads fails, with the line of its fault; its input isn't refused. No other job fails
 abbrev pub IsFailure : Limits → Job → List ℕ → Stop → Type 0
@@ -170,13 +191,13 @@ most_bytes words = if ask_for_large words then 536870912 else 67108864
 abbrev pub IsTooLong : ℕ → List ℕ → Type 0
 IsTooLong most bytes = most < length bytes
 
--- the run is done: its words mean a job, and this is the job's output for its input
-pub record IsDone (words : List (List ℕ)) (bytes output : List ℕ) : Type 0 where
+-- the run is done: its words mean a job, and these are the job's output for its input and the status after that
+pub record IsDone (words : List (List ℕ)) (bytes output : List ℕ) (status : ℕ) : Type 0 where
   pub short : length bytes ≤ most_bytes words
   pub text : words ≡ [] → HasWords bytes
   pub job : Job
   pub means : Mean (words_of words bytes) job
-  pub is_output : IsOutput (limits_of (words_of words bytes)) job (input_of words bytes) output
+  pub result : IsResult (limits_of (words_of words bytes)) job (input_of words bytes) output status
 
 -- the input is refused. Either it is too long, and the given words, if there are any, mean a job; or the words mean a
 -- job, and the line is that of its input's first fault. The stop has status 1
@@ -324,9 +345,9 @@ IsStopped words input stop = ((stop.status ≡ 0) × StopsWithAnswer words input
     ⊎ (((stop.status ≡ 3) × (stop.text.items ≡ []))
     ⊎ ((stop.status ≡ 4) × HasFault words input stop))))
 
--- a run is done: all was read, and this is its output
-pub record HasRun (words : List (List ℕ)) (input : Reading) (output : List ℕ) : Type 0 where
-  pub is_done : IsDone words input.bytes output
+-- a run is done: all was read, and these are its output and its status
+pub record HasRun (words : List (List ℕ)) (input : Reading) (output : List ℕ) (status : ℕ) : Type 0 where
+  pub is_done : IsDone words input.bytes output status
   pub at_end : IsAtEnd input.after
   pub sound : input.failed ≡ false
 
@@ -336,25 +357,26 @@ pub record LeavesThreads (words : List (List ℕ)) (input : Reading) (threaded :
   pub at_end : IsAtEnd input.after
   pub sound : input.failed ≡ false
 
--- how a run ends after its output was written: nothing is on the writer of faults; or the output refused some of it,
--- and the line about that is on the writer of faults
-pub record EndsTold (refused : Bool) (faults : Writing) (status : ℕ) : Type 0 where
-  pub statuses : (status ≡ 0) ⊎ (status ≡ 4)
-  pub done : status ≡ 0 → (refused ≡ false) × Keeps faults.before faults.after
+-- how a run ends after its output was written: with a given status, and nothing is on the writer of faults; or the
+-- output refused some of it, and the line about that is on the writer of faults
+pub record EndsTold (wanted : ℕ) (refused : Bool) (faults : Writing) (status : ℕ) : Type 0 where
+  pub statuses : (status ≡ wanted) ⊎ (status ≡ 4)
+  pub done : status ≡ wanted → (refused ≡ false) × Keeps faults.before faults.after
   pub fault : status ≡ 4 → (refused ≡ true) × HasTold faults (line_of (codes "cqf: output fault"))
 
--- the text was written: all of it, and nothing on the writer of faults; or the output refused some of it, and the line
--- about that is on the writer of faults
-pub record HandsOver (text : List ℕ) (output faults : Writing) (status : ℕ) : Type 0 where
-  pub statuses : (status ≡ 0) ⊎ (status ≡ 4)
+-- the text was written: all of it, with a given status, and nothing on the writer of faults; or the output refused some
+-- of it, and the line about that is on the writer of faults
+pub record HandsOver (wanted : ℕ) (text : List ℕ) (output faults : Writing) (status : ℕ) : Type 0 where
+  pub statuses : (status ≡ wanted) ⊎ (status ≡ 4)
   pub told : HasTold output text
-  pub done : status ≡ 0 → (output.refused ≡ false) × Keeps faults.before faults.after
+  pub done : status ≡ wanted → (output.refused ≡ false) × Keeps faults.before faults.after
   pub fault : status ≡ 4 → (output.refused ≡ true) × HasTold faults (line_of (codes "cqf: output fault"))
 
--- what the run writes on its output: the output of its job, or the help or the version that was requested
-abbrev pub IsToldOutput : List (List ℕ) → Reading → List ℕ → Type 0
-IsToldOutput words input text = (IsDone words input.bytes text × IsAtEnd input.after)
-    ⊎ (IsQuestionAnswered words input.bytes text × (words ≡ [] → IsAtEnd input.after))
+-- what the run writes on its output, and the status after it: the output of its job, or the help or the version that was
+-- requested
+abbrev pub IsToldOutput : List (List ℕ) → Reading → List ℕ → ℕ → Type 0
+IsToldOutput words input text status = (IsDone words input.bytes text status × IsAtEnd input.after)
+    ⊎ ((status ≡ 0) × IsQuestionAnswered words input.bytes text × (words ≡ [] → IsAtEnd input.after))
 
 -- nothing is on the output, and this text was written on the writer of faults: all of it, if that writer refused
 -- nothing
@@ -366,7 +388,7 @@ pub record TellsFaultAlone (text : List ℕ) (output faults : Writing) : Type 0 
 -- the text of a stop was written: a requested one on the output, and the line of any other stop on the writer of faults
 -- only
 abbrev pub TellsStop : Stop → Writing → Writing → ℕ → Type 0
-TellsStop stop output faults status = ((stop.status ≡ 0) × HandsOver stop.text.items output faults status)
+TellsStop stop output faults status = ((stop.status ≡ 0) × HandsOver 0 stop.text.items output faults status)
     ⊎ (((stop.status ≡ 3) × (status ≡ 3) × TellsFaultAlone (line_of (codes "cqf: out of memory")) output faults)
     ⊎ ((stop.status ≢ 0) × (stop.status ≢ 3) × (status ≡ stop.status) × TellsFaultAlone stop.text.items output faults))
 
@@ -384,7 +406,8 @@ pub record IsOutputFault (refuses : ErrorKind → Type 0) (words : List (List �
   pub may : SomeKind refuses
   pub sound : input.failed ≡ false
   pub text : List ℕ
-  pub is_output : IsToldOutput words input text
+  pub wanted : ℕ
+  pub is_output : IsToldOutput words input text wanted
   pub told : HasTold output text
   pub line : HasTold faults (line_of (codes "cqf: output fault"))
 
@@ -397,10 +420,10 @@ pub record EndsByRunFault (words : List (List ℕ)) (input : Reading) (output fa
   pub failed : IsFailedRun words input.bytes stop
   pub told : TellsFaultAlone stop.text.items output faults
 
--- status 0: the run's output was written, or the requested help or version, and nothing else
-pub record EndsDone (words : List (List ℕ)) (input : Reading) (output faults : Writing) : Type 0 where
+-- the run's output was written, or the requested help or version, and nothing else; the status is that of the output
+pub record EndsDone (words : List (List ℕ)) (input : Reading) (output faults : Writing) (status : ℕ) : Type 0 where
   pub text : List ℕ
-  pub is_output : IsToldOutput words input text
+  pub is_output : IsToldOutput words input text status
   pub written : Appends output.before output.after text
   pub clean : Keeps faults.before faults.after
   pub sound : input.failed ≡ false
@@ -431,10 +454,10 @@ abbrev pub EndsFaulty : (ErrorKind → Type 0) → (ErrorKind → Type 0) → Li
 EndsFaulty fails refuses words input output faults = IsInputFault fails input output faults
     ⊎ (IsOutputFault refuses words input output faults ⊎ EndsByRunFault words input output faults)
 
--- one case for each status
+-- one case for each status. That of a run that is done is 0, or 1 if it is `diff` and something differs
 abbrev pub EndsByStatus : (ErrorKind → Type 0) → (ErrorKind → Type 0) → List (List ℕ) → Reading → Writing → Writing → ℕ → Type 0
-EndsByStatus fails refuses words input output faults status = ((status ≡ 0) × EndsDone words input output faults)
-    ⊎ (((status ≡ 1) × EndsRefused words input output faults)
+EndsByStatus fails refuses words input output faults status = ((status ≡ 0) × EndsDone words input output faults 0)
+    ⊎ (((status ≡ 1) × (EndsDone words input output faults 1 ⊎ EndsRefused words input output faults))
     ⊎ (((status ≡ 2) × EndsMisused words input output faults)
     ⊎ (((status ≡ 3) × EndsForMemory output faults)
     ⊎ ((status ≡ 4) × EndsFaulty fails refuses words input output faults))))

@@ -1,9 +1,9 @@
 //! An output, before it is written.
-ghost use Rattle.std.specs.Prelude.{ℕ, List};
-ghost use Rattle.cqf_program_engine.specs.Prepared.{IsTextOf};
+ghost use Rattle.std.specs.Prelude.{ℕ, ◌≡◌, ◌≤◌, List};
+ghost use Rattle.cqf_program_engine.specs.Prepared.{IsTextOf, is_of_diff, status_after};
 ghost use Rattle.cqf_output.specs.Edge.{HasTold, writing};
 
-use cqf_output::{Sink, Told, write_out};
+use cqf_output::{DONE, REFUSED, Sink, Told, write_out};
 use cqf_program_json::JsonOutput;
 use cqf_program_plans::{ConfigOutput, LatencyOutput, LoadOutput, PortOutput, StreamLoadsOutput};
 use cqf_program_runs::{DeliveriesOutput, LineOutput, RunOutput};
@@ -16,6 +16,8 @@ use cqf_program_threads::ThreadsOutput;
 pub enum PreparedOutput {
     /// The output itself.
     Text(Vec<u8>),
+    /// That of `diff`, itself: what differs.
+    Differences(Vec<u8>),
     /// That of `port`: the starts of a port.
     Port(PortOutput),
     /// That of `line`: a book.
@@ -47,12 +49,25 @@ pub enum PreparedOutput {
 }
 
 impl PreparedOutput {
+    /// Returns the status after the output was written: 1 for that of `diff` if something differs, 0 for any other.
+    pub(crate) fn status(&self) -> u8
+        ensures value { (text : List ℕ) → IsTextOf self.now text → result ≡ status_after (is_of_diff self.now) text }
+        ensures few { result ≤ 1 }
+    {
+        match self {
+            PreparedOutput::Differences(text) if !text.is_empty() => REFUSED,
+            _ => DONE,
+        }
+    }
+
     /// Writes the output: all of it or, if the writer refuses a part, its beginning. Allocates no memory.
     pub fn tell<W: Sink>(self, told: &mut Told<W>)
         ensures { (text : List ℕ) → IsTextOf self text → HasTold (writing W.contents told.old told.new) text }
     {
         match self {
-            PreparedOutput::Text(text) => write_out(told, text.as_slice()),
+            PreparedOutput::Text(text) | PreparedOutput::Differences(text) => {
+                write_out(told, text.as_slice())
+            }
             PreparedOutput::Port(output) => output.tell(told),
             PreparedOutput::Line(output) => output.tell(told),
             PreparedOutput::Config(output) => output.tell(told),

@@ -1,15 +1,15 @@
 //! A run of the program, from its words and its input to its output or its end.
-ghost use Rattle.std.specs.Prelude.{ℕ, ◌≡◌, ◌≢◌, ◌≤◌, List, [], false, IfOk, IfErr, IfSome, IsOk, Ok, OnErr, MatchOption, map, length, option_map, string_bytes, true};
+ghost use Rattle.std.specs.Prelude.{ℕ, ◌≡◌, ◌≢◌, ◌≤◌, ◌<◌, List, [], false, IfOk, IfErr, IfSome, IsOk, Ok, OnErr, MatchOption, map, length, option_map, string_bytes, true};
 ghost use Rattle.std.specs.List.{slice_split};
 ghost use Rattle.cqf_program_engine.specs.Edge.{IsHeard, IsUnheard, reading};
-ghost use Rattle.cqf_program_engine.specs.Prepared.{Begins, HasText, IsTextOf};
+ghost use Rattle.cqf_program_engine.specs.Prepared.{Begins, HasResult, HasText, IsTextOf, is_of_diff, status_after};
 ghost use Rattle.cqf_output.specs.Edge.{writing};
 ghost use Rattle.cqf_program_threads.specs.ThreadsOutput.{EndsThreads, IsThreadsOutput};
 ghost use Rattle.cqf_program_words.specs.Shown.{ShowsLine, is_shown_whole};
 ghost use Rattle.cqf_program_words.specs.Words.{EndsWords, Mean};
 ghost use Rattle.cqf_program_summary.specs.Hops.Known.{wanted_scenario};
 ghost use Rattle.cqf_program_summary.specs.Hops.Output.{IsHopsOutput};
-ghost use Rattle.cqf_program_planning.specs.PlanOutput.{IsPlanOf, IsPlanRefusal};
+ghost use Rattle.cqf_program_without.specs.Output.{IsPlanWithout, IsRefusalWithout};
 ghost use Rattle.cqf_program_words.specs.Candidates.{times_of};
 ghost use Rattle.cqf_network.specs.NetworkDomain.{AreCandidates};
 ghost use Rattle.cqf_output.specs.Stops.{EndsWith, IsRefused};
@@ -17,8 +17,8 @@ ghost use Rattle.cqf_program_tc.specs.Output.{env_of_input};
 ghost use Rattle.cqf_program_engine.specs.Run.{IsRunOf, IsThreadedRun, LeavesThreads, MeanNoThreads};
 ghost use Rattle.cqf_program_engine.specs.Run.{version_line, IsAsking, IsVersionWord, IsWithin, IsOutput, input_of, words_of};
 ghost use Rattle.cqf_program_engine.specs.Run.{IsRefusal, IsBehindWords, Ends, EndsTold, HandsOver, HasCause, HasRun};
-ghost use Rattle.cqf_program_engine.specs.Run.{IsDone, IsStopped, TellsPlainly, TellsStop, is_space, is_threaded, first_line, wanted_of};
-ghost use Rattle.cqf_program_engine.specs.Run.{behind_first_line, most_bytes};
+ghost use Rattle.cqf_program_engine.specs.Run.{IsDone, IsResult, IsStopped, TellsPlainly, TellsStop, is_space, is_threaded, first_line, wanted_of};
+ghost use Rattle.cqf_program_engine.specs.Run.{behind_first_line, is_diff, most_bytes, search_of};
 ghost use Rattle.cqf_model.specs.Limits.{most_cycles};
 
 use crate::begun::{Begun, ThreadedRun};
@@ -28,9 +28,10 @@ use crate::prepared::PreparedOutput;
 use crate::sources::Source;
 use cqf_model::Limits;
 use cqf_output::{DONE, FAULT, NO_MEMORY, Sink, Stop, Told, USAGE, told_text, write_out};
+use cqf_program_diff::diff_output;
 use cqf_program_json::json_output;
 use cqf_program_offers::offers_output;
-use cqf_program_planning::plan_output;
+use cqf_program_planning::Search;
 use cqf_program_plans::{
     compile_output, latency_output, load_output, load_streams_output, port_output,
 };
@@ -38,8 +39,9 @@ use cqf_program_runs::{check_output, deliveries_output, line_output, report_outp
 use cqf_program_summary::{FrameFilter, hops_output, summary_output};
 use cqf_program_tc::{env_output, tc_output};
 use cqf_program_threads::threads_output;
+use cqf_program_without::plan_without;
 use cqf_program_words::{
-    Candidates, Format, Job, limits_of, read_words, stop_of_line, stop_of_long_line,
+    Candidates, Format, Job, PlanOptions, limits_of, read_words, stop_of_line, stop_of_long_line,
 };
 use cqf_text::split_line;
 use cqf_units::{Memory, Name};
@@ -57,6 +59,7 @@ fn prepare_variables(
     input: &[u8],
 ) -> Result<PreparedOutput, Stop>
     ensures ok { IfOk result (HasText (λ output. env_of_input limits edge_gates bridge.now input.now ≡ Ok output)) }
+    ensures of_diff { IfOk result (λ output. is_of_diff output ≡ false) }
     ensures err { IfErr result (IsRefused (env_of_input limits edge_gates bridge.now input.now)) }
 {
     Ok(PreparedOutput::Variables(env_output(alloc, limits, edge_gates, bridge.as_str(), input)?))
@@ -73,6 +76,7 @@ fn prepare_compiled(
     input: &[u8],
 ) -> Result<PreparedOutput, Stop>
     ensures ok { IfOk result (HasText (IsOutput limits (Job.Compile format.now edge_gates) input.now)) }
+    ensures of_diff { IfOk result (λ output. is_of_diff output ≡ false) }
     ensures err { IfErr result (IsRefusal limits (Job.Compile format.now edge_gates) input.now) }
 {
     match *format {
@@ -96,6 +100,7 @@ fn prepare_load(
     input: &[u8],
 ) -> Result<PreparedOutput, Stop>
     ensures ok { IfOk result (HasText (IsOutput limits (Job.Load streams) input.now)) }
+    ensures of_diff { IfOk result (λ output. is_of_diff output ≡ false) }
     ensures err { IfErr result (IsRefusal limits (Job.Load streams) input.now) }
 {
     if streams {
@@ -126,6 +131,7 @@ fn prepare_hops(
 ) -> Result<PreparedOutput, Stop>
     requires { cycles ≤ most_cycles }
     ensures ok { IfOk result (HasText (IsHopsOutput limits cycles (wanted_of stream.now frame) input.now)) }
+    ensures of_diff { IfOk result (λ output. is_of_diff output ≡ false) }
     ensures err { IfErr result (IsRefused (wanted_scenario limits cycles (wanted_of stream.now frame) input.now)) }
 {
     let choice = FrameFilter {
@@ -149,20 +155,30 @@ fn times_of(alloc: Global, given: Option<Candidates>) -> Result<Option<Vec<u32>>
     }
 }
 
-/// Returns the output of `plan` for an input that is read within given limits, with the given candidates for the cycle
-/// time, if any. Errors are those of [`prepare`].
+/// Returns how `plan` searches with these options.
+fn search_of(options: &PlanOptions) -> Search
+    ensures { result ≡ search_of options.now }
+{
+    Search {
+        tries: options.tries,
+        best: options.best,
+    }
+}
+
+/// Returns the output of `plan` with these options for an input that is read within given limits. Errors are those of [`prepare`].
 fn planned(
     alloc: Global,
     limits: Limits,
-    table: bool,
-    given: Option<Candidates>,
+    options: &PlanOptions,
     input: &[u8],
 ) -> Result<Vec<u8>, Stop>
-    ensures ok { IfOk result (λ text. IsPlanOf limits table (option_map times_of given) input.now (Ok text.items)) }
-    ensures err { IfErr result (IsPlanRefusal limits table (option_map times_of given) input.now) }
+    ensures ok { IfOk result (λ text. IsPlanWithout limits options.now.table (search_of options.now) (option_map times_of options.now.given) options.now.without.items input.now (Ok text.items)) }
+    ensures err { IfErr result (IsRefusalWithout limits options.now.table (search_of options.now) (option_map times_of options.now.given) options.now.without.items input.now) }
 {
-    match times_of(alloc, given) {
-        Ok(times) => plan_output(alloc, limits, table, times, input),
+    let search = search_of(options);
+    let links = options.without.as_slice();
+    match times_of(alloc, options.given) {
+        Ok(times) => plan_without(alloc, limits, options.table, search, times, links, input),
         Err(_) => Err(Stop::memory(alloc)),
     }
 }
@@ -182,6 +198,7 @@ fn prepare(
     requires within { IsWithin job.now }
     requires unthreaded { is_threaded job.now ≡ false }
     ensures ok { IfOk result (HasText (IsOutput limits job.now input.now)) }
+    ensures of_diff { IfOk result (λ output. is_of_diff output ≡ is_diff job.now) }
     ensures err { IfErr result (IsRefusal limits job.now input.now) }
 {
     match *job {
@@ -222,9 +239,12 @@ fn prepare(
             ref stream,
             frame,
         } => prepare_hops(alloc, limits, cycles, stream, frame, input),
-        Job::Plan { table, given, .. } => Ok(PreparedOutput::Text(planned(
-            alloc, limits, table, given, input,
+        Job::Plan { ref options } => Ok(PreparedOutput::Text(planned(
+            alloc, limits, options, input,
         )?)),
+        Job::Diff { quiet } => {
+            Ok(PreparedOutput::Differences(diff_output(alloc, limits, quiet, input)?))
+        }
     }
 }
 
@@ -287,7 +307,7 @@ fn output_of(
     input: &[u8],
 ) -> Result<Begun, Stop>
     requires { IsWithin job.now }
-    ensures ok { IfOk result (Begins (IsOutput limits job.now input.now) (IsRunOf limits job.now)) }
+    ensures ok { IfOk result (Begins (IsResult limits job.now input.now) (IsRunOf limits job.now)) }
     ensures err { IfErr result (IsRefusal limits job.now input.now) }
 {
     match threaded_cycles(job) {
@@ -460,37 +480,39 @@ fn run<R: Source>(
     }
 }
 
-/// Returns the status after an output was written: 4 if the output refused some of it. A line on the writer of faults
-/// says so.
-fn end_told<O: Sink, F: Sink>(output: &Told<O>, faults: &mut Told<F>) -> u8
-    ensures { EndsTold output.now.refused (writing F.contents faults.old faults.new) result }
+/// Returns the status after an output was written: the given one; or 4 if the output refused some of it. A line on the
+/// writer of faults says so.
+fn end_told<O: Sink, F: Sink>(wanted: u8, output: &Told<O>, faults: &mut Told<F>) -> u8
+    requires { wanted < 4 }
+    ensures { EndsTold wanted output.now.refused (writing F.contents faults.old faults.new) result }
 {
     if output.is_refused() {
         write_out(faults, b"cqf: output fault\n");
         return FAULT;
     }
-    DONE
+    wanted
 }
 
-/// Writes all of a text. Returns the status: 4 if the output refuses some of it.
+/// Writes all of a text. Returns the status: 0, or 4 if the output refuses some of it.
 fn hand_over<O: Sink, F: Sink>(text: &[u8], output: &mut Told<O>, faults: &mut Told<F>) -> u8
-    ensures { HandsOver text.now (writing O.contents output.old output.new) (writing F.contents faults.old faults.new) result }
+    ensures { HandsOver 0 text.now (writing O.contents output.old output.new) (writing F.contents faults.old faults.new) result }
 {
     write_out(output, text);
-    end_told(output, faults)
+    end_told(DONE, output, faults)
 }
 
-/// Writes all of an output. Returns the status: 4 if the writer refuses some of it.
+/// Writes all of an output. Returns the status: that of the output, or 4 if the writer refuses some of it.
 fn tell_output<O: Sink, F: Sink>(
     prepared: PreparedOutput,
     output: &mut Told<O>,
     faults: &mut Told<F>,
 ) -> u8
     ensures { (text : List ℕ) → IsTextOf prepared text →
-        HandsOver text (writing O.contents output.old output.new) (writing F.contents faults.old faults.new) result }
+        HandsOver (status_after (is_of_diff prepared) text) text (writing O.contents output.old output.new) (writing F.contents faults.old faults.new) result }
 {
+    let wanted = prepared.status();
     prepared.tell(output);
-    end_told(output, faults)
+    end_told(wanted, output, faults)
 }
 
 /// Writes the text of a stop: help or the version on the output, and anything else on the writer of faults. Returns the
@@ -567,6 +589,7 @@ fn prepare_threads(
 ) -> Result<PreparedOutput, Stop>
     requires { threaded.cycles ≤ most_cycles }
     ensures ok { IfOk result (HasText (IsThreadsOutput threaded.limits threaded.cycles input.now)) }
+    ensures of_diff { IfOk result (λ output. is_of_diff output ≡ false) }
     ensures err { IfErr result (EndsThreads threaded.limits threaded.cycles input.now) }
 {
     let ThreadedRun { limits, cycles } = threaded;
@@ -586,7 +609,7 @@ fn prepare_threads(
 /// Returns the exit status:
 ///
 /// * 0: done;
-/// * 1: the input was refused;
+/// * 1: the input was refused; or, for `diff`, something differs;
 /// * 2: the words were wrong;
 /// * 3: an allocation failed;
 /// * 4: a read, a write or a run on threads failed.

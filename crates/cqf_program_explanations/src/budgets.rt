@@ -1,4 +1,4 @@
-//! Streams for which a link has too little left, and with what they would fit.
+//! Streams for which a link has too little left, and the octets or the cycle time with which they would fit.
 
 use crate::given::CommandInput;
 use crate::places::Grouped;
@@ -13,7 +13,7 @@ use cqf_traffic::Traffic;
 use cqf_units::{Nanos, Octets, budget_octets, cost};
 use std::alloc::{AllocError, Global};
 
-/// How many links may be short one after the other until the search ends: the most of a tree.
+/// The most links that may be short, one after the other, before the search ends: as many as a tree may have.
 const MOST_SHORT: usize = 200;
 
 /// Steps of a search that halve any number below 2^24, such as a cycle time in ns or a reservation in octets.
@@ -202,7 +202,7 @@ fn if_enough(
     }
 }
 
-/// Returns with which octets or cycle time a stream would fit, in words.
+/// Returns the octets or the cycle time with which a stream would fit, in words.
 fn remedy(alloc: Global, octets: Option<u32>, cycle: Option<u32>) -> Result<String, AllocError> {
     let grouped = |number: Option<u32>| number.map(|number| Grouped(u64::from(number)));
     match (grouped(octets), grouped(cycle)) {
@@ -215,7 +215,7 @@ fn remedy(alloc: Global, octets: Option<u32>, cycle: Option<u32>) -> Result<Stri
     }
 }
 
-/// Returns the same for a stream that is refused because a link is short. Its traffic has to have room too.
+/// Returns them for a stream that is refused because a link is short. Octets have to be enough for its traffic too.
 fn remedy_of(
     alloc: Global,
     granted: &Granted,
@@ -261,7 +261,7 @@ fn tell_short(
     );
     let (place, label) = (item.place_of("octets"), item.counted(alloc)?);
     told.tell(format!(in alloc;
-        "{place}: {label} needs {cost} octets a cycle on {from}>{to}, {left} are left of {budget}{remedy}"
+        "{place}: {label} needs {cost} octets a cycle on {from}>{to}, where {left} of {budget} are left{remedy}"
     )?)
 }
 

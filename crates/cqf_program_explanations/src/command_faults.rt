@@ -80,7 +80,7 @@ fn tell_no_frame(given: &CommandInput<'_>, told: &mut ToldLines) -> Result<(), A
         Some((place, count)) => {
             let count = Grouped(count);
             told.tell(format!(in alloc;
-                "{place}: the number of an offer is its row's, 1 to {count} in this table"
+                "{place}: an offer's number is that of its row, 1 to {count} in this table"
             )?)
         }
         None => {
@@ -92,7 +92,7 @@ fn tell_no_frame(given: &CommandInput<'_>, told: &mut ToldLines) -> Result<(), A
     }
 }
 
-/// Reports what `hops` looks for in vain.
+/// Reports the stream or the frame that `hops` doesn't find.
 pub(crate) fn tell_hops(
     given: &CommandInput<'_>,
     told: &mut ToldLines,

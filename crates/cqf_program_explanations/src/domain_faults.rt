@@ -224,7 +224,9 @@ pub(crate) fn tell_misplaced_others(
             continue;
         }
         let other = Grouped(link.item.number("other"));
-        let words = format!(in given.alloc; "other = {other}: only a link from a station has it")?;
+        let words = format!(in given.alloc;
+            "other = {other}: only a link from a station has this key"
+        )?;
         tell_of_link(given, told, link, "other", words.as_str())?;
     }
     Ok(())
@@ -383,7 +385,7 @@ pub(crate) fn tell_syncs(given: &CommandInput<'_>, told: &mut ToldLines) -> Resu
             let most = Grouped(shortest.saturating_add(least));
             let (shortest, least) = (Grouped(shortest), Grouped(least));
             let words = format!(in given.alloc;
-                "sync = {sync}: the shortest frame takes {shortest} ns and the least delay is {least} ns, so sync is at most {most}"
+                "sync = {sync}: the shortest frame takes {shortest} ns and the least delay is {least} ns, so sync can be at most {most} ns"
             )?;
             tell_of_link(given, told, link, "delay", words.as_str())?;
         }

@@ -11,6 +11,7 @@ use crate::domain_faults::{
 use crate::file_faults::{tell_key_twice, tell_long_lines, tell_unknown_keys};
 use crate::given::{CommandInput, given_of};
 use crate::network_faults::tell_network;
+use crate::pairs::{FileLine, command_about, file_line};
 use crate::part_faults::tell_parts;
 use crate::plan_faults::{tell_below_traffic, tell_plan};
 use crate::refusal::{Refusal, refusal_of};
@@ -143,18 +144,8 @@ fn tell_refusal(
     }
 }
 
-/// Returns the text after the line of a refusal: for each thing that is wrong in this way a line, at most 20 of them, in the order of the
-/// texts, followed by `and N more` if there are more. Each line begins with two blanks and ends with LF, and has only printable characters
-/// of ASCII; any other character is printed as `\u{..}`, with its number in hexadecimal digits. The text is empty if there is nothing to
-/// say: the line isn't a known refusal, or says everything by itself, or no file is named.
-///
-/// `command` is the command's word, such as `run`. `cycles` is how many cycles are run, if the words say so, and `cycle_times` are the
-/// cycle times in nanoseconds that they give instead of those of the plan. `limits` are those within which a plan is read. `sources` are
-/// the files that the words name, in their order. `line` is the line of the refusal with its line feed.
-///
-/// # Errors
-/// If an allocation fails.
-pub fn explanation(
+/// Returns the explanation of a line that is about all files together.
+fn explained(
     alloc: Global,
     command: &str,
     cycles: Option<u32>,
@@ -181,4 +172,51 @@ pub fn explanation(
         }
     }
     told.text("  ")
+}
+
+/// Returns the text that follows the line of a refusal. It has a line for each thing with this fault, at most 20 of them, in the order of the
+/// texts, followed by `and N more` if there are more. Each line begins with two blanks and ends with LF, and has only printable characters
+/// of ASCII. Any other character is printed as `\u{..}`, with its number in hexadecimal digits. The text is empty if the line isn't a known
+/// refusal, if the line needs no explanation, or if no file is named.
+///
+/// `command` is the command's word, such as `run`. `cycles` is the number of cycles that are run, if the words give one. `cycle_times` are
+/// the cycle times in nanoseconds that the words give instead of those of the plan. A plan is read within `limits`. `sources` are the files
+/// that the words name, in their order. `line` is the line of the refusal with its line feed.
+///
+/// # Errors
+/// If an allocation fails.
+pub fn explanation(
+    alloc: Global,
+    command: &str,
+    cycles: Option<u32>,
+    cycle_times: &[u32],
+    limits: Limits,
+    sources: &[NamedFile<'_>],
+    line: &[u8],
+) -> Result<Vec<u8>, AllocError>
+    ensures { IfOk result (λ text. IsExplanation text.items) }
+{
+    match file_line(alloc, line)? {
+        Some(FileLine { place, line }) => match sources.get(place) {
+            Some(source) => explained(
+                alloc,
+                "latency",
+                cycles,
+                cycle_times,
+                limits,
+                &[*source],
+                line.as_bytes(),
+            ),
+            None => Ok(Vec::new(alloc)),
+        },
+        None => explained(
+            alloc,
+            command_about(command, line),
+            cycles,
+            cycle_times,
+            limits,
+            sources,
+            line,
+        ),
+    }
 }

@@ -1,4 +1,4 @@
-//! Which values a plan may have at each key, in words. Whether a value is one of them is for the readers to say.
+//! Which values a plan may have at each key, in words. Whether a value is one of them is decided by the readers.
 
 use crate::lexer::before_comment;
 use crate::planning::is_in_step;
@@ -10,10 +10,10 @@ use std::alloc::{AllocError, Global};
 use toml::Value;
 
 /// The form of a stream's talker, in words.
-const TALKER_FORM: &str = "from is a name, or a station's and a bridge's with @ between";
+const TALKER_FORM: &str = "from is a name, or STATION@BRIDGE";
 
 /// The form of a name, in words.
-pub(crate) const NAME_FORM: &str = "a name is 1 to 32 of a to z, 0 to 9, - and _";
+pub(crate) const NAME_FORM: &str = "a name has 1 to 32 characters, each a to z, 0 to 9, - or _";
 
 /// The form of a path, in words.
 const PATH_FORM: &str =
@@ -22,25 +22,25 @@ const PATH_FORM: &str =
 /// The form of several paths, in words.
 const PATHS_FORM: &str = "paths is an array of paths, as [[\"a\", \"s\"], [\"a\", \"b\", \"t\"]]";
 
-/// The form of how many cycles apart a stream is offered, in words.
+/// The form of the number of cycles from one cycle of a stream to its next, in words.
 pub(crate) const EVERY_FORM: &str =
-    "every is the number of cycles between its own cycles: a whole number that divides 80";
+    "every is a whole number that divides 80; the stream has one cycle in that many";
 
 /// The form of the first of these cycles, in words.
 pub(crate) const PHASE_FORM: &str =
-    "phase is the first of its own cycles: a whole number below every";
+    "phase is the stream's first own cycle, a whole number below every";
 
 /// The form of a destination address, in words.
 const MAC_FORM: &str =
-    "a mac is six pairs of hexadecimal digits, as 01:00:5e:00:00:07, and neither 01:80:c2:00:00:00 to 0f, which bridges don't forward, nor all 0";
+    "a mac is six pairs of hexadecimal digits, as 01:00:5e:00:00:07; not all 0, and not 01:80:c2:00:00:00 to 0f, which bridges don't forward";
 
 /// The form of what a bridge's port is called, in words.
 const INTERFACE_FORM: &str =
     "an interface is 1 to 15 letters, digits and . _ - @, and begins with a letter or digit";
 
-/// The form of the delays of a link, where there are two, in words.
+/// The form of the delays of a link that has two, in words.
 const DELAYS_FORM: &str =
-    "a delay is a whole number, 0 to 10,000,000 ns, or an array of the least and the greatest";
+    "a delay is a whole number, 0 to 10,000,000 ns, or an array of the least and the greatest delay";
 
 /// The form of the cycle times of a network file, in words.
 pub(crate) const CYCLES_FORM: &str =
@@ -69,7 +69,7 @@ fn form_of_link(key: &str) -> Option<&'static str> {
         "delay" => "a delay is a whole number, 0 to 10,000,000 ns",
         "guard" => return form_of_top(key),
         "duplex" => "duplex is true or false",
-        "other" => "a frame has a whole number of octets, 64 to 1,522",
+        "other" => "other is a whole number of octets, 64 to 1,522",
         "interface" | "far-interface" => INTERFACE_FORM,
         _ => return None,
     })
@@ -92,7 +92,7 @@ fn form_of_stream(key: &str) -> Option<&'static str> {
         "mac" => MAC_FORM,
         "vlan" => "a vlan is a whole number, 1 to 4,094",
         "interval" => "an interval is a whole number, 1 to 1,000,000,000 ns",
-        "frames" => "frames is a whole number, 1 to 1,000 an interval",
+        "frames" => "frames is a whole number, 1 to 1,000 in each interval",
         "size" => "a size is a whole number, 64 to 1,522 octets",
         "jitter" => "a jitter is a whole number, 0 to 1,000,000,000 ns",
         "offset" => "an offset is a whole number, 0 to 1,000,000,000 ns",
@@ -103,7 +103,7 @@ fn form_of_stream(key: &str) -> Option<&'static str> {
 /// Returns the form of the number of a stream gate, which depends on the limits.
 fn form_of_gate(limits: Limits) -> &'static str {
     if limits == PROFILE {
-        "x-gate is a whole number, 1 to 1,024, and with --large to 16,384"
+        "x-gate is a whole number, 1 to 1,024 (16,384 with --large)"
     } else {
         "x-gate is a whole number, 1 to 16,384"
     }
@@ -126,7 +126,7 @@ pub(crate) fn form_within(
             Some("a phase goes with every: give both, or in-step alone")
         }
         (_, "least-size") if item.get("size").is_some() && item.number(key) > item.number("size") =>
-            { Some("least-size is no more than the stream's size") }
+            { Some("least-size is at most the stream's size") }
         _ => form_of_stream(key),
     }
 }

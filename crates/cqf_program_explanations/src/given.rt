@@ -13,7 +13,7 @@ use std::alloc::{AllocError, Global};
 pub(crate) struct CommandInput<'a> {
     pub alloc: Global,
     pub command: &'a str,
-    /// How many cycles are run, if the words say so.
+    /// The number of cycles that are run, if the words give one.
     pub cycles: Option<u32>,
     /// The cycle times in nanoseconds that the words give instead of those of the plan.
     pub cycle_times: &'a [u32],

@@ -14,7 +14,7 @@ pub(crate) fn larger_words(given: &CommandInput<'_>, most: u64) -> Result<String
         return Ok(String::new(given.alloc));
     }
     let most = Grouped(most);
-    format!(in given.alloc; ", and with --large {most}")
+    format!(in given.alloc; " ({most} with --large)")
 }
 
 /// Returns the names of the files from which the plan is read.

@@ -1,18 +1,17 @@
-//! Why an input is refused, in words: the lines that follow that of a refusal. They say where the input is wrong, what it has there, and
-//! what it may have.
+//! Explanations: the lines that follow the line of a refusal. They say where the input is wrong, what it has there, and what it may have.
 //!
 //! - [`explanation`] makes these lines from the refusal's line and the files that the words name, which are a [`NamedFile`] each.
-//! - [`notes`] returns what is worth mentioning though nothing is refused, and [`plan_notes`] which streams of a plan reserve much more than
-//!   they send.
+//! - [`notes`] returns hints about an input that isn't refused. [`plan_notes`] returns which streams of a plan reserve much more than they
+//!   send.
 //!
 //! ```text
 //! cqf: domain: BadValue rate
 //!   plan.toml:12: link 3, a>b: rate = 250: a rate is 10, 100, 1000, 2500, 5000, 10000, 25000, 40000 or 100000 (Mb/s)
 //! ```
 //!
-//! The second line is the explanation. All things with the refusal's fault are listed, at most 20, in the order of the texts. Whether a link
-//! or a stream has the fault is for the readers and the admission to say, which are asked about each by itself. The lines of keys are found by
-//! a scan of the texts. No result of a command depends on it.
+//! The second line is the explanation. All things with the refusal's fault are listed, at most 20, in the order of the texts. The readers and
+//! the admission, called for each link or stream by itself, decide whether it has the fault. A scan of the texts finds the lines of keys. No
+//! result of a command depends on it.
 #![tactic(auto)]
 
 mod budgets;
@@ -25,10 +24,12 @@ mod given;
 mod hints;
 mod lexer;
 mod lines;
+mod link_faults;
 mod network;
 mod network_faults;
 mod noting;
 mod outline;
+mod pairs;
 mod part_faults;
 mod parts;
 mod places;

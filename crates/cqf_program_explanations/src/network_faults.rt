@@ -1,4 +1,4 @@
-//! Networks with open parts, and streams that don't enter as their text says.
+//! Networks with open parts, and streams that can't enter the network as their `from`, `to` and paths say.
 
 use crate::given::CommandInput;
 use crate::hints::plan_hint;
@@ -67,19 +67,18 @@ fn branches_of<'p>(alloc: Global, item: &WrittenItem<'p>) -> Result<Vec<&'p [Val
     Ok(branches)
 }
 
-/// Returns the texts that name a station's access links, with `or` between.
+/// Returns the texts that name a station's access links, with `or` between. If a bridge is given, the access link to it is left out.
 fn texts_of_links(
     alloc: Global,
     network: &Network<'_>,
     station: &str,
+    besides: Option<&str>,
 ) -> Result<String, AllocError> {
     let mut words = String::new(alloc);
     for link in &network.links {
-        if is_access(network, link, station) {
-            let (between, edge) = (
-                if words.is_empty() { "" } else { " or " },
-                network.edge_of(link),
-            );
+        let edge = network.edge_of(link);
+        if is_access(network, link, station) && besides != Some(edge) {
+            let between = if words.is_empty() { "" } else { " or " };
             let more = format!(in alloc; "{between}{station}@{edge}")?;
             words.push_str(more.as_str())?;
         }
@@ -93,17 +92,24 @@ pub(crate) fn links_words(
     network: &Network<'_>,
     station: &str,
 ) -> Result<String, AllocError> {
-    let texts = texts_of_links(alloc, network, station)?;
+    let texts = texts_of_links(alloc, network, station, None)?;
     format!(in alloc; "; did you mean {texts}?")
 }
 
-/// Returns the words about a stream whose talker has several access links.
+/// Returns the words about a stream whose talker has several access links. If the talker's text names one, then `plan --without` leaves that
+/// one out, and the words name the others.
 fn several_words(alloc: Global, network: &Network<'_>, talker: &str) -> Result<String, AllocError> {
-    let texts = texts_of_links(alloc, network, talker)?;
-    format!(in alloc; "from: {talker} has several access links: say which, as {texts}")
+    let (station, bridge) = ends_of_talker(talker);
+    let texts = texts_of_links(alloc, network, station, bridge)?;
+    if bridge.is_some() {
+        return format!(in alloc;
+            "from: {talker} is left out, and {station} has several other access links: say which, as {texts}"
+        );
+    }
+    format!(in alloc; "from: {station} has several access links: say which, as {texts}")
 }
 
-/// Returns the words about a stream whose path begins at another bridge than where its talker's streams enter.
+/// Returns the words about a stream whose path doesn't begin at the bridge at which its talker's streams enter.
 fn other_edge_words(
     alloc: Global,
     network: &Network<'_>,
@@ -119,14 +125,14 @@ fn other_edge_words(
         if begins != edge {
             let (begins, talker) = (shortened(alloc, begins)?, shortened(alloc, talker)?);
             return format!(in alloc;
-                "its path begins at {begins}, and its talker {talker} comes in at {edge}: let it begin there"
+                "its path begins at {begins}, but its talker {talker} enters the network at {edge}: begin the path there"
             );
         }
     }
     Ok(String::new(alloc))
 }
 
-/// Reports the stream of a name that doesn't enter as its text says.
+/// Reports the stream of a name that can't enter the network as its `from`, `to` and paths say.
 pub(crate) fn tell_entering(
     given: &CommandInput<'_>,
     told: &mut ToldLines,
@@ -144,7 +150,7 @@ pub(crate) fn tell_entering(
             "OtherEdge" => ("from", other_edge_words(alloc, &network, item, talker)?),
             _ => {
                 let words =
-                    "to: its listeners aren't those of its paths, in their order; without to they are";
+                    "to: name the listeners of its paths in the order of the paths, or leave out to";
                 ("to", String::from_str(alloc, words)?)
             }
         };
@@ -159,7 +165,7 @@ fn open_words(item: &WrittenItem<'_>) -> &'static str {
     match item.value.as_table() {
         Some(table) if lacks_way(table) => "has no path",
         Some(table) if lacks_octets(table) => "has no octets",
-        Some(table) if lacks_turns(table) => "is in step, and has no every and phase",
+        Some(table) if lacks_turns(table) => "is in step, but has no every and phase",
         _ => "",
     }
 }
@@ -208,7 +214,7 @@ fn in_tenths(alloc: Global, tenths: u64) -> Result<String, AllocError> {
 /// How many streams a line about an access link names.
 const MOST_NAMED: u64 = 4;
 
-/// Returns what a link's streams take of it: all together in tenths of a Mb/s, and each in words. Returns `None` if it has no streams.
+/// Returns what a link's streams with traffic take of it: all together in tenths of a Mb/s, and each in words. Returns `None` if it has none.
 fn use_words(
     given: &CommandInput<'_>,
     network: &Network<'_>,
@@ -219,7 +225,10 @@ fn use_words(
     let mut question = String::new(alloc);
     for item in &given.written.items(KeyOwner::Stream)? {
         let talker = item.text("from").unwrap_or("");
-        if talker.is_empty() || !is_access(network, link, talker) {
+        if talker.is_empty()
+            || !is_access(network, link, talker)
+            || item.get("interval").is_none()
+        {
             continue;
         }
         let taken = taken_by(item);
@@ -242,7 +251,7 @@ fn use_words(
         let more = count - MOST_NAMED;
         words.push_str(format!(in alloc; " and {more} more")?.as_str())?;
     }
-    words.push_str("; give it a higher rate, or them longer intervals")?;
+    words.push_str("; give the link a higher rate, or its streams longer intervals")?;
     words.push_str(question.as_str())?;
     Ok(Some((all, words)))
 }

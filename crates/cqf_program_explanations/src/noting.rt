@@ -1,4 +1,4 @@
-//! What is worth mentioning though nothing is refused.
+//! Hints about an input that isn't refused.
 ghost use Rattle.std.specs.Prelude.{IfOk};
 ghost use Rattle.cqf_program_explanations.specs.Explanations.{AreNotes};
 
@@ -146,7 +146,7 @@ fn note_talkers(given: &CommandInput<'_>, told: &mut ToldLines) -> Result<(), Al
     Ok(())
 }
 
-/// Returns whether a command that wrote this on standard error may have notes: it was done, or says how deliveries are.
+/// Returns whether a command that wrote this on standard error may have notes: it wrote nothing, or its line is about deliveries or latencies.
 fn may_have_notes(line: &[u8]) -> bool {
     if line.is_empty() {
         return true;
@@ -157,9 +157,9 @@ fn may_have_notes(line: &[u8]) -> bool {
     }
 }
 
-/// Returns what is worth mentioning about a plan that isn't refused: a line each, at most 20, followed by how many more there are. Each
-/// line begins with `note: ` and ends with LF, and has only printable characters of ASCII. The text is empty if there is nothing to say, if
-/// the command takes no plan, or if the input is refused.
+/// Returns notes on a plan that isn't refused, about what looks like a mistake: at most 20 lines, followed by how many more there are. Each
+/// line begins with `note: ` and ends with LF, and has only printable characters of ASCII. The text is empty if nothing looks like a
+/// mistake, if the command takes no plan, or if the input is refused.
 ///
 /// `command`, `limits` and `sources` are those of [`explanation`](crate::explanation), and `line` is what the command wrote on standard
 /// error.

@@ -14,6 +14,7 @@ fn taken_by(command: &str) -> &'static str {
     match command {
         "port" => "a gate list and arrivals",
         "line" => "offers",
+        "diff" => "two plans",
         "run" | "report" | "deliveries" | "check" | "summary" | "hops" => {
             "a plan, calls, offers and background frames, if any"
         }

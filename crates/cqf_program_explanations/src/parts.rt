@@ -34,9 +34,9 @@ pub(crate) struct Input<'a> {
     pub are_two: bool,
 }
 
-/// Returns whether the command takes a domain.
+/// Returns whether the command takes a domain, and no more than one.
 pub(crate) fn takes_domain(command: &str) -> bool {
-    command != "port" && command != "line"
+    command != "port" && command != "line" && command != "diff"
 }
 
 /// Returns whether a file is named like a TOML text.

@@ -2,6 +2,7 @@
 
 use crate::domain_faults::{tell_guard_at, tell_link_guards_at};
 use crate::given::CommandInput;
+use crate::link_faults::tell_no_link;
 use crate::network::Network;
 use crate::network_faults::{
     access_link_of, ends_of_talker, is_talker, links_words, tell_entering,
@@ -72,7 +73,7 @@ fn no_talker(alloc: Global, network: &Network<'_>, talker: &str) -> Result<Strin
     let shown = shortened(alloc, name)?;
     if let Some(bridge) = bridge {
         if network.is_bridge(name) {
-            return format!(in alloc; "{shown} is a bridge: name it alone");
+            return format!(in alloc; "{shown} is a bridge: give its name without @");
         }
         if access_link_of(network, name).is_some() {
             let (bridge, words) = (
@@ -107,6 +108,26 @@ pub(crate) fn tell_no_talkers(
         let (place, label) = (item.place_of("from"), item.label(given.alloc)?);
         let why = no_talker(given.alloc, &network, talker)?;
         told.tell(format!(in given.alloc; "{place}: {label}: from: {why}")?)?;
+    }
+    Ok(())
+}
+
+/// Reports each stream whose `from` names no talker; if there is none, the stream of a name, whose talker's access links are left out.
+fn tell_talkers_out(
+    given: &CommandInput<'_>,
+    told: &mut ToldLines,
+    stream: &str,
+) -> Result<(), AllocError> {
+    tell_no_talkers(given, told)?;
+    for item in &given.written.items(KeyOwner::Stream)? {
+        if item.text("name") == Some(stream) && told.is_empty() {
+            let (place, label) = (item.place_of("from"), item.label(given.alloc)?);
+            let talker = ends_of_talker(item.text("from").unwrap_or("")).0;
+            let shown = shortened(given.alloc, talker)?;
+            told.tell(format!(in given.alloc;
+                "{place}: {label}: from: every access link of {shown} is left out by --without"
+            )?)?;
+        }
     }
     Ok(())
 }
@@ -167,14 +188,14 @@ fn tell_too_soon(
     };
     let (taken, deadline) = (time_on(times, longest_frame(item)), item.number("deadline"));
     let waits = if taken < deadline {
-        " beside what it waits for there"
+        " and also waits there"
     } else {
         ""
     };
     let (taken, deadline) = (Grouped(taken), Grouped(deadline));
     let question = nanos_question(given.alloc, item, "deadline")?;
     told.tell(format!(in given.alloc;
-        "{place}: {label}: a frame takes {taken} ns on the access link {from}>{to}{waits}, and its deadline is {deadline} ns{question}"
+        "{place}: {label}: a frame takes {taken} ns on the access link {from}>{to}{waits}, but its deadline is {deadline} ns{question}"
     )?)
 }
 
@@ -191,12 +212,12 @@ fn tell_needs(
     if unplaced.fault == "TooLittle" {
         let (place, octets) = (item.place_of("octets"), Grouped(item.number("octets")));
         return told.tell(format!(in given.alloc;
-            "{place}: {label} reserves {octets} octets a cycle, and its traffic needs {needed}{question}"
+            "{place}: {label} reserves {octets} octets a cycle, but its traffic needs {needed}{question}"
         )?);
     }
     let place = item.place_of("interval");
     told.tell(format!(in given.alloc;
-        "{place}: {label}: its traffic needs {needed} octets a cycle, and a reservation is at most 1,000,000: a shorter cycle, or several streams{question}"
+        "{place}: {label}: its traffic needs {needed} octets a cycle, but a reservation is at most 1,000,000: use a shorter cycle, or several streams{question}"
     )?)
 }
 
@@ -236,7 +257,7 @@ fn tell_full(
     let (place, label) = (item.place_of("to"), item.label(given.alloc)?);
     let question = nanos_question(given.alloc, item, "interval")?;
     told.tell(format!(in given.alloc;
-        "{place}: {label} needs {cost} octets a cycle on a path to {listener}; on the shortest one {link} has {left} left{question}"
+        "{place}: {label} needs {cost} octets a cycle on a path to {listener}, but {link} on the shortest path has only {left} left{question}"
     )?)
 }
 
@@ -251,13 +272,13 @@ fn tell_short(
     let left = Grouped(number_in(Some(left)));
     let (place, label) = (item.place(), item.label(given.alloc)?);
     let question = nanos_question(given.alloc, item, "interval")?;
-    if is_in_step(item) {
+    if is_in_step(item) && item.get("every").is_none() {
         return told.tell(format!(in given.alloc;
             "{place}: {label} has no phase in which each of its links has room; in the best phase {link} has {left} octets a cycle left{question}"
         )?);
     }
     told.tell(format!(in given.alloc;
-        "{place}: {label} needs more octets a cycle than {link} of its path has left, {left}{question}"
+        "{place}: {label} needs more octets a cycle than the {left} left on {link} of its path{question}"
     )?)
 }
 
@@ -276,7 +297,7 @@ fn tell_late(
     let (place, label) = (item.place_of("deadline"), item.label(given.alloc)?);
     let question = nanos_question(given.alloc, item, "deadline")?;
     told.tell(format!(in given.alloc;
-        "{place}: {label}: a frame takes up to {most} ns from its edge bridge to {listener}, {over} ns more than the {deadline} ns that its deadline leaves{question}"
+        "{place}: {label}: a frame takes up to {most} ns from its edge bridge to {listener}; its deadline leaves {deadline} ns for that, {over} ns too few{question}"
     )?)
 }
 
@@ -344,7 +365,7 @@ fn traffic_of(
 }
 
 /// Returns what in a stream's traffic prevents its talker from being in step on a cycle time, in ns: the key, and words; `None` if nothing
-/// does. Frames are seen where they enter the network.
+/// does. It is about frames when they enter the network.
 fn step_words(
     given: &CommandInput<'_>,
     item: &WrittenItem<'_>,
@@ -352,7 +373,7 @@ fn step_words(
 ) -> Result<Option<(&'static str, String)>, AllocError> {
     let (alloc, sync) = (given.alloc, given.written.number("sync"));
     if item.get("interval").is_none() {
-        let words = String::from_str(alloc, "without traffic it can't be in step")?;
+        let words = String::from_str(alloc, "in-step needs traffic: give interval and size")?;
         return Ok(Some(("in-step", words)));
     }
     if item.number("interval").checked_rem(cycle).unwrap_or(0) != 0 {
@@ -400,26 +421,26 @@ fn uneven_words(alloc: Global, item: &WrittenItem<'_>, cycle: u64) -> Result<Str
     )
 }
 
-/// Returns the words about frames that may arrive so soon after a cycle's beginning that clocks differ by more, in ns.
+/// Returns the words about frames that may arrive sooner after a cycle's beginning than clocks may differ, in ns.
 fn first_words(alloc: Global, first: u64, sync: u64) -> Result<String, AllocError> {
     let (first, sync) = (Grouped(first), Grouped(sync));
     format!(in alloc;
-        "its first frames arrive {first} ns after a cycle's start, and clocks differ by up to {sync} ns"
+        "its first frames arrive {first} ns after a cycle's start, but clocks can differ by {sync} ns"
     )
 }
 
-/// Returns the words about frames that may arrive so late after a cycle's beginning that, by clocks that differ, the cycle is over, all in
-/// ns.
+/// Returns the words about frames that, by clocks that differ, may arrive after the end of the cycle in which an interval's first frame
+/// arrives, all in ns.
 fn latest_words(alloc: Global, latest: u64, sync: u64, cycle: u64) -> Result<String, AllocError> {
     let (latest, cycle) = (Grouped(latest), Grouped(cycle));
     if sync == 0 {
         return format!(in alloc;
-            "its last frames arrive {latest} ns after a cycle's start, and a cycle is {cycle} ns long"
+            "its last frames arrive {latest} ns after a cycle's start, but a cycle is {cycle} ns long"
         );
     }
     let sync = Grouped(sync);
     format!(in alloc;
-        "its last frames arrive {latest} ns after a cycle's start by clocks that differ by {sync} ns, and a cycle is {cycle} ns long"
+        "its last frames arrive {latest} ns after a cycle's start, clocks can differ by {sync} ns, and a cycle is {cycle} ns long"
     )
 }
 
@@ -462,11 +483,14 @@ pub(crate) fn tell_plan(
     told: &mut ToldLines,
     refusal: Refusal<'_>,
 ) -> Result<(), AllocError> {
+    if refusal.fault == "NoLink" {
+        return tell_no_link(given, told, refusal.value);
+    }
     let Some(unplaced) = unplaced_of(refusal) else {
         return tell_guards_at(given, told, cycle_of(refusal));
     };
     match unplaced.fault {
-        "NoTalker" => return tell_no_talkers(given, told),
+        "NoTalker" => return tell_talkers_out(given, told, unplaced.stream),
         "TwoAccessLinks" | "OtherEdge" | "OtherListeners" => {
             return tell_entering(given, told, unplaced.stream, unplaced.fault);
         }

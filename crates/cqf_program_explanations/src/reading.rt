@@ -7,7 +7,7 @@ use crate::given::CommandInput;
 use crate::planning::is_planning;
 use crate::written::{KeyOwner, WrittenItem, number_of};
 use cqf_addressing::{read_link_interfaces, read_stream_addresses};
-use cqf_edge::{EdgeFault, edge_streams};
+use cqf_edge::{EdgeFault, edge_streams, read_streams_are_written};
 use cqf_model::{LEAST_OCTETS, LONGEST_CYCLE};
 use cqf_network::{
     FlowsFault, NetworkDomain, NetworkFault, Stream, read_network_flows, read_network_streams,
@@ -117,19 +117,27 @@ pub(crate) fn domain_at(
     Ok(Some(network.at(alloc, cycle)?))
 }
 
-/// Returns the streams of a plan as they are written; none if they are refused.
-#[tactic(auto, using(cqf_edge::proofs::Written::streams_written))]
-fn read_streams(given: &CommandInput<'_>) -> Result<Vec<Stream>, AllocError>
+/// Returns the streams of a plan's text; none if they are refused.
+pub(crate) fn read_streams(alloc: Global, plan: &[u8]) -> Result<Vec<Stream>, AllocError>
+    ensures { IfOk result (λ streams. All IsWrittenStream (map stream_text streams.items)) }
+{
+    read_streams_are_written();
+    match read_network_streams(alloc, plan) {
+        Ok(streams) => Ok(streams),
+        Err(FlowsFault::Streams(StreamsFault::Memory)) => Err(AllocError),
+        Err(_) => Ok(Vec::new(alloc)),
+    }
+}
+
+/// Returns the streams of the plan of all files together; none if they are refused.
+fn plan_streams(given: &CommandInput<'_>) -> Result<Vec<Stream>, AllocError>
     ensures { IfOk result (λ streams. All IsWrittenStream (map stream_text streams.items)) }
 {
     let Some(text) = part_with(given, "streams")? else {
         return Ok(Vec::new(given.alloc));
     };
-    match read_network_streams(given.alloc, text.as_bytes()) {
-        Ok(streams) => Ok(streams),
-        Err(FlowsFault::Streams(StreamsFault::Memory)) => Err(AllocError),
-        Err(_) => Ok(Vec::new(given.alloc)),
-    }
+    let streams = read_streams(given.alloc, text.as_bytes())?;
+    Ok(streams)
 }
 
 /// Returns what each stream promises at its edge bridge, in the plan's order; nothing if a stream doesn't enter the network.
@@ -138,7 +146,7 @@ pub(crate) fn edge_traffic(
     network: &NetworkDomain,
 ) -> Result<Vec<Option<Traffic>>, AllocError> {
     let mut all = Vec::new(given.alloc);
-    match edge_streams(given.alloc, network, read_streams(given)?) {
+    match edge_streams(given.alloc, network, plan_streams(given)?) {
         Ok(edge) => {
             for stream in &edge.streams {
                 all.push(stream.traffic)?;

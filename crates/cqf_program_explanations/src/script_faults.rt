@@ -346,7 +346,9 @@ pub(crate) fn tell_too_many_lines(
     let line = if counts.calls > MOST_CALLS as u64 {
         format!(in given.alloc; "{place}: {calls} calls: a script has at most 100,000")?
     } else {
-        format!(in given.alloc; "{place}: {seals} lines are seal, and {cycles} cycles are run")?
+        format!(in given.alloc;
+            "{place}: {seals} lines are seal, but only {cycles} cycles are run"
+        )?
     };
     told.tell(line)
 }

@@ -62,7 +62,7 @@ fn refusal_of_path(domain: &Domain, paths: &[Vec<String>], number: usize) -> Opt
 }
 
 impl WrittenStream<'_> {
-    /// Returns why the stream is refused for its own form. If it has only its ends, its paths aren't judged.
+    /// Returns why the stream is refused for its own form. If it has ends and no path, its paths aren't checked.
     fn refusal(&self, domain: &Domain) -> Option<Refused> {
         if count_places(self.request.paths.as_slice()).is_none() {
             return None;
@@ -126,7 +126,7 @@ fn tell_pace(
             )?)
         }
         None => told.tell(format!(in given.alloc;
-            "{place}: {label}: phase = {phase}, and there is no every: {PHASE_FORM}"
+            "{place}: {label}: phase = {phase}, but there is no every: {PHASE_FORM}"
         )?),
     }
 }
@@ -232,7 +232,7 @@ fn tell_loops(
             place.saturating_add(1),
         );
         let words = format!(in given.alloc;
-            "{name} is node {second} of the path, and was node {first} before"
+            "{name} is both node {first} and node {second} of the path"
         )?;
         asked.tell_of_paths(given.alloc, told, words.as_str())?;
     }

@@ -309,7 +309,7 @@ fn count_words(
 ) -> Result<String, AllocError> {
     let (text, owed, header) = (shown(alloc, text)?, table.columns().len(), table.header());
     let noun = if count == 1 { "field" } else { "fields" };
-    format!(in alloc; "{text}: {count} {noun} in place of {owed}: {header}")
+    format!(in alloc; "{text}: {count} {noun} instead of {owed}: {header}")
 }
 
 /// Returns what is wrong with a row, in words.
@@ -417,7 +417,7 @@ fn tell_order(
         if instant < before && !told.is_counted() {
             let (place, at, earlier) = (record.place, Grouped(instant), Grouped(before));
             told.tell(format!(in given.alloc;
-                "{place}: {at} ns comes after {earlier} ns; sort -s -t, -k1,1n puts rows in order"
+                "{place}: {at} ns is before {earlier} ns in the row above; sort -s -t, -k1,1n puts rows in order"
             )?)?;
         }
         before = instant;

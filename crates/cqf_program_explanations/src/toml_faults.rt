@@ -44,7 +44,7 @@ fn kind_of(part: &str, key: &str) -> KeyOwner {
     }
 }
 
-/// Returns what a text is that is in the place of a plan, if its beginning shows it.
+/// Returns what a text is that was given as a plan, if its beginning shows that it is something else.
 fn other_text(text: &[u8]) -> Option<&'static str> {
     let beginning = text.trim_ascii_start();
     if beginning.starts_with(b"at,from,") {
@@ -85,7 +85,7 @@ fn twice_among<'p>(keys: &'p [KeyLine<'p>], line: u64) -> Option<(&'p [u8], u64)
     }
 }
 
-/// Returns the same for some elements.
+/// Returns the same for the keys of elements.
 fn twice_within<'p>(elements: &'p [Element<'p>], line: u64) -> Option<(&'p [u8], u64)> {
     for element in elements {
         let found = twice_among(element.keys.as_slice(), line);
@@ -213,6 +213,11 @@ fn tell_missing_top(
     let words = form_of_top(key).unwrap_or("");
     if let Some(file) = given.written.files_of(key).first() {
         let place = file.at(None);
+        if file.part.text.trim_ascii_start().is_empty() {
+            return told.tell(format!(in given.alloc;
+                "{place}: no {key}: the file is empty; the command that was to write it may have failed"
+            )?);
+        }
         told.tell(format!(in given.alloc; "{place}: no {key} at the top: {words}")?)?;
     }
     Ok(())
@@ -277,7 +282,7 @@ fn tell_missing_within(
     Ok(())
 }
 
-/// Reports where a part lacks a required key.
+/// Reports each place at which a part lacks a required key.
 pub(crate) fn tell_missing(
     given: &CommandInput<'_>,
     told: &mut ToldLines,

@@ -7,14 +7,13 @@ ghost use Rattle.cqf_program_explanations.specs.Explanations.{AreNotes};
 use crate::explaining::NamedFile;
 use crate::given::given_of;
 use crate::planning::is_in_step;
+use crate::reading::read_streams;
 use crate::told::ToldLines;
 use crate::written::{KeyOwner, WrittenItem};
-use cqf_edge::{EdgeFault, EdgeStreams, edge_streams, read_streams_are_written};
+use cqf_edge::{EdgeFault, EdgeStreams, edge_streams};
 use cqf_model::{LEAST_OCTETS, LONGEST_CYCLE, Limits};
-use cqf_network::{
-    FlowsFault, NetworkDomain, NetworkFault, Pacing, Stream, WantedWay, read_network_streams,
-};
-use cqf_topology::{DomainFault, StreamsFault};
+use cqf_network::{NetworkDomain, NetworkFault, Pacing, Stream, WantedWay};
+use cqf_topology::DomainFault;
 use cqf_traffic::Traffic;
 use cqf_units::Nanos;
 use std::alloc::{AllocError, Global};
@@ -66,7 +65,7 @@ impl fmt::Display for DataRate {
     }
 }
 
-/// A plan as it is read: its streams at their edge bridges, and what their talkers promise at the hand-over, by the same places.
+/// A plan as it is read: its streams at their edge bridges, and what their talkers promise at the hand-over, both by stream number.
 #[derive(Drop)]
 struct ReadPlan {
     /// In nanoseconds.
@@ -101,18 +100,6 @@ struct PlannedStream {
     deadline: Option<u32>,
     /// How many bridges its longest path has.
     bridges: u64,
-}
-
-/// Returns the streams of a plan; none if they are refused.
-fn read_streams(alloc: Global, plan: &[u8]) -> Result<Vec<Stream>, AllocError>
-    ensures { IfOk result (λ streams. All IsWrittenStream (map stream_text streams.items)) }
-{
-    read_streams_are_written();
-    match read_network_streams(alloc, plan) {
-        Ok(streams) => Ok(streams),
-        Err(FlowsFault::Streams(StreamsFault::Memory)) => Err(AllocError),
-        Err(_) => Ok(Vec::new(alloc)),
-    }
 }
 
 /// Returns what the talkers of streams promise.
@@ -171,7 +158,7 @@ fn bridges_on(way: &WantedWay) -> u64 {
 }
 
 impl ReadPlan {
-    /// Returns the stream at a place, if it has traffic.
+    /// Returns the stream with a number, if it has traffic.
     fn stream_at(&self, place: usize) -> Option<PlannedStream> {
         let stream = self.edge.streams.get(place)?;
         let every = match stream.pacing {
@@ -267,11 +254,15 @@ impl PlannedStream {
 
 /// Appends a form that costs less to others.
 fn put_form(forms: &mut String, form: &str) -> Result<(), AllocError> {
-    forms.push_str(if forms.is_empty() { ": " } else { ", or " })?;
+    forms.push_str(if forms.is_empty() {
+        "; to reserve less: "
+    } else {
+        ", or "
+    })?;
     forms.push_str(form)
 }
 
-/// Returns what would cost less, after a colon; nothing if nothing is known that would.
+/// Returns what would cost less, in words; an empty text if nothing is known.
 fn cheaper_forms(
     alloc: Global,
     item: &WrittenItem<'_>,
@@ -285,7 +276,7 @@ fn cheaper_forms(
     }
     let waiting = planned.jitter.saturating_sub(planned.own_jitter);
     if planned.needed(waiting).saturating_mul(2) <= needed {
-        put_form(&mut forms, "less jitter")?;
+        put_form(&mut forms, "lower jitter")?;
     }
     if !is_in_step(item) && planned.may_take_turns() {
         put_form(&mut forms, "in-step = true")?;
@@ -314,8 +305,9 @@ fn note_stream(
     )?)
 }
 
-/// Returns notes on the streams of a plan that reserve more than eight times what they send, with what would cost less: a line each, of the
-/// form of [`notes`](crate::notes). `sources` are the files from which the plan was made, and `plan` is its text.
+/// Returns notes on the streams of a plan that reserve more than eight times what they send. Each has a line, of the form of
+/// [`notes`](crate::notes), which also says what would cost less. `sources` are the files from which the plan was made, and `plan` is its text,
+/// read within `limits`.
 ///
 /// # Errors
 /// If an allocation fails.

@@ -189,6 +189,10 @@ several_refusal names texts = if are_several names then joint_refusal (tables_of
 abbrev pub files_refusal : List (List ℕ) → List (List ℕ) → Option (List ℕ)
 files_refusal names texts = option_or (texts_refusal (toml_texts names texts)) (option_or (first_refusal names texts) (several_refusal names texts))
 
+-- why a file is refused that is a network by itself
+abbrev pub alone_refusal : List (List ℕ) → List (List ℕ) → Option (List ℕ)
+alone_refusal names texts = option_or (texts_refusal (toml_texts names texts)) (first_refusal names texts)
+
 -- a text writes a table; and if the table nests no deeper than is read, the text is read as that table
 pub record IsTextOf (table : Members) (text : List ℕ) : Type 0 where
   pub written : IsDocumentText false table text
@@ -207,7 +211,7 @@ pub record IsUnwritable (texts : List (List ℕ)) (line : List ℕ) : Type 0 whe
   pub dates : members_have_valid_dates (joint_of tables) ≡ false
   pub told : line ≡ not_toml_line
 
--- an end with status 1 by a line for which something holds, or with status 3 if memory lacks
+-- an end with status 1 by a line for which something holds, or with status 3 if an allocation fails
 pub record EndsFor (Holds : List ℕ → Type 0) (stop : Stop) : Type 0 where
   pub statuses : (stop.status ≡ 1) ⊎ (stop.status ≡ 3)
   pub line : stop.status ≡ 1 → Holds stop.text.items

@@ -1,5 +1,6 @@
 -- The input that the program reads, made from the texts of files for a job.
 use Rattle.std.specs.Prelude.{ℕ, ◌≡◌, ◌⊎◌, ◌==◌, ◌-◌, ◌&&◌, ◌||◌, Bool, true, false, nat_eq, nat_le, not, List, [], ◌∷◌, Option, Some, None, Vec, codes, drop, if◌then◌else◌, is_some, length, option_and_then, option_map}
+use Rattle.std.specs.Option.{option_or}
 use Rattle.std.specs.declared.alloc.Global.{Global}
 use Rattle.cqf_output.specs.Stops.{fault_line}
 use Rattle.cqf_output.specs.declared.stops.Stop.{Stop}
@@ -10,7 +11,7 @@ use Rattle.cqf_program_words.specs.Words.{takes_domain}
 use Rattle.cqf_program_files.specs.declared.front.Front.{Front}
 use Rattle.cqf_program_files.specs.Calls.{numbers_of_script, script_of_calls, text_of_script}
 use Rattle.cqf_program_files.specs.Opening.{closed_refusal}
-use Rattle.cqf_program_files.specs.Files.{EndsBy, EndsFor, EndsFiles, IsCheckedJoint, leading}
+use Rattle.cqf_program_files.specs.Files.{EndsBy, EndsFor, EndsFiles, alone_refusal, IsCheckedJoint, leading}
 
 -- the cycles of a job that reads a script
 abbrev pub cycles_of : Job → Option ℕ
@@ -99,26 +100,36 @@ abbrev pub IsJointFor : Bool → List (List ℕ) → List (List ℕ) → Option 
 IsJointFor true names texts joint = IsCheckedJoint names texts joint
 IsJointFor false names texts joint = joint ≡ None
 
+-- why one of two files that are compared is refused, the first or else the second; each is a network by itself
+abbrev pub pair_refusal : List (List ℕ) → List (List ℕ) → Option (List ℕ)
+pair_refusal (name ∷ names) (text ∷ texts) = option_or (alone_refusal (name ∷ []) (text ∷ [])) (alone_refusal names texts)
+pair_refusal names texts = None
+
+abbrev pub compared_refusal : Job → List (List ℕ) → List (List ℕ) → Option (List ℕ)
+compared_refusal (job.Diff quiet) names texts = pair_refusal names texts
+compared_refusal other names texts = None
+
 -- the input that is made from files for a job
 pub record IsFrontOf (it : Job) (names texts : List (List ℕ)) (front : Front) : Type 0 where
   pub joint : Option (List ℕ)
   pub is_joint : IsJointFor (takes_domain it) names texts joint
+  pub compared : compared_refusal it names texts ≡ None
   pub none_open : closed_refusal it names texts ≡ None
   pub headed : is_headless it names texts joint ≡ false
   pub gathered : IsGatheredWith it names texts joint front
 
--- the end if a plan's files are refused: only those of a job that takes a domain are; for any other job memory lacked
+-- the end if a plan's files are refused: only those of a job that takes a domain are; for any other job an allocation failed
 abbrev pub EndsJoint : Bool → List (List ℕ) → List (List ℕ) → Stop → Type 0
 EndsJoint true names texts stop = EndsFiles names texts stop
 EndsJoint false names texts stop = EndsFor (λ line. ⊥) stop
 
--- where they are good, but something is open that this job doesn't choose
+-- the end if they are good, but something is open that this job doesn't choose
 pub record EndsOpen (it : Job) (names texts : List (List ℕ)) (stop : Stop) : Type 0 where
   pub joint : Option (List ℕ)
   pub is_joint : IsJointFor (takes_domain it) names texts joint
   pub ends : EndsBy (closed_refusal it names texts) stop
 
--- and where nothing is, but the offers lack their header
+-- and the end if nothing is open, but the offers lack their header
 abbrev pub headless_line : List ℕ
 headless_line = fault_line (codes "offers") (codes "BadHeader")
 
@@ -132,4 +143,5 @@ pub record EndsHeadless (it : Job) (names texts : List (List ℕ)) (stop : Stop)
   pub ends : EndsHeader it names texts joint stop
 
 abbrev pub EndsFront : Job → List (List ℕ) → List (List ℕ) → Stop → Type 0
-EndsFront it names texts stop = EndsJoint (takes_domain it) names texts stop ⊎ (EndsOpen it names texts stop ⊎ EndsHeadless it names texts stop)
+EndsFront it names texts stop = EndsJoint (takes_domain it) names texts stop
+    ⊎ (EndsBy (compared_refusal it names texts) stop ⊎ (EndsOpen it names texts stop ⊎ EndsHeadless it names texts stop))

@@ -1,4 +1,4 @@
--- What is open in the files of a network, so that only `plan` takes them.
+-- What is open in the files of a network. Only `plan` takes files in which something is open.
 use Rattle.std.specs.Prelude.{ℕ, ◌&&◌, ◌||◌, ◌++◌, Bool, true, false, not, List, [], ◌∷◌, Option, Some, None, codes, if◌then◌else◌, is_some, nat_lt}
 use Rattle.std.specs.Prelude.{option_and_then, option_map, take, unwrap_or}
 use Rattle.std.specs.List.{list_any}
@@ -18,22 +18,22 @@ has key table = is_some (get_member key table)
 abbrev pub has_open_cycle : Members → Bool
 has_open_cycle table = is_some (option_and_then as_array (get_member (codes "cycle") table))
 
--- a stream's way is open where its ends stand there, and no branches
+-- a stream's path is open if the stream has its ends, and no branches
 abbrev pub lacks_way : Members → Bool
 lacks_way table = not (has (codes "path") table || has (codes "paths") table) && (has (codes "from") table && has (codes "to") table)
 
--- what it reserves is open where it has traffic and no octets
+-- its reservation is open if it has traffic and no octets
 abbrev pub traffic_keys : List (List ℕ)
 traffic_keys = codes "interval" ∷ codes "frames" ∷ codes "size" ∷ codes "jitter" ∷ codes "offset" ∷ []
 
 abbrev pub lacks_octets : Members → Bool
 lacks_octets table = not (has (codes "octets") table) && list_any (λ key. has key table) traffic_keys
 
--- the cycles in which it is offered are open where its talker is in step, and nothing says how many there are
+-- its cycles are open if its talker is in step, and it has no `every`
 abbrev pub lacks_turns : Members → Bool
 lacks_turns table = unwrap_or (option_and_then as_bool (get_member (codes "in-step") table)) false && not (has (codes "every") table)
 
--- its name, where something of it is open
+-- the stream's name, if it leaves something open
 abbrev pub is_open_stream : Members → Bool
 is_open_stream table = lacks_way table || (lacks_octets table || lacks_turns table)
 
@@ -61,7 +61,7 @@ open_refusal tables =
     if list_any has_open_cycle tables then Some (network_line (codes "OpenCycle"))
     else option_map (λ name. network_line (codes "Open " ++ shown_key name)) (first_open_among tables)
 
--- a network's texts: those of the TOML files that come first, or where there are none, the first text if no line divides it
+-- a network's texts: those of the TOML files that come first; if there are none, the first text, if no line divides it
 abbrev pub count_of_plain : List (List ℕ) → List (List ℕ) → ℕ
 count_of_plain (name ∷ names) (text ∷ texts) = if is_plain name text then 1 else 0
 count_of_plain names texts = 0
@@ -72,13 +72,13 @@ count_of_network names texts = if nat_lt 0 (leading names) then leading names el
 abbrev pub network_texts : List (List ℕ) → List (List ℕ) → List (List ℕ)
 network_texts names texts = take (count_of_network names texts) texts
 
--- the line of what is open first of these, where each is TOML
+-- the line of what is open first in these, if each is TOML
 abbrev pub open_refusal_of : List (List ℕ) → List (List ℕ) → Option (List ℕ)
 open_refusal_of names texts = option_and_then open_refusal (tables_of (network_texts names texts))
 
 -- a job for which nothing may be open: it takes a domain, and isn't `plan`
 abbrev pub is_plan : Job → Bool
-is_plan (job.Plan table given verbose) = true
+is_plan (job.Plan options) = true
 is_plan other = false
 
 abbrev pub takes_closed : Job → Bool

@@ -5,7 +5,7 @@ ghost use Rattle.cqf_output.specs.Stops.{EndsWith};
 ghost use Rattle.cqf_program_files.specs.Keys.{strange_key};
 ghost use Rattle.cqf_program_files.specs.Opening.{count_of_network, count_of_plain, open_refusal, open_refusal_of};
 ghost use Rattle.cqf_program_files.specs.Files.{EndsBy, EndsFiles, EndsTogether, EndsUnwritten, IsCheckedJoint, IsNetworkText, IsTextOf};
-ghost use Rattle.cqf_program_files.specs.Files.{first_long_among, first_refusal, first_strange_among, is_plain, joint_refusal, most_shown};
+ghost use Rattle.cqf_program_files.specs.Files.{alone_refusal, first_long_among, first_refusal, first_strange_among, is_plain, joint_refusal, most_shown};
 ghost use Rattle.cqf_program_files.specs.Files.{plain_fault, files_fault_line};
 ghost use Rattle.cqf_program_files.specs.Files.{shown_key, shown_octet, strange_in, table_of, tables_of, tables_refusal, texts_refusal, toml_text, toml_texts};
 
@@ -303,6 +303,16 @@ fn check_first(alloc: Global, names: &[&str], texts: &[&[u8]]) -> Result<(), Sto
     }
 }
 
+/// Checks a file that is a network by itself. Returns `Err` if it is refused, or if an allocation fails.
+pub(crate) fn check_alone(alloc: Global, names: &[&str], texts: &[&[u8]]) -> Result<(), Stop>
+    requires { length names.now ≡ length texts.now }
+    ensures ok { OnOk result (alone_refusal (map (λ name. name.now) names.now) (map (λ text. text.now) texts.now) ≡ None) }
+    ensures err { IfErr result (EndsBy (alone_refusal (map (λ name. name.now) names.now) (map (λ text. text.now) texts.now))) }
+{
+    check_texts(alloc, names, texts)?;
+    check_first(alloc, names, texts)
+}
+
 /// Checks the files of a plan, and returns the text of their one plan if the first of them are 2 to 16 TOML files. Returns `Err` with
 /// status 1 and the line of the first fault; with status 3 if an allocation fails.
 pub(crate) fn check_joint(
@@ -325,7 +335,7 @@ pub(crate) fn check_joint(
     }
 }
 
-/// What is open of a network's tables, as a fault. The error is want of memory.
+/// Returns what is open in a network's tables, as a fault; `None` if nothing is. Returns `Memory` if an allocation fails.
 fn open_fault(alloc: Global, tables: &[Table]) -> Result<Option<FilesFault>, Memory>
     ensures { IfOk result (λ found. option_map files_fault_line found ≡ open_refusal (map table_view tables.now)) }
 {
@@ -341,8 +351,8 @@ fn open_fault(alloc: Global, tables: &[Table]) -> Result<Option<FilesFault>, Mem
     }
 }
 
-/// How many of the first texts are a network's where none is that of a TOML file: the first, where no line divides it. The error is want of
-/// memory.
+/// Returns how many of the first texts are a network's, if none is that of a TOML file: 1 if no line divides the first text, else 0. Returns
+/// `Memory` if an allocation fails.
 fn count_of_plain(alloc: Global, names: &[&str], texts: &[&[u8]]) -> Result<usize, Memory>
     ensures value { IfOk result (λ count. count ≡ count_of_plain (map (λ name. name.now) names.now) (map (λ text. text.now) texts.now)) }
     ensures inside { IfOk result (λ count. count ≤ length texts.now) }
@@ -359,8 +369,8 @@ fn count_of_plain(alloc: Global, names: &[&str], texts: &[&[u8]]) -> Result<usiz
     }
 }
 
-/// How many of the first texts are a network's: those of the TOML files that come first, or else the first, where no line divides it. The
-/// error is want of memory.
+/// Returns how many of the first texts are a network's: those of the TOML files that come first; or, if none comes first, 1 if no line
+/// divides the first text, else 0. Returns `Memory` if an allocation fails.
 fn count_of_network(alloc: Global, names: &[&str], texts: &[&[u8]]) -> Result<usize, Memory>
     requires { length names.now ≡ length texts.now }
     ensures value { IfOk result (λ count. count ≡ count_of_network (map (λ name. name.now) names.now) (map (λ text. text.now) texts.now)) }
@@ -373,7 +383,7 @@ fn count_of_network(alloc: Global, names: &[&str], texts: &[&[u8]]) -> Result<us
     count_of_plain(alloc, names, texts)
 }
 
-/// What is open of a network's files, as a fault. The error is want of memory.
+/// Returns what is open in a network's files, as a fault; `None` if nothing is. Returns `Memory` if an allocation fails.
 fn open_fault_of(
     alloc: Global,
     names: &[&str],
@@ -390,7 +400,8 @@ fn open_fault_of(
     }
 }
 
-/// Looks whether nothing of a network's files is open. `Err` with status 1 and the line of what is, and with status 3 for want of memory.
+/// Checks that nothing is open in a network's files. Returns `Err` with status 1 and the line of what is open; with status 3 if an
+/// allocation fails.
 pub(crate) fn check_open(alloc: Global, names: &[&str], texts: &[&[u8]]) -> Result<(), Stop>
     requires { length names.now ≡ length texts.now }
     ensures ok { OnOk result (open_refusal_of (map (λ name. name.now) names.now) (map (λ text. text.now) texts.now) ≡ None) }

@@ -18,7 +18,7 @@ pub enum FilesFault {
     NotToml,
     /// The cycle time is open, and the command takes a plan.
     OpenCycle,
-    /// Something of the first such stream is, by its name as a line shows it.
+    /// A stream leaves something open, and the command takes a plan. The first such stream's name, as a line shows it.
     Open(String),
     /// The first key that may occur once and occurs in two of several files.
     KeyTwice(&'static str),

@@ -3,13 +3,13 @@ ghost use Rattle.std.specs.Prelude.{◌≡◌, ◌∷◌, IfOk, IfErr, OnOk, Non
 ghost use Rattle.cqf_program_words.specs.Composing.{composed_of};
 ghost use Rattle.cqf_program_words.specs.Words.{takes_domain};
 ghost use Rattle.cqf_program_files.specs.Front.{EndsFront, EndsHeader, EndsJoint, IsFrontOf, IsGathered, IsGatheredWith, IsJointFor, begins_as_offers};
-ghost use Rattle.cqf_program_files.specs.Front.{called_script, cycles_of, has_fields, is_between, is_digit, is_headless, is_mark, joint_names};
-ghost use Rattle.cqf_program_files.specs.Front.{lacks_header, parts_of_script, script_at, with_first};
+ghost use Rattle.cqf_program_files.specs.Front.{called_script, compared_refusal, cycles_of, has_fields, is_between, is_digit, is_headless, is_mark, joint_names};
+ghost use Rattle.cqf_program_files.specs.Front.{lacks_header, pair_refusal, parts_of_script, script_at, with_first};
 ghost use Rattle.cqf_program_files.specs.Opening.{closed_refusal, takes_closed};
 ghost use Rattle.cqf_program_files.specs.Files.{EndsBy};
 
 use crate::calls::{CallsScript, script_of_calls};
-use crate::checking::{check_joint, check_open, stop_of};
+use crate::checking::{check_alone, check_joint, check_open, stop_of};
 use crate::faults::FilesFault;
 use crate::joining::leading;
 use cqf_output::Stop;
@@ -241,7 +241,34 @@ fn joint_network(
     }
 }
 
-/// Returns whether an empty text is the only one after a plan, where offers are expected. Returns `Memory` if an allocation fails.
+/// Checks each of two files that are compared by itself. Returns `Err` if one is refused, or if an allocation fails.
+fn check_pair(alloc: Global, names: &[&str], texts: &[&[u8]]) -> Result<(), Stop>
+    requires { length names.now ≡ length texts.now }
+    ensures ok { OnOk result (pair_refusal (map (λ name. name.now) names.now) (map (λ text. text.now) texts.now) ≡ None) }
+    ensures err { IfErr result (EndsBy (pair_refusal (map (λ name. name.now) names.now) (map (λ text. text.now) texts.now))) }
+{
+    match (names, texts) {
+        ([name, names @ ..], [text, texts @ ..]) => {
+            check_alone(alloc, &[*name], &[*text])?;
+            check_alone(alloc, names, texts)
+        }
+        _ => Ok(()),
+    }
+}
+
+/// Checks the files of a job that compares two. Returns `Err` if one is refused, or if an allocation fails.
+fn check_compared(alloc: Global, job: &Job, names: &[&str], texts: &[&[u8]]) -> Result<(), Stop>
+    requires { length names.now ≡ length texts.now }
+    ensures ok { OnOk result (compared_refusal job.now (map (λ name. name.now) names.now) (map (λ text. text.now) texts.now) ≡ None) }
+    ensures err { IfErr result (EndsBy (compared_refusal job.now (map (λ name. name.now) names.now) (map (λ text. text.now) texts.now))) }
+{
+    match *job {
+        Job::Diff { .. } => check_pair(alloc, names, texts),
+        _ => Ok(()),
+    }
+}
+
+/// Returns whether the only text after a plan is empty, though offers are expected there. Returns `Memory` if an allocation fails.
 fn lacks_header(
     alloc: Global,
     job: &Job,
@@ -312,7 +339,7 @@ fn check_header(
     }
 }
 
-/// Whether nothing may be open for the job: it takes a domain, and isn't `plan`, which chooses what is.
+/// Returns whether nothing may be open for the job: it takes a domain, and isn't `plan`, which chooses what is.
 fn takes_closed(job: &Job) -> bool
     ensures { result ≡ takes_closed job.now }
 {
@@ -322,7 +349,7 @@ fn takes_closed(job: &Job) -> bool
     }
 }
 
-/// Looks whether nothing is open that the job doesn't choose. `Err` where something is, and for want of memory.
+/// Refuses files in which something is open that the job doesn't choose. Returns `Err` also if an allocation fails.
 fn check_closed(alloc: Global, job: &Job, names: &[&str], texts: &[&[u8]]) -> Result<(), Stop>
     requires { length names.now ≡ length texts.now }
     ensures ok { OnOk result (closed_refusal job.now (map (λ name. name.now) names.now) (map (λ text. text.now) texts.now) ≡ None) }
@@ -342,10 +369,11 @@ fn check_closed(alloc: Global, job: &Job, names: &[&str], texts: &[&[u8]]) -> Re
 /// [`script_of_calls`] reads, unless it begins as offers do. All else is as in [`cqf_program_words::composed`].
 ///
 /// # Errors
-/// With status 1 and the line of the first fault, if the job takes a domain, in this order:
+/// With status 1 and the line of the first fault, if the job takes a domain or is `diff`, in this order:
 /// - in the files whose names end with `.toml`, and in the first file if no line divides it: a line that is too long to be parsed, then a key
 ///   that no command knows;
 /// - in several files of one network: one that isn't TOML, then `cycle`, `guard` or `sync` in two of them;
+/// - if the job is `diff`, in each file: a line that is too long to be parsed, then a key that no command knows;
 /// - unless the job is `plan`: several cycle times, then a stream that leaves something open for `plan`;
 /// - if the job reads a script: an empty file that is the only one after the network.
 ///
@@ -359,6 +387,10 @@ pub fn front_of(alloc: Global, job: &Job, names: &[&str], texts: &[&[u8]]) -> Re
         Ok(joint) => joint,
         Err(stop) => return Err(stop),
     };
+    match check_compared(alloc, job, names, texts) {
+        Ok(()) => {}
+        Err(stop) => return Err(stop),
+    }
     match check_closed(alloc, job, names, texts) {
         Ok(()) => {}
         Err(stop) => return Err(stop),

@@ -31,7 +31,7 @@ fn has_any(table: &Table, keys: &[&str]) -> bool
     false
 }
 
-/// Whether a network's table has several cycle times.
+/// Returns whether a network's table has several cycle times.
 fn has_several_cycles(table: &Table) -> bool
     ensures { result ≡ has_open_cycle (table_view table.now) }
 {
@@ -41,7 +41,7 @@ fn has_several_cycles(table: &Table) -> bool
     }
 }
 
-/// Whether one of a network's tables has several cycle times.
+/// Returns whether one of a network's tables has several cycle times.
 pub(crate) fn has_open_cycle(tables: &[Table]) -> bool
     ensures { result ≡ list_any has_open_cycle (map table_view tables.now) }
 {
@@ -53,7 +53,7 @@ pub(crate) fn has_open_cycle(tables: &[Table]) -> bool
     false
 }
 
-/// Returns whether a stream's table has its ends and no path between them.
+/// Returns whether a stream's table has its talker and listeners, and no path.
 pub fn lacks_way(table: &Table) -> bool
     ensures { result ≡ lacks_way (table_view table.now) }
 {
@@ -63,7 +63,7 @@ pub fn lacks_way(table: &Table) -> bool
     has(table, "from") && has(table, "to")
 }
 
-/// Returns whether a stream's table has traffic, and doesn't say what it reserves.
+/// Returns whether a stream's table has traffic and no octets to reserve.
 pub fn lacks_octets(table: &Table) -> bool
     ensures { result ≡ lacks_octets (table_view table.now) }
 {
@@ -73,7 +73,7 @@ pub fn lacks_octets(table: &Table) -> bool
     has_any(table, &TRAFFIC)
 }
 
-/// Returns whether the talker of a stream's table is in step, and nothing says of how many cycles it is offered in one.
+/// Returns whether the talker of a stream's table is in step, and the table has no `every`.
 pub fn lacks_turns(table: &Table) -> bool
     ensures { result ≡ lacks_turns (table_view table.now) }
 {
@@ -83,7 +83,7 @@ pub fn lacks_turns(table: &Table) -> bool
     }
 }
 
-/// The name of a stream's table, where something of it is open that a plan can choose.
+/// Returns the name in a stream's table, if the stream leaves something open that `plan` chooses.
 fn open_name(table: &Table) -> Option<&str>
     ensures { option_map (λ name. name.now) result ≡ open_name_in (table_view table.now) }
 {
@@ -93,7 +93,7 @@ fn open_name(table: &Table) -> Option<&str>
     value_at(table, "name").and_then(Value::as_str)
 }
 
-/// The same of a value, where it is a table.
+/// Returns such a name of a value that is a stream's table.
 fn open_name_of(value: &Value) -> Option<&str>
     ensures { option_map (λ name. name.now) result ≡ option_and_then open_name_in (as_table (view value.now)) }
 {
@@ -103,7 +103,7 @@ fn open_name_of(value: &Value) -> Option<&str>
     }
 }
 
-/// The same of the first of an array's values that has one.
+/// Returns the name of the first of an array's values that has such a name.
 fn first_open_of(values: &[Value]) -> Option<&str>
     ensures { option_map (λ name. name.now) result ≡ first_open_of (items_view values.now) }
 {
@@ -116,7 +116,7 @@ fn first_open_of(values: &[Value]) -> Option<&str>
     None
 }
 
-/// The same of the streams of a network's table.
+/// Returns the name of the first stream of a network's table that leaves something open.
 fn first_open_in(table: &Table) -> Option<&str>
     ensures { option_map (λ name. name.now) result ≡ first_open_stream (table_view table.now) }
 {
@@ -126,7 +126,7 @@ fn first_open_in(table: &Table) -> Option<&str>
     }
 }
 
-/// The same of the first of a network's tables that has one.
+/// Returns the name of the first stream of a network's tables that leaves something open.
 pub(crate) fn first_open_stream(tables: &[Table]) -> Option<&str>
     ensures { option_map (λ name. name.now) result ≡ first_open_among (map table_view tables.now) }
 {

@@ -32,6 +32,7 @@ use Rattle.cqf_program_runs.specs.declared.deliveries.delivery.Delivery.{Deliver
 use Rattle.cqf_program_runs.specs.Deliveries.{deliveries_of}
 use Rattle.cqf_program_runs.specs.Deliveries.PlannedScenario.{planned_of_part, planned_scenario, planned_scenario_of, run_of_scenario}
 use Rattle.cqf_program_summary.specs.Summary.Output.{IsSummaryOutput}
+use Rattle.cqf_program_planning.specs.declared.choosing.Search.{Search}
 use Rattle.cqf_program_laws.specs.OutputLaws.{AreAsWritten, BeginsWith, DeliveriesAreAsWritten, HasTexts, RunsKeepToldPlans, TextKeepsItsWord}
 use Rattle.cqf_program_laws.specs.OutputLaws.{ThreadsAreAsWritten, ThreadsKeepToldPlans, WrittenLatenciesAreBounded, WrittenOffersCountOnce, WrittenRowsAddUp}
 use Rattle.cqf_program_laws.specs.PlanLaws.{IsKeptPlan, PlanKeepsItsWord, PlansKeepTheirWordOnThreads, PlansKeepTheirWordToScripts}
@@ -78,10 +79,10 @@ module _ (agree : ReadersAgreeOnParts) (may_run : ScenariosMayBeRun) (limits : L
 -- ---- plans
 
 -- what the plan of a text promises at edge bridges, it promises from the hand-over
-text_keeps : WordsHoldFromTalkers → (limits : Limits) (given : Option (List ℕ)) (network text : List ℕ) (has : HasKeptPlan limits given network text)
+text_keeps : WordsHoldFromTalkers → (limits : Limits) (search : Search) (given : Option (List ℕ)) (network text : List ℕ) (has : HasKeptPlan limits search given network text)
     (run : Run) (cycles : ℕ) (book : Contents) → IsAccepted run.domain → PlanKeepsItsWord run has.edge.flows cycles book →
     TextKeepsItsWord limits text run cycles book
-text_keeps words limits given network text has run cycles book accepted keeps = record {
+text_keeps words limits search given network text has run cycles book accepted keeps = record {
   network = has.network;
   is_network = has.is_read.is_network;
   found = has.found;
@@ -94,11 +95,11 @@ text_keeps words limits given network text has run cycles book accepted keeps = 
 }
 
 -- a scenario over a plan's text
-plan_over : EdgesArePlanned → ReadersAgreeOnParts → ScenariosMayBeRun → (limits : Limits) (given : Option (List ℕ)) (network text : List ℕ) (cycles : ℕ)
-    (input : List ℕ) (s : Scenario) (has : HasKeptPlan limits given network text) → BeginsWith text text input →
+plan_over : EdgesArePlanned → ReadersAgreeOnParts → ScenariosMayBeRun → (limits : Limits) (search : Search) (given : Option (List ℕ)) (network text : List ℕ) (cycles : ℕ)
+    (input : List ℕ) (s : Scenario) (has : HasKeptPlan limits search given network text) → BeginsWith text text input →
     scenario_input limits cycles input ≡ Ok s →
     IsRunOver limits cycles input (domain_of has.network) (bare has.edge) s × IsKeptPlan s.domain has.edge.flows
-plan_over edges agree may_run limits given network text cycles input s has begins holds =
+plan_over edges agree may_run limits search given network text cycles input s has begins holds =
     let p = has.is_read in
     let over = run_over agree may_run limits cycles text text input begins has.network (bare has.edge) s p.is_network
     (edges has.network text has.edge p.part_is) holds in
@@ -106,22 +107,22 @@ plan_over edges agree may_run limits given network text cycles input s has begin
 
 pub runs_keep_told_plans : EdgesArePlanned → ReadersAgreeOnParts → ScenariosMayBeRun → ToldPlansRun → WordsHoldFromTalkers → PlansKeepTheirWordToScripts →
     RunsKeepToldPlans
-runs_keep_told_plans edges agree may_run runs words keep limits given network text cycles input output candidates shallow plan begins short told =
-    let has = runs limits given network text candidates shallow plan in
+runs_keep_told_plans edges agree may_run runs words keep limits search given network text cycles input output candidates shallow plan begins short told =
+    let has = runs limits search given network text candidates shallow plan in
     let s = told.scenario in
-    let both = plan_over edges agree may_run limits given network text cycles input s has begins told.holds in
+    let both = plan_over edges agree may_run limits search given network text cycles input s has begins told.holds in
     let over = both.0 in
-    text_keeps words limits given network text has (run_of_scenario cycles s) cycles told.book over.runnable.domain.accepted
+    text_keeps words limits search given network text has (run_of_scenario cycles s) cycles told.book over.runnable.domain.accepted
     (keep limits cycles input s has.edge.flows told.book short over.holds over.runnable.domain.accepted over.runnable.may both.1 told.is_book)
 
 pub threads_keep_told_plans : EdgesArePlanned → ReadersAgreeOnParts → ScenariosMayBeRun → ToldPlansRun → WordsHoldFromTalkers →
     PlansKeepTheirWordOnThreads → ThreadsKeepToldPlans
-threads_keep_told_plans edges agree may_run runs words keep limits given network text cycles input output candidates shallow plan begins told =
-    let has = runs limits given network text candidates shallow plan in
+threads_keep_told_plans edges agree may_run runs words keep limits search given network text cycles input output candidates shallow plan begins told =
+    let has = runs limits search given network text candidates shallow plan in
     let s = told.scenario in
-    let both = plan_over edges agree may_run limits given network text cycles input s has begins told.holds in
+    let both = plan_over edges agree may_run limits search given network text cycles input s has begins told.holds in
     let over = both.0 in
-    text_keeps words limits given network text has (run_of_history s.domain told.entries s.offers s.background cycles) cycles told.book
+    text_keeps words limits search given network text has (run_of_history s.domain told.entries s.offers s.background cycles) cycles told.book
     over.runnable.domain.accepted
     (keep limits cycles input s has.edge.flows told.entries _ told.book over.holds over.runnable.domain.accepted over.runnable.may both.1
     told.of_scenario.asked told.of_scenario.is_account)

@@ -14,6 +14,7 @@ use Rattle.cqf_program_scenario.specs.Parts.{two_parts}
 use Rattle.cqf_program_plans.specs.Reserving.{flows_line}
 use Rattle.cqf_program_plans.proofs.CompileLemmas.{same_ok}
 use Rattle.cqf_program_placing.specs.Settled.{SettledStream}
+use Rattle.cqf_program_planning.specs.declared.choosing.Search.{Search}
 use Rattle.cqf_program_planning.specs.PlanOutput.{IsPlanText, IsPlannedOf, PlanSource, settled_edges, planning_input, network_line, unentered_line}
 use Rattle.cqf_program_planning.specs.ReadPlans.{ToldPlansReadBack}
 use Rattle.cqf_program_laws.specs.PlanLaws.{IsKeptPlan}
@@ -51,11 +52,12 @@ are_texts limits given input source h =
     p.1 ∙ ap (λ (s : PlanSource). Ok (s.domain_text, s.streams_text)) same
 
 -- the text of a plan
-told_plan : ToldPlansReadBack → (limits : Limits) (given : Option (List ℕ)) (input text : List ℕ) (source : PlanSource) → IfSome given AreCandidates →
-    AreShallow input → planning_input limits given input ≡ Ok source → IsPlanText source text → HasKeptPlan limits given input text
-told_plan back limits given input text source candidates shallow h plan =
+told_plan : ToldPlansReadBack → (limits : Limits) (search : Search) (given : Option (List ℕ)) (input text : List ℕ) (source : PlanSource) → IfSome given AreCandidates →
+    AreShallow input → planning_input limits given input ≡ Ok source → IsPlanText search source text → HasKeptPlan limits search given input text
+told_plan back limits search given input text source candidates shallow h plan =
     let texts = shallow source.domain_text source.streams_text (are_texts limits given input source h) in
-    let read = back limits given input text source candidates h texts.0 texts.1 plan in
+    let parts = stepped {B = PlanSource} (two_parts (parts_of input)) (with_parts limits given) source h in
+    let read = back limits search given parts.0.0 parts.0.1 text source candidates parts.2 texts.0 texts.1 plan in
     let network = read.network in
     let part : network_of_part limits text ≡ Ok network = ap (or_line domain_line) read.reads.network_is in
     let good = read.good in
@@ -87,8 +89,8 @@ told_plan back limits given input text source candidates shallow h plan =
     }
 
 pub told_plans_run : ToldPlansReadBack → ToldPlansRun
-told_plans_run back limits given input text candidates shallow told = by (planning_input limits given input) refl told
+told_plans_run back limits search given input text candidates shallow told = by (planning_input limits given input) refl told
   where
-    by : (found : Result PlanSource (List ℕ)) → planning_input limits given input ≡ found → IsPlannedOf false found (Ok text) → HasKeptPlan limits given input text
-    by (Ok source) is plan = told_plan back limits given input text source candidates shallow is plan
+    by : (found : Result PlanSource (List ℕ)) → planning_input limits given input ≡ found → IsPlannedOf false search found (Ok text) → HasKeptPlan limits search given input text
+    by (Ok source) is plan = told_plan back limits search given input text source candidates shallow is plan
     by (Err line) is refused = absurd (cc)

@@ -24,6 +24,7 @@ use Rattle.cqf_program_plans.specs.Compile.Output.{admitted_from}
 use Rattle.cqf_program_plans.specs.Edges.{open_edges_of_part}
 use Rattle.cqf_program_plans.specs.Latency.Input.{asked_in, latency_of_input}
 use Rattle.cqf_program_plans.specs.Latency.Text.{deadline_of, latencies_from, latencies_of_row, latency_behind, text_of_latency, times_of, verdict_on_deadline}
+use Rattle.cqf_program_planning.specs.declared.choosing.Search.{Search}
 use Rattle.cqf_program_planning.specs.PlanOutput.{IsPlanOf}
 use Rattle.cqf_program_runs.specs.declared.deliveries.delivery.Delivery.{Delivery}
 use Rattle.cqf_program_runs.specs.declared.deliveries.delivery.Fate.TheVariants as fate
@@ -70,15 +71,15 @@ pub record TextKeepsItsWord (limits : Limits) (text : List ℕ) (run : Run) (cyc
 -- each text that `plan` writes keeps its word in each output of `run` whose input begins with it, as both the domain and the streams
 abbrev pub RunsKeepToldPlans : Type 0
 RunsKeepToldPlans =
-    (limits : Limits) (given : Option (List ℕ)) (network text : List ℕ) (cycles : ℕ) (input output : List ℕ) → IfSome given AreCandidates →
-    AreShallow network → IsPlanOf limits false given network (Ok text) → BeginsWith text text input → cycles ≤ most_cycles → (told : IsRunOutput limits cycles input output) →
+    (limits : Limits) (search : Search) (given : Option (List ℕ)) (network text : List ℕ) (cycles : ℕ) (input output : List ℕ) → IfSome given AreCandidates →
+    AreShallow network → IsPlanOf limits false search given network (Ok text) → BeginsWith text text input → cycles ≤ most_cycles → (told : IsRunOutput limits cycles input output) →
     TextKeepsItsWord limits text (run_of_scenario cycles told.scenario) cycles told.book
 
 -- and in each output of `run --threads`
 abbrev pub ThreadsKeepToldPlans : Type 0
 ThreadsKeepToldPlans =
-    (limits : Limits) (given : Option (List ℕ)) (network text : List ℕ) (cycles : ℕ) (input output : List ℕ) → IfSome given AreCandidates →
-    AreShallow network → IsPlanOf limits false given network (Ok text) → BeginsWith text text input → (told : IsThreadsOutput limits cycles input output) →
+    (limits : Limits) (search : Search) (given : Option (List ℕ)) (network text : List ℕ) (cycles : ℕ) (input output : List ℕ) → IfSome given AreCandidates →
+    AreShallow network → IsPlanOf limits false search given network (Ok text) → BeginsWith text text input → (told : IsThreadsOutput limits cycles input output) →
     TextKeepsItsWord limits text (run_of_history told.scenario.domain told.entries told.scenario.offers told.scenario.background cycles) cycles told.book
 
 -- ---- verdicts
@@ -97,7 +98,7 @@ pub record IsAsJudgedFrom (times : Option AccessTimes) (latency : Latency) (deli
   pub in_time : verdict_on_deadline latency ≡ Some told.InTime → fate_of delivery ≡ fate.Late → ⊥
   pub late : verdict_on_deadline latency ≡ Some told.Late → has_come (fate_of delivery) ≡ true → fate_of delivery ≡ fate.Late
 
--- the latencies of a row that `latency` writes, from where its stream begins
+-- the latencies of a row that `latency` writes, from the bridge or the station at which its stream begins
 abbrev pub latencies_told_of : Domain → List Row → EdgeFlowsText → Row → List Latency
 latencies_told_of d rows edge row =
     map (latency_behind (times_of edge.times row.no)) (latencies_of_row d rows row (deadline_of edge.deadlines row.no))

@@ -31,7 +31,7 @@ abbrev pub PlannedStreamsArePaced : Type 0
 PlannedStreamsArePaced = (text : List ℕ) (streams : List PlannedText) → planned_of_text text ≡ Ok streams →
     paced_of_text text ≡ Ok (map (λ (planned : PlannedText). planned.0) streams)
 
--- the streams of a part of a network, as they come to their edge bridges, are read without their traffic as the same streams with the same deadlines
+-- the streams of a part of a network, at their edge bridges, are read without their traffic as the same streams with the same deadlines
 -- from there on
 abbrev pub EdgesArePlanned : Type 0
 EdgesArePlanned = (network : NetworkDomain) (text : List ℕ) (edge : EdgeFlowsText) → open_edges_of_part network text ≡ Ok edge →

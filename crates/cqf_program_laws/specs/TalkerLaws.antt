@@ -56,7 +56,7 @@ pub record IsByAccess (network : NetworkDomain) (found : List NetworkFlowText) (
   pub is_link : slice_get network.talkers handed.place ≡ Some link
 
 -- what the station sends by that link. Of each stream of the file that is handed to the link and promises something, it hands over frames as
--- promised; beside them at most one frame at a time is under way that is promised by no stream, and none of these is larger than the link allows. It sends
+-- promised; at most one other frame at a time is under way, which no stream promises, and none of these is larger than the link allows. It sends
 -- frames in any order, those of one stream one after the other, and it is never idle while one of a stream waits
 pub record UsesAccess (edge : EdgeFlowsText) (handed : Handed) (link : TalkerLink) (streams : List AccessStream) (others : List Other) : Type 0 where
   pub sent : IsSent (link_used edge handed link) streams others
@@ -73,7 +73,7 @@ pub record IsHandedOver (one : NetworkFlowText) (handed : Handed) (streams : Lis
 abbrev pub ComesByAccess : EdgeFlowsText → Handed → TalkerLink → AccessStream → List Offer → Type 0
 ComesByAccess edge handed link s offers = AreArrivals (link_used edge handed link) (delays_of link) 0 s.crossings offers
 
--- these are all offers of the stream's name; or, where others may offer its name too, at another bridge or while the stream isn't live, its own offers
+-- these are all offers of the stream's name; or its own offers, if others may offer its name too, at another bridge or while the stream isn't live
 abbrev pub AreOffersOf : Run → FlowText → Row → List Offer → Type 0
 AreOffersOf run flow row offers = (offers ≡ offers_named flow.0.0.name run.offers) ⊎ (offers ≡ own_offers run row.no)
 

@@ -11,6 +11,7 @@ use Rattle.cqf_edge.specs.EdgeFlows.{EdgeFlowsText}
 use Rattle.cqf_program_plans.specs.Edges.{open_edges_of_part}
 use Rattle.cqf_program_scenario.specs.Networks.{domain_of, network_of_part}
 use Rattle.cqf_program_scenario.specs.Parts.{two_parts}
+use Rattle.cqf_program_planning.specs.declared.choosing.Search.{Search}
 use Rattle.cqf_program_planning.specs.Choosing.{IsPlanned}
 use Rattle.cqf_program_planning.specs.PlanOutput.{IsPlanOf, PlanSource, planning_input}
 use Rattle.cqf_program_planning.specs.ReadPlans.{ComeAsPlaced, IsShallow}
@@ -28,12 +29,12 @@ pub record ReadsAsKeptPlan (limits : Limits) (text : List ℕ) (network : Networ
 
 -- the plan that `plan` makes of a network file, and its text: its domain, and its streams as they were placed, with what remains of their deadlines
 -- at their edge bridges
-pub record HasKeptPlan (limits : Limits) (given : Option (List ℕ)) (input text : List ℕ) : Type 0 where
+pub record HasKeptPlan (limits : Limits) (search : Search) (given : Option (List ℕ)) (input text : List ℕ) : Type 0 where
   pub source : PlanSource
   pub is_input : planning_input limits given input ≡ Ok source
   pub domain : Domain
   pub flows : List FlowText
-  pub planned : IsPlanned source.domain source.streams domain flows
+  pub planned : IsPlanned source.domain source.streams search domain flows
   pub network : NetworkDomain
   pub found : List NetworkFlowText
   pub edge : EdgeFlowsText
@@ -48,5 +49,5 @@ AreShallow input = (domain streams : List ℕ) → two_parts (parts_of input) �
 -- each text that `plan` writes is so, if its file's tables aren't nested too deep. Candidates for the cycle time that are given have to be in their
 -- range, and at least one and at most 1,000
 abbrev pub ToldPlansRun : Type 0
-ToldPlansRun = (limits : Limits) (given : Option (List ℕ)) (input text : List ℕ) → IfSome given AreCandidates → AreShallow input →
-    IsPlanOf limits false given input (Ok text) → HasKeptPlan limits given input text
+ToldPlansRun = (limits : Limits) (search : Search) (given : Option (List ℕ)) (input text : List ℕ) → IfSome given AreCandidates → AreShallow input →
+    IsPlanOf limits false search given input (Ok text) → HasKeptPlan limits search given input text

@@ -1,4 +1,4 @@
-//! Laws that connect the commands: what `latency` and `plan` say about a plan holds for the runs over it.
+//! Laws that connect the commands: what `latency` and `plan` say about a plan holds in each run of it.
 //!
 //! Each law is a function that returns at once. Its contract is a statement of `specs/`, and its proof shows that the statement holds.
 //!
@@ -59,12 +59,12 @@ pub fn told_verdicts_hold()
 /// listeners within its deadline after its offer, if the run is long enough. The same holds in each script over the plan, on one thread and
 /// on threads.
 ///
-/// If no access link is full, and the streams make such a plan at their edge bridges, the network keeps its word from the hand-over.
-/// Take a station that hands frames of its streams to an access link as the file promises. The link sends them one after the other, in any order, and is
-/// never idle while one waits. Beside them at most one frame at a time of no promise is under way, which is no larger than the file allows. Each frame
-/// that is whole at its edge bridge in a cycle of its stream, while that is live, is covered. It is whole at each listener within the deadline
-/// that the file says after it was handed over, if the run is long enough. So it doesn't matter what the station's other streams, other stations and
-/// administrators do.
+/// If no access link is full, and the streams make such a plan at their edge bridges, the network keeps its word from the hand-over. Take a
+/// station that hands frames of its streams to an access link as the file promises. The link sends them one after the other, in any order,
+/// and is never idle while one waits. The station may send other frames, which no stream promises. At most one of these is under way at a
+/// time, and it is no larger than the file allows. Each frame that is whole at its edge bridge in a cycle of its stream, while the stream is
+/// live, is covered. It is whole at each listener within the deadline in the file, counted from its hand-over, if the run is long enough. So
+/// it doesn't matter what the station's other streams, other stations and administrators do.
 pub fn told_plans_keep_their_word()
     ensures runs { PlansKeepTheirWord }
     ensures scripts { PlansKeepTheirWordToScripts }
@@ -87,8 +87,8 @@ pub fn told_plans_keep_their_word()
 
 /// The same holds in every loose network, in which clocks and delays vary within the bounds that the domain states. If all offers of a
 /// stream's name keep its talker's word, each of them in a cycle of the stream while it is live is whole at each of its listeners, by the
-/// clock there, within the plan's deadline after its offer by the edge bridge's clock, if the run is long enough. If they come by an access link, each is
-/// there within the deadline that the file says after it was handed over, by the edge bridge's clock.
+/// clock there, within the plan's deadline after its offer by the edge bridge's clock, if the run is long enough. If they come by an access
+/// link, each is there within the deadline in the file, counted from its hand-over by the edge bridge's clock.
 pub fn told_plans_keep_their_word_loosely()
     ensures edges { PlansKeepTheirWordLoosely }
     ensures talkers { NetworksKeepTheirWordLoosely }

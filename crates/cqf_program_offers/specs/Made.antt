@@ -51,8 +51,8 @@ made_offers d cycles flows = offered_of d ((cycles - bridges_of flows) * d.cycle
 abbrev pub input_of : List ℕ → List (List ℕ) → List ℕ
 input_of first rest = first_text false first ++ flat_map text_behind rest
 
--- the requests for the streams of a part of a network. Where their deadlines are read and a station has an access link, they are read as they
--- come to their edge bridges
+-- the requests for the streams of a part of a network. If their deadlines are read and a station has an access link, they are those at
+-- their edge bridges
 abbrev pub asked_at_edges : NetworkDomain → List ℕ → Result (List Asked) (List ℕ)
 asked_at_edges network text = and_then (flows_of_part network text) (λ flows. Ok (map asked_in flows))
 

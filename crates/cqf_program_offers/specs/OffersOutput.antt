@@ -24,7 +24,7 @@ use Rattle.cqf_program_offers.specs.OffersText.{offers_text}
 abbrev pub too_many_line : List ℕ
 too_many_line = fault_line (codes "offers") (codes "TooMany")
 
--- the streams of a part of a network as they come to their edge bridges, with the rest of their deadlines and the traffic that they have
+-- the streams of a part of a network at their edge bridges, with the rest of their deadlines and the traffic that they have
 -- there; or the line of the part's first fault, or of the first access link that is full
 abbrev pub flows_of_part : NetworkDomain → List ℕ → Result (List FlowText) (List ℕ)
 flows_of_part network text = and_then (open_edges_of_part network text) (λ edge. Ok edge.flows)

@@ -252,7 +252,7 @@ fn made_of_parts(
 ///
 /// # Errors
 /// With status 1 and the line of the first fault: of the domain; of the streams; if offers are made or the job reads deadlines, of the first
-/// stream that doesn't enter the network as its text says, or of the first access link that is full; of the script, or of the first stream
+/// stream whose talker or listeners don't fit, or of the first access link that is full; of the script, or of the first stream
 /// that isn't admitted; of the first stream that is refused as by `load`; or `cqf: offers: TooMany`. With status 3 if an allocation fails.
 pub fn made_input(
     alloc: Global,

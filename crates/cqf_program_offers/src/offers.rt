@@ -1,4 +1,4 @@
-//! What is offered so early that all of it arrives.
+//! The offers that are early enough for all of them to arrive.
 ghost use Rattle.std.specs.Prelude.{◌≡◌, ◌-◌, ◌<◌, IfErr, IfOk, Ok, map, max};
 ghost use Rattle.cqf_admission.specs.Branches.{branches_of};
 ghost use Rattle.cqf_program_offers.specs.Made.{bridges_of, bridges_on, made_offers};
@@ -43,7 +43,7 @@ fn bridges_of(flows: &[Flow]) -> usize
     most
 }
 
-/// Returns what streams offer so early that all of it arrives within `cycles` cycles, as a text.
+/// Returns the offers of streams that are early enough for all of them to arrive within `cycles` cycles, as a text.
 ///
 /// # Errors
 /// As [`offered_of`].

@@ -51,7 +51,7 @@ fn requests_by_deadlines(alloc: Global, text: &[u8]) -> Result<Vec<PacedRequest>
     }
 }
 
-/// Returns the requests for the streams of a part, which are read as they come to their edge bridges.
+/// Returns the requests for the streams of a part, as they are at their edge bridges.
 fn requests_at_edges(
     alloc: Global,
     network: &NetworkDomain,
@@ -88,7 +88,7 @@ fn planned_requests(
 }
 
 /// Returns the requests for the streams of a part of a network, whose deadlines are read or not. Returns `Err` with status 1 and the line of
-/// its first fault; if deadlines are read, also of the first stream that doesn't enter the network as its text says, or of the first access
+/// its first fault; if deadlines are read, also of the first stream whose talker or listeners don't fit, or of the first access
 /// link that is full. Returns `Err` with status 3 if an allocation fails.
 pub(crate) fn requests_part(
     alloc: Global,

@@ -13,7 +13,7 @@ use cqf_topology::Domain;
 use cqf_traffic::Flow;
 use std::alloc::Global;
 
-/// Returns the streams of a part of a network as they come to their edge bridges, with the rest of their deadlines and the traffic that they
+/// Returns the streams of a part of a network at their edge bridges, with the rest of their deadlines and the traffic that they
 /// have there. Returns `Err` with status 1 and the line of the part's first fault, or of the first access link that is full; with status 3
 /// if an allocation fails.
 pub(crate) fn flows_part(

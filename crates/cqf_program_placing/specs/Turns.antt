@@ -46,7 +46,7 @@ abbrev pub every_of : ℕ → ℕ
 every_of cycles =
     fold max 0 (each_below (λ k. if (most_every % (k + 1) == 0) && (cycles % (k + 1) == 0) then (k + 1) ∷ [] else []) most_every)
 
--- in which cycles a stream of a talker in step is offered: in one of as many as its interval has in common with `most_every`, and the first
+-- in which cycles a stream of a talker in step is offered: in one of gcd(`most_every`, interval in cycles) cycles, and the first
 -- is to be chosen; without traffic in each cycle
 abbrev pub turns_in_step : ℕ → Option TrafficText → Turns
 turns_in_step cycle_time None = Given 1 0

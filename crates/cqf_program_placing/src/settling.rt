@@ -194,7 +194,7 @@ fn settle_all(
 ///   or without traffic the octets of its reservation, and at most 1,522. It takes the time of these octets and of 8 octets of preamble on
 ///   the talker's link, and that link's delay.
 ///
-/// Nothing is taken off the deadline of a stream from a bridge, so streams may be given as they come to their edge bridges.
+/// Nothing is taken off the deadline of a stream from a bridge, so streams may be given as they are at their edge bridges.
 ///
 /// `Memory` if an allocation fails.
 pub fn settle(

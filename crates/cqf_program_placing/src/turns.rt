@@ -102,7 +102,7 @@ fn turns_in_step(traffic: Option<Traffic>, cycle_time: Nanos) -> Turns
 }
 
 /// Returns in which cycles a stream that can be offered on a cycle time is offered: in the given ones; or, if its talker is in step, in one
-/// of as many as its interval in cycles has in common with 80; the first is to be chosen.
+/// of gcd(80, interval in cycles) cycles; the first is to be chosen.
 pub(crate) fn turns_on(stream: &Settled, cycle_time: Nanos) -> Turns
     requires some { 0 < cycle_time.0 }
     requires paced { IsTrue (is_paced stream.now.pacing) }

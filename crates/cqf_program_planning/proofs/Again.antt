@@ -246,11 +246,11 @@ module _ (counted : SealsAreCounted) (d : Domain) (flows : List FlowText) (good 
   pub outcomes_again : placed.outcomes ≡ placed_all flows
   outcomes_again = all_again d flows [] placed.entries placed.outcomes good.enough granted places
 
-  unplaced : first_unplaced (map settled_flow flows) placed.outcomes ≡ None
-  unplaced = ap (first_unplaced (map settled_flow flows)) outcomes_again ∙ none_unplaced flows
+  pub unplaced_again : first_unplaced (map settled_flow flows) placed.outcomes ≡ None
+  unplaced_again = ap (first_unplaced (map settled_flow flows)) outcomes_again ∙ none_unplaced flows
 
   all : AreAllGranted d [] (map settled_flow flows) (flows_placed d.cycle_time (map settled_flow flows) placed.outcomes) placed.entries
-  all = all_granted d (map settled_flow flows) [] placed.entries placed.outcomes counted unplaced places
+  all = all_granted d (map settled_flow flows) [] placed.entries placed.outcomes counted unplaced_again places
 
   pub flows_again : flows_placed d.cycle_time (map settled_flow flows) placed.outcomes ≡ flows
   flows_again = ap (flows_placed d.cycle_time (map settled_flow flows)) outcomes_again ∙ same_flows d.cycle_time flows
@@ -270,4 +270,4 @@ module _ (counted : SealsAreCounted) (d : Domain) (flows : List FlowText) (good 
 
   -- so nothing is wrong with it
   pub nothing_wrong : (candidate_of (map settled_flow flows) placed).fault ≡ None
-  nothing_wrong = (λ i. or_else (unplaced i) (late i))
+  nothing_wrong = (λ i. or_else (unplaced_again i) (late i))

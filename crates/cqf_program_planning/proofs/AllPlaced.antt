@@ -150,7 +150,7 @@ pub record AreAllGranted (d : Domain) (entries : List Recorded) (streams : List 
 none_taken_over : (cycle_time sync : ℕ) → AreTakenOver cycle_time sync [] []
 none_taken_over cycle_time sync = record { as_many = refl; each = λ place stream flow is at. absurd (cc) }
 
-no_stream : (d : Domain) (entries end : List Recorded) → end ≡ entries → AreAllGranted d entries [] [] end
+pub no_stream : (d : Domain) (entries end : List Recorded) → end ≡ entries → AreAllGranted d entries [] [] end
 no_stream d entries end same = record {
   taken_over = none_taken_over d.cycle_time d.sync;
   admitted = λ place. ap Ok (sym same);
@@ -195,7 +195,7 @@ more_taken_over cycle_time sync stream flow streams flows one rest = record { as
     at (suc place) s f is there = rest.each place s f is there
 
 -- one before others
-one_stream : (d : Domain) (entries after end : List Recorded) (stream : SettledStream) (streams : List SettledStream) (asked : Asked) (flows : List FlowText) →
+pub one_stream : (d : Domain) (entries after end : List Recorded) (stream : SettledStream) (streams : List SettledStream) (asked : Asked) (flows : List FlowText) →
     SealsAreCounted → IsGranted d entries stream asked after → AreAllGranted d after streams flows end →
     AreAllGranted d entries (stream ∷ streams) (flow_of d.cycle_time stream asked ∷ flows) end
 one_stream d entries after end stream streams asked flows counted granted rest = record {

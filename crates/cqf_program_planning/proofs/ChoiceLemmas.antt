@@ -1,4 +1,4 @@
--- Candidates that are judged one after the other, and the best of those that aren't good.
+-- Candidates that are judged one after the other, and the nearest of those that aren't good.
 use Rattle.std.proofs.Common.{◌≡◌, ◌∙◌, ℕ, ◌+◌, ◌≤◌, ◌<◌, ◌++◌, ◌∷◌, [], List, Bool, true, false, Option, Some, None, ap, arith, drop, get_or, if◌then◌else◌, length, refl, subst, subst₂, suc, sym, take}
 use Rattle.std.specs.Prelude.{All, IfSome, fold, nat_lt}
 use Rattle.std.proofs.lemmas.List.{drop_more, length-map, take-append-drop, take_more}
@@ -10,137 +10,146 @@ use Rattle.cqf_program_placing.specs.Placing.{BeginsEarly, PlacedOr, outcome_val
 use Rattle.cqf_program_placing.specs.Settled.{IsPlaceable, SettledStream, open_domain}
 use Rattle.cqf_program_planning.specs.declared.candidates.Candidate.{Candidate}
 use Rattle.cqf_program_planning.specs.declared.choosing.Choice.TheVariants as choice
+use Rattle.cqf_program_planning.specs.declared.choosing.Search.{Search}
 use Rattle.cqf_program_planning.specs.declared.trying.Tried.{Tried}
-use Rattle.cqf_program_planning.specs.Choosing.{IsBad, best_of, better, line_of_best}
-use Rattle.cqf_program_planning.specs.Judging.{AreJudgedBy, IsJudgedBy, first_late, first_unplaced, flows_placed, latencies_placed}
+use Rattle.cqf_program_planning.specs.Choosing.{IsBad, IsTaken, line_of_nearest, nearer, nearer_of, nearest_of}
+use Rattle.cqf_program_planning.specs.Judging.{first_late, first_unplaced, flows_placed, latencies_placed}
+use Rattle.cqf_program_planning.specs.Orders.{AreJudgedBy, IsJudgedBy}
 use Rattle.cqf_program_planning.specs.Steps.{AreTurned}
 use Rattle.cqf_program_planning.specs.Trying.{AreBad, ComesOfAll, IsBadOn, IsGoodOn}
 use Rattle.cqf_program_planning.proofs.AllPlaced.{neither}
+use Rattle.cqf_program_planning.proofs.Tried.{tried_known}
 use Rattle.cqf_program_planning.proofs.TriedLemmas.{early_placed, length-placed, turned_placed}
 
 -- one more is judged
-judged_more : (network : NetworkDomain) (streams : List SettledStream) (cycles : List ℕ) (told : List Candidate) (cycle_time : ℕ) (candidate : Candidate) →
-    AreJudgedBy network streams cycles told → IsJudgedBy network streams cycle_time candidate →
-    AreJudgedBy network streams (cycles ++ cycle_time ∷ []) (told ++ candidate ∷ [])
-judged_more network streams [] [] cycle_time candidate h judged = (judged, tt)
-judged_more network streams [] (other ∷ told) cycle_time candidate h judged = absurd h
-judged_more network streams (cycle ∷ cycles) [] cycle_time candidate h judged = absurd h
-judged_more network streams (cycle ∷ cycles) (other ∷ told) cycle_time candidate h judged =
-    (h.0, judged_more network streams cycles told cycle_time candidate h.1 judged)
+judged_more : (network : NetworkDomain) (streams : List SettledStream) (tries : ℕ) (cycles : List ℕ) (told : List Candidate) (cycle_time : ℕ) (candidate : Candidate) →
+    AreJudgedBy network streams tries cycles told → IsJudgedBy network streams tries cycle_time candidate →
+    AreJudgedBy network streams tries (cycles ++ cycle_time ∷ []) (told ++ candidate ∷ [])
+judged_more network streams tries [] [] cycle_time candidate h judged = (judged, tt)
+judged_more network streams tries [] (other ∷ told) cycle_time candidate h judged = absurd h
+judged_more network streams tries (cycle ∷ cycles) [] cycle_time candidate h judged = absurd h
+judged_more network streams tries (cycle ∷ cycles) (other ∷ told) cycle_time candidate h judged =
+    (h.0, judged_more network streams tries cycles told cycle_time candidate h.1 judged)
 
 -- as many as there are
-judged_length : (network : NetworkDomain) (streams : List SettledStream) (cycles : List ℕ) (told : List Candidate) → AreJudgedBy network streams cycles told →
+judged_length : (network : NetworkDomain) (streams : List SettledStream) (tries : ℕ) (cycles : List ℕ) (told : List Candidate) → AreJudgedBy network streams tries cycles told →
     length told ≡ length cycles
-judged_length network streams [] [] h = refl
-judged_length network streams [] (other ∷ told) h = absurd h
-judged_length network streams (cycle ∷ cycles) [] h = absurd h
-judged_length network streams (cycle ∷ cycles) (other ∷ told) h = ap (λ n. suc n) (judged_length network streams cycles told h.1)
+judged_length network streams tries [] [] h = refl
+judged_length network streams tries [] (other ∷ told) h = absurd h
+judged_length network streams tries (cycle ∷ cycles) [] h = absurd h
+judged_length network streams tries (cycle ∷ cycles) (other ∷ told) h = ap (λ n. suc n) (judged_length network streams tries cycles told h.1)
 
--- the better of two is one of them
-better_bad : (best : Option Candidate) (candidate after : Candidate) → IfSome best IsBad → IsBad candidate → Some after ≡ better best candidate → IsBad after
-better_bad None candidate after bad here is = let same : after ≡ candidate = cc in subst IsBad (sym same) here
-better_bad (Some best) candidate after bad here is = by (nat_lt best.placed candidate.placed) is
+-- the nearer of two is one of them
+nearer_bad : (best : Option Candidate) (candidate after : Candidate) → IfSome best IsBad → IsBad candidate → Some after ≡ nearer best candidate → IsBad after
+nearer_bad None candidate after bad here is = let same : after ≡ candidate = cc in subst IsBad (sym same) here
+nearer_bad (Some best) candidate after bad here is = by (nat_lt (candidate.late + best.placed) (best.late + candidate.placed)) is
   where
-    by : (more : Bool) → Some after ≡ (if more then Some candidate else Some best) → IsBad after
+    by : (more : Bool) → Some after ≡ Some (if more then candidate else best) → IsBad after
     by true taken = let same : after ≡ candidate = cc in subst IsBad (sym same) here
     by false taken = let same : after ≡ best = cc in subst IsBad (sym same) bad
 
--- there is a best of some
-best_stays : (best : Candidate) (told : List Candidate) → fold better (Some best) told ≡ None → ⊥
+-- there is a nearest of some
+best_stays : (best : Candidate) (told : List Candidate) → fold nearer (Some best) told ≡ None → ⊥
 best_stays best [] h = cc
-best_stays best (candidate ∷ told) h =
-    by (nat_lt best.placed candidate.placed) (λ none. best_stays candidate told none) (λ none. best_stays best told none) h
-  where
-    by : (more : Bool) → (fold better (Some candidate) told ≡ None → ⊥) → (fold better (Some best) told ≡ None → ⊥) →
-        fold better (if more then Some candidate else Some best) told ≡ None → ⊥
-    by true this that none = this none
-    by false this that none = that none
+best_stays best (candidate ∷ told) h = best_stays (nearer_of best candidate) told h
 
-pub none_best : (network : NetworkDomain) (streams : List SettledStream) (cycles : List ℕ) → 1 ≤ length cycles → AreBad network streams cycles None → ⊥
-none_best network streams cycles some bad = by bad.told (judged_length network streams cycles bad.told bad.judged) bad.best_is
+pub none_best : (network : NetworkDomain) (streams : List SettledStream) (tries : ℕ) (cycles : List ℕ) → 1 ≤ length cycles → AreBad network streams tries cycles None → ⊥
+none_best network streams tries cycles some bad = by bad.told (judged_length network streams tries cycles bad.told bad.judged) bad.nearest_is
   where
-    by : (told : List Candidate) → length told ≡ length cycles → None ≡ best_of told → ⊥
+    by : (told : List Candidate) → length told ≡ length cycles → None ≡ nearest_of told → ⊥
     by [] many none = omega arith
     by (candidate ∷ told) many none = best_stays candidate told (sym none)
 
 -- none yet
-pub none_bad : (network : NetworkDomain) (streams : List SettledStream) → AreBad network streams [] None
-none_bad network streams = record { told = []; judged = tt; bad = All-nil IsBad; best_is = refl; best_bad = tt }
+pub none_bad : (network : NetworkDomain) (streams : List SettledStream) (tries : ℕ) → AreBad network streams tries [] None
+none_bad network streams tries = record { told = []; judged = tt; bad = All-nil IsBad; nearest_is = refl; nearest_bad = tt }
 
-module _ (network : NetworkDomain) (streams : List SettledStream) (cycles : List ℕ) (k cycle_time : ℕ) (low : k < length cycles)
+-- one more that isn't good
+pub bad_by : (network : NetworkDomain) (streams : List SettledStream) (tries : ℕ) (cycles : List ℕ) (cycle_time : ℕ) (best : Option Candidate)
+    (candidate after : Candidate) → AreBad network streams tries cycles best → IsBadOn network streams tries cycle_time candidate →
+    Some after ≡ nearer best candidate → AreBad network streams tries (cycles ++ cycle_time ∷ []) (Some after)
+bad_by network streams tries cycles cycle_time best candidate after so_far here is_nearer = record {
+  told = so_far.told ++ candidate ∷ [];
+  judged = judged_more network streams tries cycles so_far.told cycle_time candidate so_far.judged here.judged;
+  bad = All-push IsBad so_far.told candidate so_far.bad here.bad;
+  nearest_is = is_nearer ∙ ap (λ (x : Option Candidate). nearer x candidate) so_far.nearest_is ∙ sym (fold-append nearer None so_far.told (candidate ∷ []));
+  nearest_bad = nearer_bad best candidate after so_far.nearest_bad here.bad is_nearer;
+}
+
+module _ (network : NetworkDomain) (streams : List SettledStream) (tries : ℕ) (cycles : List ℕ) (k cycle_time : ℕ) (low : k < length cycles)
     (is : cycle_time ≡ get_or cycles k cycle_time) where
   cycles_more : take (k + 1) cycles ≡ take k cycles ++ cycle_time ∷ []
   cycles_more = take_more cycles k cycle_time low ∙ ap (λ x. take k cycles ++ x ∷ []) (sym is)
 
   -- one more is judged
-  pub judged_step : (told after : List Candidate) (candidate : Candidate) → AreJudgedBy network streams (take k cycles) told →
-      IsJudgedBy network streams cycle_time candidate → after ≡ told ++ candidate ∷ [] → AreJudgedBy network streams (take (k + 1) cycles) after
+  pub judged_step : (told after : List Candidate) (candidate : Candidate) → AreJudgedBy network streams tries (take k cycles) told →
+      IsJudgedBy network streams tries cycle_time candidate → after ≡ told ++ candidate ∷ [] → AreJudgedBy network streams tries (take (k + 1) cycles) after
   judged_step told after candidate so_far judged put =
-      subst (λ (xs : List ℕ). AreJudgedBy network streams xs after) (sym cycles_more)
-      (subst (AreJudgedBy network streams (take k cycles ++ cycle_time ∷ [])) (sym put)
-      (judged_more network streams (take k cycles) told cycle_time candidate so_far judged))
+      subst (λ (xs : List ℕ). AreJudgedBy network streams tries xs after) (sym cycles_more)
+      (subst (AreJudgedBy network streams tries (take k cycles ++ cycle_time ∷ [])) (sym put)
+      (judged_more network streams tries (take k cycles) told cycle_time candidate so_far judged))
 
   -- and isn't good
-  bad_more : (best : Option Candidate) (candidate after : Candidate) → AreBad network streams (take k cycles) best →
-      IsBadOn network streams cycle_time candidate → Some after ≡ better best candidate → AreBad network streams (take k cycles ++ cycle_time ∷ []) (Some after)
-  bad_more best candidate after so_far here is_better = record {
-    told = so_far.told ++ candidate ∷ [];
-    judged = judged_more network streams (take k cycles) so_far.told cycle_time candidate so_far.judged here.judged;
-    bad = All-push IsBad so_far.told candidate so_far.bad here.bad;
-    best_is = is_better ∙ ap (λ (x : Option Candidate). better x candidate) so_far.best_is ∙ sym (fold-append better None so_far.told (candidate ∷ []));
-    best_bad = better_bad best candidate after so_far.best_bad here.bad is_better;
-  }
+  pub bad_step : (best : Option Candidate) (candidate after : Candidate) → AreBad network streams tries (take k cycles) best →
+      IsBadOn network streams tries cycle_time candidate → Some after ≡ nearer best candidate → AreBad network streams tries (take (k + 1) cycles) (Some after)
+  bad_step best candidate after so_far here is_nearer =
+      subst (λ (xs : List ℕ). AreBad network streams tries xs (Some after)) (sym cycles_more)
+      (bad_by network streams tries (take k cycles) cycle_time best candidate after so_far here is_nearer)
 
-  pub bad_step : (best : Option Candidate) (candidate after : Candidate) → AreBad network streams (take k cycles) best →
-      IsBadOn network streams cycle_time candidate → Some after ≡ better best candidate → AreBad network streams (take (k + 1) cycles) (Some after)
-  bad_step best candidate after so_far here is_better =
-      subst (λ (xs : List ℕ). AreBad network streams xs (Some after)) (sym cycles_more) (bad_more best candidate after so_far here is_better)
+-- a good candidate that is taken is the plan's
+pub taken_is_planned : (network : NetworkDomain) (streams : List SettledStream) (search : Search) (before : List ℕ) (cycle_time : ℕ) (behind : List ℕ) (tried : Tried) →
+    network.candidates ≡ before ++ (cycle_time ∷ behind) → All (IsPlaceable (open_domain network)) streams → IsGoodOn network streams search.tries cycle_time tried →
+    IsTaken search.best network streams search.tries before behind tried.candidate → ComesOfAll network streams search (choice.Planned tried)
+taken_is_planned network streams search before cycle_time behind tried among placeable here taken =
+    let there = here.tried_is in
+    let by = there.tried_by in
+    let known = tried_known network streams search.tries cycle_time there.placed there.are_placed in
+    let good = ap (λ (x : Candidate). x.fault) (sym by.candidate_is) ∙ here.good in
+    let none = (neither (first_unplaced streams there.placed.outcomes) (first_late (latencies_placed streams there.placed)) good).0 in
+    record {
+      planned = record {
+        before = before;
+        cycle_time = cycle_time;
+        behind = behind;
+        among = among;
+        open_to = here.open_to;
+        placed = there.placed;
+        are_placed = there.are_placed;
+        good = good;
+        taken = subst (IsTaken search.best network streams search.tries before behind) by.candidate_is taken;
+        domain_is = by.domain_is;
+        flows_are = (λ i. flows_placed (by.domain_is i).cycle_time streams (by.outcomes_are i));
+      };
+      each = sym (length-map tried.outcomes.items outcome_value) ∙ ap length by.outcomes_are
+          ∙ length-placed there.placed.domain streams there.placed.outcomes known.placed_each;
+      early = subst (λ (xs : List PlacedOr). All BeginsEarly xs) (sym by.outcomes_are)
+          (early_placed there.placed.domain (open_domain network) streams there.placed.outcomes placeable known.placed_each);
+      turned = subst₂ (λ (d : Domain) (xs : List PlacedOr). AreTurned streams (flows_placed d.cycle_time streams xs)) (sym by.domain_is) (sym by.outcomes_are)
+          (turned_placed there.placed.domain (open_domain network) streams there.placed.outcomes placeable known.placed_each none);
+    }
 
-  -- the first good candidate is the plan's
-  pub good_is_planned : (best : Option Candidate) (tried : Tried) → All (IsPlaceable (open_domain network)) streams → network.candidates ≡ cycles →
-      AreBad network streams (take k cycles) best → IsGoodOn network streams cycle_time tried → ComesOfAll network streams (choice.Planned tried)
-  good_is_planned best tried placeable those so_far here =
-      let there = here.tried_is in
-      let by = there.tried_by in
-      let rest : drop k cycles ≡ cycle_time ∷ drop (k + 1) cycles = drop_more cycles k cycle_time low ∙ ap (λ x. x ∷ drop (k + 1) cycles) (sym is) in
-      record {
-        planned = record {
-          before = take k cycles;
-          cycle_time = cycle_time;
-          behind = drop (k + 1) cycles;
-          among = those ∙ sym (take-append-drop k cycles) ∙ ap (λ xs. take k cycles ++ xs) rest;
-          told = so_far.told;
-          judged = so_far.judged;
-          bad = so_far.bad;
-          open_to = here.open_to;
-          placed = there.placed;
-          are_placed = there.are_placed;
-          good = ap (λ (x : Candidate). x.fault) (sym by.candidate_is) ∙ here.good;
-          domain_is = by.domain_is;
-          flows_are = (λ i. flows_placed (by.domain_is i).cycle_time streams (by.outcomes_are i));
-        };
-        each = sym (length-map tried.outcomes.items outcome_value)
-            ∙ ap length by.outcomes_are
-            ∙ length-placed there.placed.domain [] streams there.placed.outcomes there.placed.entries there.are_placed.placed_are;
-        early = subst (λ (xs : List PlacedOr). All BeginsEarly xs) (sym by.outcomes_are)
-            (early_placed there.placed.domain (open_domain network) [] streams there.placed.outcomes there.placed.entries placeable
-            there.are_placed.placed_are);
-        turned = let good = ap (λ (x : Candidate). x.fault) (sym by.candidate_is) ∙ here.good in
-            let none = (neither (first_unplaced streams there.placed.outcomes) (first_late (latencies_placed streams there.placed)) good).0 in
-            subst₂ (λ (d : Domain) (xs : List PlacedOr). AreTurned streams (flows_placed d.cycle_time streams xs)) (sym by.domain_is) (sym by.outcomes_are)
-            (turned_placed there.placed.domain (open_domain network) [] streams there.placed.outcomes there.placed.entries placeable
-            there.are_placed.placed_are none);
-      }
+-- the first good candidate is
+pub good_is_planned : (network : NetworkDomain) (streams : List SettledStream) (search : Search) (cycles : List ℕ) (k cycle_time : ℕ) (best : Option Candidate)
+    (tried : Tried) → search.best ≡ false → k < length cycles → cycle_time ≡ get_or cycles k cycle_time → All (IsPlaceable (open_domain network)) streams →
+    network.candidates ≡ cycles → AreBad network streams search.tries (take k cycles) best → IsGoodOn network streams search.tries cycle_time tried →
+    ComesOfAll network streams search (choice.Planned tried)
+good_is_planned network streams search cycles k cycle_time best tried first low is placeable those so_far here =
+    let rest : drop k cycles ≡ cycle_time ∷ drop (k + 1) cycles = drop_more cycles k cycle_time low ∙ ap (λ x. x ∷ drop (k + 1) cycles) (sym is) in
+    let among : network.candidates ≡ take k cycles ++ (cycle_time ∷ drop (k + 1) cycles) =
+    those ∙ sym (take-append-drop k cycles) ∙ ap (λ xs. take k cycles ++ xs) rest in
+    taken_is_planned network streams search (take k cycles) cycle_time (drop (k + 1) cycles) tried among placeable here
+    (subst (λ (b : Bool). IsTaken b network streams search.tries (take k cycles) (drop (k + 1) cycles) tried.candidate) (sym first)
+    (record { told = so_far.told; judged = so_far.judged; bad = so_far.bad }))
 
 -- if none is good, there is no plan
-pub none_is_planned : (network : NetworkDomain) (streams : List SettledStream) (cycles : List ℕ) (best : Candidate) → network.candidates ≡ cycles →
-    AreBad network streams cycles (Some best) → ComesOfAll network streams (choice.Unplanned best)
-none_is_planned network streams cycles best those bad = (
+pub none_is_planned : (network : NetworkDomain) (streams : List SettledStream) (search : Search) (cycles : List ℕ) (nearest : Candidate) → network.candidates ≡ cycles →
+    AreBad network streams search.tries cycles (Some nearest) → ComesOfAll network streams search (choice.Unplanned nearest)
+none_is_planned network streams search cycles nearest those bad = (
   record {
     told = bad.told;
-    judged = subst (λ (xs : List ℕ). AreJudgedBy network streams xs bad.told) (sym those) bad.judged;
+    judged = subst (λ (xs : List ℕ). AreJudgedBy network streams search.tries xs bad.told) (sym those) bad.judged;
     bad = bad.bad;
-    line_is = ap (line_of_best (length network.candidates)) bad.best_is;
+    line_is = ap (line_of_nearest (length network.candidates)) bad.nearest_is;
   },
-  bad.best_bad,
+  bad.nearest_bad,
 )

@@ -33,6 +33,7 @@ use Rattle.cqf_program_placing.specs.Turns.{MayBeFirst, can_step, every_in, ever
 use Rattle.cqf_program_placing.proofs.Stepping.{divisor_at}
 use Rattle.cqf_program_planning.specs.ReadPlans.{ChosenStreamsComeInTurns, ComesAsPlaced, ComesIn, ComesInRound}
 use Rattle.cqf_program_planning.proofs.SoundPlans.{plan_granted, told_plan_is_admitted}
+use Rattle.cqf_program_planning.proofs.Tried.{tried_known}
 
 -- ---- the greatest common divisor
 
@@ -220,8 +221,8 @@ told_in round placed None h = absurd h
 told_in round placed (Some told) h = (told, refl, h)
 
 pub chosen_streams_come_in_turns : SealsAreCounted → AdmittedHaveNames → OffersComeInTurns → ChosenStreamsComeInTurns
-chosen_streams_come_in_turns counted names come network streams d flows there place stream one until seed x plan as_placed here at_edge chosen among at no_sooner no_later =
-    let taken_over = (told_plan_is_admitted counted network streams d flows plan).taken_over in
+chosen_streams_come_in_turns counted names come network streams search d flows there place stream one until seed x plan as_placed here at_edge chosen among at no_sooner no_later =
+    let taken_over = (told_plan_is_admitted counted network streams search d flows plan).taken_over in
     let inside = slice_get_within streams place stream here in
     let (flow, placed) = one_at flows place (omega (arith, inside, taken_over.as_many)) in
     let taken = taken_over.each place stream flow here placed in
@@ -238,9 +239,10 @@ chosen_streams_come_in_turns counted names come network streams d flows there pl
     let every : one.0.0.every ≡ flow.0.0.every = ap (λ (r : PacedText). r.every) comes.request in
     let phase : one.0.0.phase ≡ flow.0.0.phase = ap (λ (r : PacedText). r.phase) comes.request in
     let early : one.0.0.phase < every_of (of.t.interval / d.cycle_time) = let first = of.early in omega (arith, first, phase) in
-    let same : d.cycle_time ≡ plan.cycle_time = ap (λ (there : Domain). there.cycle_time) (plan.domain_is ∙ plan.are_placed.domain) in
+    let known = tried_known network streams search.tries plan.cycle_time plan.placed plan.are_placed in
+    let same : d.cycle_time ≡ plan.cycle_time = ap (λ (there : Domain). there.cycle_time) (plan.domain_is ∙ known.domain) in
     let asked = same_asked d.cycle_time streams flows there as_placed.as_many taken_over.as_many as_placed.each in
     let pairs = subst (λ (all : List Asked). AllPairs (λ (a b : Asked). a.name ≢ b.name) all) (sym asked)
-    (names d (map asked_in flows) (plan_granted counted network streams d flows plan)) in
+    (names d (map asked_in flows) (plan_granted counted network streams search d flows plan)) in
     comes_in_turn d there one place until seed x of.t told come (named_apart d there pairs) at_edge told_is own (omega (arith, same, plan.open_to))
     of.stays (every ∙ of.is_every) early among at no_sooner no_later

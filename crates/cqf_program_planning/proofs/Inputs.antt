@@ -24,7 +24,7 @@ use Rattle.cqf_program_plans.specs.Reserving.{flows_line}
 use Rattle.cqf_network.proofs.StreamParts.{and_first-Ok}
 use Rattle.cqf_program_placing.specs.declared.settled.Unsettled.{Unsettled}
 use Rattle.cqf_program_placing.specs.Settled.{SettledStream, open_domain, settled_behind, settled_next, settled_of}
-use Rattle.cqf_program_planning.specs.PlanOutput.{PlanSource, settled_edges, planning_input, network_line, unentered_line, unsettled_line}
+use Rattle.cqf_program_planning.specs.PlanOutput.{PlanSource, settled_edges, planning_input, planning_parts, network_line, unentered_line, unsettled_line}
 use Rattle.cqf_program_planning.specs.Writing.{IsWritable}
 
 -- what was read, before the fault became a line
@@ -46,12 +46,17 @@ pub record IsInput (limits : Limits) (given : Option (List ℕ)) (source : PlanS
   pub none_full : edge.full ≡ None
   pub times : source.times ≡ edge.times
 
-pub input_parts : (limits : Limits) (given : Option (List ℕ)) (input : List ℕ) (source : PlanSource) → planning_input limits given input ≡ Ok source →
-    IsInput limits given source
-input_parts limits given input source e =
-    let (parts, two, e1) = and_then-Ok (two_parts (parts_of input)) _ source e in
-    let (network, of_domain, e2) = and_then-Ok (or_line network_line (open_network_of_text limits given parts.0)) _ source e1 in
-    let (wanted, of_streams, e3) = and_then-Ok (or_line flows_line (network_streams_of_text parts.1)) _ source e2 in
+-- and the texts that were read
+pub record AreParts (limits : Limits) (given : Option (List ℕ)) (domain_text streams_text : List ℕ) (source : PlanSource) : Type 0 where
+  pub input : IsInput limits given source
+  pub domain_text_is : source.domain_text ≡ domain_text
+  pub streams_text_is : source.streams_text ≡ streams_text
+
+pub parts_read : (limits : Limits) (given : Option (List ℕ)) (domain_text streams_text : List ℕ) (source : PlanSource) →
+    planning_parts limits given domain_text streams_text ≡ Ok source → AreParts limits given domain_text streams_text source
+parts_read limits given domain_text streams_text source e1 =
+    let (network, of_domain, e2) = and_then-Ok (or_line network_line (open_network_of_text limits given domain_text)) _ source e1 in
+    let (wanted, of_streams, e3) = and_then-Ok (or_line flows_line (network_streams_of_text streams_text)) _ source e2 in
     let (edge, of_edges, e4) = and_then-Ok (or_line unentered_line (edge_streams network wanted)) _ source e3 in
     let (streams, of_settled, e5) = and_then-Ok (settled_edges network edge) _ source e4 in
     let (settled, of_each, e6) = and_then-Ok (or_line unsettled_line (settled_of network edge.streams)) (λ settled. refuse edge.full full_line (Ok settled))
@@ -59,18 +64,30 @@ input_parts limits given input source e =
     let (none, last) = refuse-Ok edge.full full_line (Ok settled) streams e6 in
     let all : ◌≡◌ {A = Result (List SettledStream) Unsettled} (Ok settled) (Ok streams) = ok_again settled streams last in
     let made : PlanSource =
-    record { domain = network; streams = streams; times = edge.times; domain_text = parts.0; streams_text = parts.1 } in
+    record { domain = network; streams = streams; times = edge.times; domain_text = domain_text; streams_text = streams_text } in
     let same : made ≡ source = cc in
-    subst (IsInput limits given) same (record {
+    let input : IsInput limits given made =
+    record {
       wanted = wanted;
       edge = edge;
-      domain_read = said-Ok network_line (open_network_of_text limits given parts.0) network of_domain;
-      streams_read = said-Ok flows_line (network_streams_of_text parts.1) wanted of_streams;
+      domain_read = said-Ok network_line (open_network_of_text limits given domain_text) network of_domain;
+      streams_read = said-Ok flows_line (network_streams_of_text streams_text) wanted of_streams;
       at_edges = said-Ok unentered_line (edge_streams network wanted) edge of_edges;
       settled = said-Ok unsettled_line (settled_of network edge.streams) settled of_each ∙ all;
       none_full = none;
       times = refl;
-    })
+    } in
+    subst (AreParts limits given domain_text streams_text) same (record { input = input; domain_text_is = refl; streams_text_is = refl })
+
+pub parts_input : (limits : Limits) (given : Option (List ℕ)) (domain_text streams_text : List ℕ) (source : PlanSource) →
+    planning_parts limits given domain_text streams_text ≡ Ok source → IsInput limits given source
+parts_input limits given domain_text streams_text source e = (parts_read limits given domain_text streams_text source e).input
+
+pub input_parts : (limits : Limits) (given : Option (List ℕ)) (input : List ℕ) (source : PlanSource) → planning_input limits given input ≡ Ok source →
+    IsInput limits given source
+input_parts limits given input source e =
+    let (parts, two, e1) = and_then-Ok (two_parts (parts_of input)) (λ parts. planning_parts limits given parts.0 parts.1) source e in
+    parts_input limits given parts.0 parts.1 source e1
 
 -- ---- as many of each
 
@@ -130,10 +147,8 @@ times_many network all edge settled entrances many from e =
     ap (λ (x : EdgeStreamsText). length x.times) from ∙ timed ∙ through ∙ sym (behind_many network entrances passages all many through)
     ∙ ap (λ (x : EdgeStreamsText). length x.streams) (sym from) ∙ sym (settled_many network (open_domain network) [] edge.streams settled e)
 
-pub writable : (limits : Limits) (given : Option (List ℕ)) (input : List ℕ) (source : PlanSource) → planning_input limits given input ≡ Ok source →
-    IsWritable source
-writable limits given input source e =
-    let parts = input_parts limits given input source e in
+pub writable : (limits : Limits) (given : Option (List ℕ)) (source : PlanSource) → IsInput limits given source → IsWritable source
+writable limits given source parts =
     let there = entered source.domain parts.wanted parts.edge parts.at_edges in
     record {
       domain = domain_has_table limits given source.domain_text source.domain parts.domain_read;

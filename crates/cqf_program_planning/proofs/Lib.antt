@@ -5,10 +5,11 @@ mod PlacedLemmas
 mod TriedLemmas
 mod TextLemmas
 mod ChoiceLemmas
+mod BestLemmas
 mod ChoicesMade
 mod EdgeRead
 pub mod ReadNetworks
-mod Inputs
+pub mod Inputs
 mod Rounds
 mod Erased
 mod PlacedWays
@@ -23,3 +24,8 @@ mod ReadBack
 mod Shallow
 mod Strict
 mod ToldPlans
+mod OrderSteps
+mod OrderLemmas
+mod OtherOrders
+pub mod Tried
+mod Searches

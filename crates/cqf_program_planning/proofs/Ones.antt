@@ -3,7 +3,6 @@ use Rattle.std.proofs.Common.{◌≡◌, ◌∙◌, ◌++◌, ℕ, suc, All, Lis
 use Rattle.std.specs.Prelude.{option_map, slice_get}
 use Rattle.std.proofs.lemmas.List.Elements.{All-cons, All-nil, All-head, All-tail}
 use Rattle.cqf_model.specs.Domain.{Domain}
-use Rattle.cqf_model.specs.History.{Recorded}
 use Rattle.cqf_traffic.specs.FlowsText.{FlowText}
 use Rattle.cqf_network.specs.NetworkDomain.{NetworkDomain}
 use Rattle.cqf_network.specs.StreamsText.{StreamText}
@@ -16,15 +15,15 @@ use Rattle.cqf_edge.specs.EdgeFlows.{passage_of}
 use Rattle.cqf_edge.specs.EdgeStreams.{entrance_of_stream, entrances_of, handed_at, handed_at_each, stream_behind, streams_behind}
 use Rattle.cqf_network_text.specs.declared.filling.FilledStream.{FilledStream}
 use Rattle.cqf_network.proofs.StreamParts.{and_first-Ok}
-use Rattle.cqf_program_placing.specs.Placing.{ArePlacedFrom, PlacedOr, Placed, Unplaced, reserved_on}
+use Rattle.cqf_program_placing.specs.Placing.{PlacedOr, Placed, Unplaced, reserved_on}
 use Rattle.cqf_program_placing.specs.Settled.{SettledStream, settled_behind, settled_next}
 use Rattle.cqf_program_placing.proofs.SettledLemmas.{IsSettledBy, settled_by}
 use Rattle.cqf_program_planning.specs.Judging.{first_unplaced, flow_of, flows_placed}
 use Rattle.cqf_program_planning.specs.PlanLaws.{IsTakenOver}
 use Rattle.cqf_program_planning.specs.PlanOutput.{IsChoiceOf}
-use Rattle.cqf_program_planning.proofs.AllPlaced.{granted_by}
 use Rattle.cqf_program_planning.proofs.EndsRead.{HasEnds}
 use Rattle.cqf_program_planning.proofs.PlacedWays.{ArePathsOf, placed_paths}
+use Rattle.cqf_program_planning.proofs.TriedLemmas.{AreEachPlaced, granted_somewhere}
 
 -- one of the streams
 pub record One : Type 0 where
@@ -108,30 +107,30 @@ module _ (network : NetworkDomain) (bounds : List AccessBound) (od d : Domain) w
       IsChoiceOf d.cycle_time stream flow taken one
 
   pub ones_by : (before : List (List ℕ)) (wanted : List StreamText) (entrances : List (Option Entrance)) (settled : List SettledStream)
-      (outcomes : List PlacedOr) (filled : List FilledStream) (entries end : List Recorded) → All HasEnds wanted →
+      (outcomes : List PlacedOr) (filled : List FilledStream) → All HasEnds wanted →
       entrances_of network wanted ≡ Ok entrances →
       settled_behind network od before (streams_behind network entrances (passages wanted entrances) wanted) ≡ Ok settled →
-      ArePlacedFrom d entries settled outcomes end → first_unplaced settled outcomes ≡ None →
+      AreEachPlaced d settled outcomes → first_unplaced settled outcomes ≡ None →
       length filled ≡ length (flows_placed d.cycle_time settled outcomes) → Taken settled (flows_placed d.cycle_time settled outcomes) →
       Chosen settled (flows_placed d.cycle_time settled outcomes) (map (option_map times_on) (passages wanted entrances)) filled →
       AreOnes wanted entrances settled (flows_placed d.cycle_time settled outcomes) filled
-  ones_by before [] [] [] outcomes [] entries end ends enter settles places none many taken chosen = no_ones
-  ones_by before [] (e ∷ es) settled outcomes filled entries end ends enter settles places none many taken chosen = absurd cc
-  ones_by before [] [] (s ∷ ss) outcomes filled entries end ends enter settles places none many taken chosen = absurd cc
-  ones_by before [] [] [] outcomes (f ∷ fs) entries end ends enter settles places none many taken chosen = absurd cc
-  ones_by before (stream ∷ wanted) [] settled outcomes filled entries end ends enter settles places none many taken chosen =
+  ones_by before [] [] [] outcomes [] ends enter settles places none many taken chosen = no_ones
+  ones_by before [] (e ∷ es) settled outcomes filled ends enter settles places none many taken chosen = absurd cc
+  ones_by before [] [] (s ∷ ss) outcomes filled ends enter settles places none many taken chosen = absurd cc
+  ones_by before [] [] [] outcomes (f ∷ fs) ends enter settles places none many taken chosen = absurd cc
+  ones_by before (stream ∷ wanted) [] settled outcomes filled ends enter settles places none many taken chosen =
       let first = and_first-Ok (entrance_of_stream network stream) (entrances_of network wanted) [] enter in
       let all = first.all in absurd cc
-  ones_by before (stream ∷ wanted) (e ∷ es) [] outcomes filled entries end ends enter settles places none many taken chosen =
+  ones_by before (stream ∷ wanted) (e ∷ es) [] outcomes filled ends enter settles places none many taken chosen =
       let next = stream_behind network e (passage_of network bounds (handed_at stream e)) stream in
       let second = and_first-Ok (settled_next network od before next)
       (settled_behind network od (before ++ next.name ∷ []) (streams_behind network es (passages wanted es) wanted)) [] settles in
       let all = second.all in absurd cc
-  ones_by before (stream ∷ wanted) (e ∷ es) (s ∷ ss) [] filled entries end ends enter settles places none many taken chosen = absurd places
-  ones_by before (stream ∷ wanted) (e ∷ es) (s ∷ ss) (Unplaced found ∷ more) filled entries end ends enter settles places none many taken chosen =
+  ones_by before (stream ∷ wanted) (e ∷ es) (s ∷ ss) [] filled ends enter settles places none many taken chosen = absurd places
+  ones_by before (stream ∷ wanted) (e ∷ es) (s ∷ ss) (Unplaced found ∷ more) filled ends enter settles places none many taken chosen =
       absurd cc
-  ones_by before (stream ∷ wanted) (e ∷ es) (s ∷ ss) (Placed asked ∷ more) [] entries end ends enter settles places none many taken chosen = absurd cc
-  ones_by before (stream ∷ wanted) (e ∷ es) (s ∷ ss) (Placed asked ∷ more) (f ∷ fs) entries end ends enter settles places none many taken chosen =
+  ones_by before (stream ∷ wanted) (e ∷ es) (s ∷ ss) (Placed asked ∷ more) [] ends enter settles places none many taken chosen = absurd cc
+  ones_by before (stream ∷ wanted) (e ∷ es) (s ∷ ss) (Placed asked ∷ more) (f ∷ fs) ends enter settles places none many taken chosen =
       let next = stream_behind network e (passage_of network bounds (handed_at stream e)) stream in
       let first = and_first-Ok (entrance_of_stream network stream) (entrances_of network wanted) (e ∷ es) enter in
       let second = and_first-Ok (settled_next network od before next)
@@ -140,7 +139,7 @@ module _ (network : NetworkDomain) (bounds : List AccessBound) (od d : Domain) w
       let es_are : es ≡ first.more = same_tail first.all in
       let s_is : s ≡ second.one = same_head second.all in
       let ss_are : ss ≡ second.more = same_tail second.all in
-      let granted = granted_by d entries s (reserved_on d.cycle_time d.sync s) asked places.0 refl places.1 in
+      let granted = granted_somewhere d s asked places.0 in
       let flow : FlowText = flow_of d.cycle_time s asked in
       let o : One = record { stream = stream; entrance = e; settled = s; flow = flow; filled = f } in
       let is : IsOne o =
@@ -149,12 +148,12 @@ module _ (network : NetworkDomain) (bounds : List AccessBound) (od d : Domain) w
         entered = first.first_is ∙ ap Ok (sym e_is);
         before = before;
         settles = settled_by network od before next s (second.first_is ∙ ap Ok (sym s_is));
-        paths = placed_paths d entries s (reserved_on d.cycle_time d.sync s) asked places.0 places.1;
+        paths = placed_paths d places.0.entries s (reserved_on d.cycle_time d.sync s) asked places.0.after places.0.placed;
         reserved = granted.reserved;
         taken = taken 0 s flow refl refl;
         choice = chosen 0 s flow (option_map times_on (passage o)) f refl refl refl refl;
       } in
       let many_rest : length fs ≡ length (flows_placed d.cycle_time ss more) = cc in
       more_ones o wanted es ss (flows_placed d.cycle_time ss more) fs is
-      (ones_by (before ++ next.name ∷ []) wanted es ss more fs places.0 end (All-tail HasEnds stream wanted ends) (first.others_are ∙ ap Ok (sym es_are))
-      (second.others_are ∙ ap Ok (sym ss_are)) places.2 none many_rest (λ k. taken (suc k)) (λ k. chosen (suc k)))
+      (ones_by (before ++ next.name ∷ []) wanted es ss more fs (All-tail HasEnds stream wanted ends) (first.others_are ∙ ap Ok (sym es_are))
+      (second.others_are ∙ ap Ok (sym ss_are)) places.1 none many_rest (λ k. taken (suc k)) (λ k. chosen (suc k)))

@@ -35,7 +35,7 @@ or_line-Ok line (Ok y) x e = cc
 or_line-Ok line (Err fault) x e = absurd cc
 
 -- a network file whose edges pass the checks is what the text says with them
-with_these_edges : (text : NetworkText) (edges : List Edge) (network : NetworkDomain) → with_edges text edges ≡ Ok network → network_with text edges ≡ network
+pub with_these_edges : (text : NetworkText) (edges : List Edge) (network : NetworkDomain) → with_edges text edges ≡ Ok network → network_with text edges ≡ network
 with_these_edges text edges network e =
     let a = refuse-Ok (first_twice edges) (λ (element : ℕ). Domain (domain.LinkTwice element)) _ network e in
     let c = refuse-Ok (if_so (is_guard_too_long text)) (λ (u : Unit {0}). Domain domain.GuardTooLong) _ network a.1 in

@@ -16,10 +16,12 @@ use Rattle.cqf_program_plans.specs.Latency.Text.{latencies_of}
 use Rattle.cqf_program_offers.specs.OffersOutput.{asked_in}
 use Rattle.cqf_program_placing.specs.Placing.{PlacedStreams}
 use Rattle.cqf_program_placing.specs.Settled.{SettledStream}
+use Rattle.cqf_program_planning.specs.declared.choosing.Search.{Search}
 use Rattle.cqf_program_planning.specs.Choosing.{IsPlanned}
 use Rattle.cqf_program_planning.specs.Judging.{deadlines_placed, first_late, first_unplaced, flow_of, flows_placed, latencies_placed, those_placed}
 use Rattle.cqf_program_planning.specs.PlanLaws.{IsSoundPlan, ReservesEnough, ToldPlanIsAdmitted, deadlines_of}
-use Rattle.cqf_program_planning.proofs.AllPlaced.{AreAllGranted, all_granted, all_in_time, neither}
+use Rattle.cqf_program_planning.proofs.AllPlaced.{AreAllGranted, all_in_time, neither}
+use Rattle.cqf_program_planning.proofs.Tried.{tried_known}
 
 -- a stream that reserves enough lacks nothing
 lacks_nothing : (cycle_time place octets : ℕ) (traffic : Option TrafficText) → ForSome traffic (λ (t : TrafficText). needed cycle_time (promise_of t) ≤ octets) →
@@ -62,24 +64,24 @@ sound_of streams placed all in_time =
     }
 
 -- the streams of a plan are all granted
-planned_granted : SealsAreCounted → (network : NetworkDomain) (streams : List SettledStream) (d : Domain) (flows : List FlowText)
-    (plan : IsPlanned network streams d flows) →
+planned_granted : SealsAreCounted → (network : NetworkDomain) (streams : List SettledStream) (search : Search) (d : Domain) (flows : List FlowText)
+    (plan : IsPlanned network streams search d flows) →
     AreAllGranted plan.placed.domain [] streams (flows_placed plan.placed.domain.cycle_time streams plan.placed.outcomes) plan.placed.entries
-planned_granted counted network streams d flows plan =
+planned_granted counted network streams search d flows plan =
     let placed = plan.placed in
     let good = neither (first_unplaced streams placed.outcomes) (first_late (latencies_placed streams placed)) plan.good in
-    all_granted placed.domain streams [] placed.entries placed.outcomes counted good.0 plan.are_placed.placed_are
+    (tried_known network streams search.tries plan.cycle_time placed plan.are_placed).granted counted good.0
 
-pub plan_granted : SealsAreCounted → (network : NetworkDomain) (streams : List SettledStream) (d : Domain) (flows : List FlowText) →
-    IsPlanned network streams d flows → AreGranted d [] (map asked_in flows)
-plan_granted counted network streams d flows plan =
+pub plan_granted : SealsAreCounted → (network : NetworkDomain) (streams : List SettledStream) (search : Search) (d : Domain) (flows : List FlowText) →
+    IsPlanned network streams search d flows → AreGranted d [] (map asked_in flows)
+plan_granted counted network streams search d flows plan =
     subst₂ (λ (there : Domain) (those : List FlowText). AreGranted there [] (map asked_in those)) (sym plan.domain_is) (sym plan.flows_are)
-    (planned_granted counted network streams d flows plan).granted
+    (planned_granted counted network streams search d flows plan).granted
 
 pub told_plan_is_admitted : SealsAreCounted → ToldPlanIsAdmitted
-told_plan_is_admitted counted network streams d flows plan =
+told_plan_is_admitted counted network streams search d flows plan =
     let placed = plan.placed in
     let good = neither (first_unplaced streams placed.outcomes) (first_late (latencies_placed streams placed)) plan.good in
-    let all = planned_granted counted network streams d flows plan in
+    let all = planned_granted counted network streams search d flows plan in
     subst (λ (there : Domain). IsSoundPlan streams there flows) (sym plan.domain_is)
     (subst (λ (those : List FlowText). IsSoundPlan streams placed.domain those) (sym plan.flows_are) (sound_of streams placed all good.1))

@@ -37,17 +37,19 @@ use Rattle.cqf_program_plans.specs.Reserving.{first_lack, flows_line, lack_line,
 use Rattle.cqf_admission.specs.Asking.{asked_by}
 use Rattle.cqf_program_offers.specs.OffersOutput.{asked_in}
 use Rattle.cqf_program_scenario.specs.Networks.{domain_of}
-use Rattle.cqf_program_placing.specs.Placing.{ArePlacedFrom, PlacedStreams}
+use Rattle.cqf_program_placing.specs.Placing.{PlacedStreams}
 use Rattle.cqf_program_placing.specs.Settled.{SettledStream, open_domain, settled_behind, settled_of}
+use Rattle.cqf_program_planning.specs.declared.choosing.Search.{Search}
 use Rattle.cqf_program_planning.specs.Choosing.{IsPlanned, IsBad, IsUnplanned}
-use Rattle.cqf_program_planning.specs.Judging.{first_late, first_unplaced, flows_placed, latencies_placed, ArePlacedAt, AreJudgedBy, candidate_of}
+use Rattle.cqf_program_planning.specs.Judging.{first_late, first_unplaced, flows_placed, latencies_placed, ArePlacedAt, candidate_of}
+use Rattle.cqf_program_planning.specs.Orders.{AreJudgedBy, AreTriedAt}
 use Rattle.cqf_program_planning.specs.PlanLaws.{IsSoundPlan, deadlines_of}
-use Rattle.cqf_program_planning.specs.PlanOutput.{AreChoicesOf, IsPlanText, PlanSource, planning_input, IsChoiceOf, offset_before, offset_told, settled_edges, network_line, taken_by, unentered_line, unsettled_line}
+use Rattle.cqf_program_planning.specs.PlanOutput.{AreChoicesOf, IsPlanText, PlanSource, planning_input, planning_parts, IsChoiceOf, offset_before, offset_told, settled_edges, network_line, taken_by, unentered_line, unsettled_line}
 use Rattle.cqf_program_planning.specs.ReadPlans.{ComeAsPlaced, IsGoodPlan, IsReadPlan, IsShallow, ReadsAs, ToldPlansReadBack, PlansPlanThemselves, PlansTo}
 use Rattle.cqf_program_planning.specs.Steps.{IsTurned}
 use Rattle.cqf_program_planning.proofs.AllPlaced.{neither}
 use Rattle.cqf_program_planning.proofs.EndsRead.{streams_end}
-use Rattle.cqf_program_planning.proofs.Inputs.{AreEntered, IsInput, entered, input_parts}
+use Rattle.cqf_program_planning.proofs.Inputs.{AreEntered, IsInput, entered, parts_input}
 use Rattle.cqf_program_planning.proofs.Ones.{AreOnes, One, ones_by}
 use Rattle.cqf_program_planning.proofs.ReadBack.{all_at_edge, all_come, all_good, all_kept, all_left, all_read, all_turned, at_edge, domain_found, edges_found, entrances_of_ones, flows_found, flows_of, AreApart, again_of, all_again_read, all_apart, all_arriving, all_asked, all_enter, all_hand, all_settled, arriving, bounds_found, filled_of, hands_of}
 use Rattle.cqf_program_planning.proofs.ReadBack.{none_found_full, plain_edges, read_of, streams_of}
@@ -67,7 +69,9 @@ use Rattle.cqf_topology.specs.PacedText.{PacedText}
 use Rattle.cqf_traffic.specs.TrafficText.{TrafficText}
 use Rattle.cqf_program_placing.specs.Turns.{is_in_step}
 use Rattle.cqf_program_planning.specs.declared.candidates.Candidate.{Candidate}
-use Rattle.cqf_program_planning.proofs.Again.{flows_again, nothing_wrong, settled_flow}
+use Rattle.cqf_program_planning.proofs.Again.{flows_again, nothing_wrong, settled_flow, unplaced_again}
+use Rattle.cqf_program_planning.proofs.Tried.{IsTriedKnown, tried_first, tried_known}
+use Rattle.cqf_program_planning.proofs.TriedLemmas.{AreEachPlaced}
 use Rattle.cqf_program_planning.proofs.AgainTables.{AreAgain, IsAgain, network_unchanged}
 use Rattle.cqf_program_planning.proofs.ComesBack.{behind_request}
 
@@ -165,13 +169,14 @@ only_one c x (y ∷ before) behind h =
 
 -- ---- the plan
 
-module _ (read_back : FilledNetworksReadBack) (counted : SealsAreCounted) (limits : Limits) (given : Option (List ℕ)) (input text : List ℕ) (source : PlanSource)
-    (are : IfSome given AreCandidates) (read : planning_input limits given input ≡ Ok source) (shallow_domain : IsShallow source.domain_text)
-    (shallow_streams : IsShallow source.streams_text) (plan : IsPlanText source text) where
+module _ (read_back : FilledNetworksReadBack) (counted : SealsAreCounted) (limits : Limits) (search : Search) (given : Option (List ℕ))
+    (domain_text streams_text text : List ℕ) (source : PlanSource) (are : IfSome given AreCandidates)
+    (read : planning_parts limits given domain_text streams_text ≡ Ok source) (shallow_domain : IsShallow source.domain_text)
+    (shallow_streams : IsShallow source.streams_text) (plan : IsPlanText search source text) where
   abbrev network : NetworkDomain
   network = source.domain
 
-  abbrev planned : IsPlanned network source.streams plan.domain plan.flows
+  abbrev planned : IsPlanned network source.streams search plan.domain plan.flows
   planned = plan.planned
 
   abbrev cycle_time : ℕ
@@ -184,7 +189,7 @@ module _ (read_back : FilledNetworksReadBack) (counted : SealsAreCounted) (limit
   flows = flows_placed cycle_time source.streams planned.placed.outcomes
 
   parts : IsInput limits given source
-  parts = input_parts limits given input source read
+  parts = parts_input limits given domain_text streams_text source read
 
   is_network : IsNetwork network
   is_network = read_is_network limits given source.domain_text network are parts.domain_read
@@ -201,16 +206,19 @@ module _ (read_back : FilledNetworksReadBack) (counted : SealsAreCounted) (limit
   good : IsDomain d
   good = is_network.domains cycle_time open_to
 
+  known : IsTriedKnown network source.streams cycle_time planned.placed
+  known = tried_known network source.streams search.tries cycle_time planned.placed planned.are_placed
+
   same_domain : plan.domain ≡ d
-  same_domain = planned.domain_is ∙ planned.are_placed.domain
+  same_domain = planned.domain_is ∙ known.domain
 
   same_flows : plan.flows ≡ flows
-  same_flows = planned.flows_are ∙ ap (λ (x : Domain). flows_placed x.cycle_time source.streams planned.placed.outcomes) planned.are_placed.domain
+  same_flows = planned.flows_are ∙ ap (λ (x : Domain). flows_placed x.cycle_time source.streams planned.placed.outcomes) known.domain
 
   sound : IsSoundPlan source.streams d flows
   sound =
       subst₂ (λ (x : Domain) (fs : List FlowText). IsSoundPlan source.streams x fs) same_domain same_flows
-      (told_plan_is_admitted counted network source.streams plan.domain plan.flows planned)
+      (told_plan_is_admitted counted network source.streams search plan.domain plan.flows planned)
 
   there : AreEntered network parts.wanted parts.edge
   there = entered network parts.wanted parts.edge parts.at_edges
@@ -235,16 +243,14 @@ module _ (read_back : FilledNetworksReadBack) (counted : SealsAreCounted) (limit
   settles : settled_behind network (open_domain network) [] (streams_behind network there.entrances passages parts.wanted) ≡ Ok source.streams
   settles = ap (λ (x : EdgeStreamsText). settled_of network x.streams) (sym there.from) ∙ parts.settled
 
-  places : ArePlacedFrom d [] source.streams planned.placed.outcomes planned.placed.entries
-  places =
-      subst (λ (x : Domain). ArePlacedFrom x [] source.streams planned.placed.outcomes planned.placed.entries) planned.are_placed.domain
-      planned.are_placed.placed_are
+  places : AreEachPlaced d source.streams planned.placed.outcomes
+  places = subst (λ (x : Domain). AreEachPlaced x source.streams planned.placed.outcomes) known.domain known.placed_each
 
   all : AreOnes network bounds (open_domain network) d parts.wanted there.entrances source.streams flows plan.filled
   all =
       let none = (neither (first_unplaced source.streams planned.placed.outcomes) (first_late (latencies_placed source.streams planned.placed)) planned.good).0 in
-      ones_by network bounds (open_domain network) d [] parts.wanted there.entrances source.streams planned.placed.outcomes plan.filled []
-      planned.placed.entries (streams_end source.streams_text parts.wanted parts.streams_read) there.are settles places none chosen.one_each
+      ones_by network bounds (open_domain network) d [] parts.wanted there.entrances source.streams planned.placed.outcomes plan.filled
+      (streams_end source.streams_text parts.wanted parts.streams_read) there.are settles places none chosen.one_each
       sound.taken_over.each chosen.each
 
   abbrev ones : List One
@@ -396,7 +402,7 @@ module _ (read_back : FilledNetworksReadBack) (counted : SealsAreCounted) (limit
 
     granted_again : AreGranted d [] (map asked_in (map (at_edge network is_network.has_talkers cycle_time good bounds) ones))
     granted_again =
-        let of_plan = plan_granted counted network source.streams plan.domain plan.flows planned in
+        let of_plan = plan_granted counted network source.streams search plan.domain plan.flows planned in
         let here = subst₂ (λ (x : Domain) (fs : List FlowText). AreGranted x [] (map asked_in fs)) same_domain (same_flows ∙ all.flows_are) of_plan in
         subst (AreGranted d []) (sym (all_asked network is_network.has_talkers cycle_time good bounds ones some_cycle all.each turned)) here
 
@@ -432,23 +438,32 @@ module _ (read_back : FilledNetworksReadBack) (counted : SealsAreCounted) (limit
     good_edge : IsGoodPlan d (map (at_edge network is_network.has_talkers cycle_time good bounds) ones)
     good_edge = subst (IsGoodPlan d) flows_are good_plan
 
-    fine : (placed : PlacedStreams) → ArePlacedAt network_again settled_list cycle_time placed → (candidate_of settled_list placed).fault ≡ None
-    fine placed at =
+    granted_first : (first : PlacedStreams) → ArePlacedAt network_again settled_list cycle_time first → first_unplaced settled_list first.outcomes ≡ None
+    granted_first first at =
+        unplaced_again counted d (map (at_edge network is_network.has_talkers cycle_time good bounds) ones) good_edge granted_again first at.domain at.placed_are
+
+    as_first : (tries : ℕ) (placed : PlacedStreams) → AreTriedAt network_again settled_list tries cycle_time placed →
+        ArePlacedAt network_again settled_list cycle_time placed
+    as_first tries placed tried = tried_first network_again settled_list tries cycle_time placed tried granted_first
+
+    fine : (tries : ℕ) (placed : PlacedStreams) → AreTriedAt network_again settled_list tries cycle_time placed → (candidate_of settled_list placed).fault ≡ None
+    fine tries placed tried =
+        let at = as_first tries placed tried in
         nothing_wrong counted d (map (at_edge network is_network.has_talkers cycle_time good bounds) ones) good_edge granted_again placed at.domain at.placed_are
 
     -- so there is a plan
-    some_plan : (line : List ℕ) → IsUnplanned network_again settled_list line → ⊥
-    some_plan line unplanned = one_bad unplanned.told unplanned.judged unplanned.bad
+    some_plan : (tries : ℕ) (line : List ℕ) → IsUnplanned network_again settled_list tries line → ⊥
+    some_plan tries line unplanned = one_bad unplanned.told unplanned.judged unplanned.bad
       where
         some_fault : (candidate : Candidate) → candidate.fault ≡ None → IsBad candidate → ⊥
         some_fault candidate none bad = let both = sym (ap is_some none) ∙ bad in absurd cc
 
-        one_bad : (told : List Candidate) → AreJudgedBy network_again settled_list (cycle_time ∷ []) told → All IsBad told → ⊥
+        one_bad : (told : List Candidate) → AreJudgedBy network_again settled_list tries (cycle_time ∷ []) told → All IsBad told → ⊥
         one_bad [] judged bad = absurd judged
         one_bad (candidate ∷ []) judged bad =
             let (placed, at, is) = judged.0.open_to planned.open_to in
             let own_bad = All-head IsBad candidate [] bad in
-            let none = ap (λ (c : Candidate). c.fault) is ∙ fine placed at in
+            let none = ap (λ (c : Candidate). c.fault) is ∙ fine tries placed at in
             some_fault candidate none own_bad
         one_bad (candidate ∷ other ∷ more) judged bad = absurd judged.1
 
@@ -497,12 +512,12 @@ module _ (read_back : FilledNetworksReadBack) (counted : SealsAreCounted) (limit
         (passage_of network (bounds_of network (handed_at_each (map (again_of network is_network.has_talkers cycle_time good bounds) ones) (entrances_of_ones ones))))
         ∙ ap length hand_again ∙ length-map ones hands_of
 
-    same_table : (again : List ℕ) → IsPlanText source_again again → table_of again ≡ table_of text
-    same_table again other =
+    same_table : (another : Search) (again : List ℕ) → IsPlanText another source_again again → table_of again ≡ table_of text
+    same_table another again other =
         let second = other.planned in
         let cycle : second.cycle_time ≡ cycle_time = only_one cycle_time second.cycle_time second.before second.behind second.among in
         let at : ArePlacedAt network_again settled_list cycle_time second.placed =
-        subst (λ (c : ℕ). ArePlacedAt network_again settled_list c second.placed) cycle second.are_placed in
+        as_first another.tries second.placed (subst (λ (c : ℕ). AreTriedAt network_again settled_list another.tries c second.placed) cycle second.are_placed) in
         let domain : other.domain ≡ d = second.domain_is ∙ at.domain in
         let edges = map (at_edge network is_network.has_talkers cycle_time good bounds) ones in
         let flows_now : other.flows ≡ edges =
@@ -527,9 +542,9 @@ module _ (read_back : FilledNetworksReadBack) (counted : SealsAreCounted) (limit
     planned_again = record { source = source_again; is_input = input_again; some_plan = some_plan; same_table = same_table }
 
 pub told_plans_read_back : FilledNetworksReadBack → SealsAreCounted → ToldPlansReadBack
-told_plans_read_back read_back counted limits given input text source are read shallow_domain shallow_streams plan =
-    told_plan_reads_back read_back counted limits given input text source are read shallow_domain shallow_streams plan
+told_plans_read_back read_back counted limits search given domain_text streams_text text source are read shallow_domain shallow_streams plan =
+    told_plan_reads_back read_back counted limits search given domain_text streams_text text source are read shallow_domain shallow_streams plan
 
 pub plans_plan_themselves : FilledNetworksReadBack → SealsAreCounted → PlansPlanThemselves
-plans_plan_themselves read_back counted limits given input text source are read shallow_domain shallow_streams plan own both_parts =
-    planned_again read_back counted limits given input text source are read shallow_domain shallow_streams plan own both_parts
+plans_plan_themselves read_back counted limits search given domain_text streams_text text source are read shallow_domain shallow_streams plan own both_parts =
+    planned_again read_back counted limits search given domain_text streams_text text source are read shallow_domain shallow_streams plan own both_parts

@@ -7,7 +7,7 @@ use Rattle.cqf_model.specs.declared.topology.Row.{Row}
 use Rattle.cqf_model.specs.Domain.{Domain, budget}
 use Rattle.cqf_model.specs.History.{Asked, held_in, seals}
 use Rattle.cqf_admission.specs.Costs.{most_cost}
-use Rattle.cqf_network.specs.NetworkDomain.{NetworkDomain, domain_at, longest_guard}
+use Rattle.cqf_network.specs.NetworkDomain.{NetworkDomain, domain_at}
 use Rattle.cqf_traffic.specs.FlowsText.{FlowText}
 use Rattle.cqf_traffic.specs.TrafficText.{TrafficText}
 use Rattle.cqf_network.specs.declared.pacing.Pacing.{Pacing}
@@ -130,16 +130,3 @@ shut_candidate cycle_time =
 pub record ArePlacedAt (network : NetworkDomain) (streams : List SettledStream) (cycle_time : ℕ) (placed : PlacedStreams) : Type 0 where
   pub domain : placed.domain ≡ domain_at network cycle_time
   pub placed_are : ArePlaced streams placed
-
--- the verdict on a candidate
-pub record IsJudgedBy (network : NetworkDomain) (streams : List SettledStream) (cycle_time : ℕ) (candidate : Candidate) : Type 0 where
-  pub shut : cycle_time ≤ longest_guard network → candidate ≡ shut_candidate cycle_time
-  pub open_to : longest_guard network < cycle_time → (placed : PlacedStreams) × ArePlacedAt network streams cycle_time placed × (candidate ≡ candidate_of streams placed)
-
--- the verdicts on some candidates, in their order
-abbrev pub AreJudgedBy : NetworkDomain → List SettledStream → List ℕ → List Candidate → Type 0
-AreJudgedBy network streams [] [] = Unit {0}
-AreJudgedBy network streams [] (candidate ∷ more) = ⊥
-AreJudgedBy network streams (cycle_time ∷ cycles) [] = ⊥
-AreJudgedBy network streams (cycle_time ∷ cycles) (candidate ∷ more) =
-    IsJudgedBy network streams cycle_time candidate × AreJudgedBy network streams cycles more

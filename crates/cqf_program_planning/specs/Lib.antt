@@ -1,4 +1,5 @@
 pub mod Judging
+pub mod Orders
 pub mod Choosing
 pub mod TableText
 pub mod PlanLaws
@@ -7,4 +8,5 @@ pub mod ReadPlans
 -- the contracts of inner functions
 pub mod Steps
 pub mod Trying
+pub mod Searching
 pub mod Writing

@@ -18,6 +18,7 @@ use Rattle.cqf_program_placing.specs.Placing.{PlacedStreams, is_chosen_on, turns
 use Rattle.cqf_program_placing.specs.Room.{ArePlacedByRoom, MayBeWays}
 use Rattle.cqf_program_placing.specs.Settled.{SettledStream}
 use Rattle.cqf_program_placing.specs.Turns.{MayBeFirst, can_step, every_in}
+use Rattle.cqf_program_planning.specs.declared.choosing.Search.{Search}
 use Rattle.cqf_program_planning.specs.Choosing.{IsPlanned}
 use Rattle.cqf_program_planning.specs.Judging.{ArePlacedAt}
 use Rattle.cqf_program_planning.specs.PlanOutput.{PlanSource, planning_input}
@@ -65,7 +66,7 @@ pub record IsSoundPlan (streams : List SettledStream) (d : Domain) (flows : List
 -- each plan of a network file is sound
 abbrev pub ToldPlanIsAdmitted : Type 0
 ToldPlanIsAdmitted =
-    (network : NetworkDomain) (streams : List SettledStream) (d : Domain) (flows : List FlowText) → IsPlanned network streams d flows →
+    (network : NetworkDomain) (streams : List SettledStream) (search : Search) (d : Domain) (flows : List FlowText) → IsPlanned network streams search d flows →
     IsSoundPlan streams d flows
 
 -- the streams of an input that is a network file are placed if there is room, on each cycle time that is open to it, if a branch may have

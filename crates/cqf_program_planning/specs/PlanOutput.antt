@@ -34,7 +34,8 @@ use Rattle.cqf_program_placing.specs.Settled.{SettledStream, settled_of}
 use Rattle.cqf_program_placing.specs.Placing.{is_chosen_on}
 use Rattle.cqf_program_planning.specs.declared.candidates.Candidate.{Candidate}
 use Rattle.cqf_program_planning.specs.Choosing.{IsPlanned, IsUnplanned}
-use Rattle.cqf_program_planning.specs.Judging.{AreJudgedBy}
+use Rattle.cqf_program_planning.specs.declared.choosing.Search.{Search}
+use Rattle.cqf_program_planning.specs.Orders.{AreJudgedBy}
 use Rattle.cqf_program_planning.specs.TableText.{text_of_candidates}
 
 -- the line of a refused domain of a network file
@@ -62,27 +63,31 @@ unentered_line (edge_fault.Talker name found) = fault_line (codes "plan") (name 
 unentered_line (edge_fault.AccessFull station) = full_line station
 unentered_line edge_fault.Memory = []
 
--- its streams as they come to their edge bridges, settled, where no access link is full
+-- its streams as they come to their edge bridges, settled, if no access link is full
 abbrev pub settled_edges : NetworkDomain → EdgeStreamsText → Result (List SettledStream) (List ℕ)
 settled_edges network edge =
     and_then (or_line unsettled_line (settled_of network edge.streams)) (λ settled. refuse edge.full full_line (Ok settled))
 
--- that of an input, where candidates for the cycle time may be given; or the line of the first fault: of the parts, of the domain, of the
--- streams, of what no cycle time changes, and of the first access link that is full
-abbrev pub planning_input : Limits → Option (List ℕ) → List ℕ → Result PlanSource (List ℕ)
-planning_input limits given input = and_then (two_parts (parts_of input)) (λ parts.
-    and_then (or_line network_line (open_network_of_text limits given parts.0)) (λ network.
-    and_then (or_line flows_line (network_streams_of_text parts.1)) (λ wanted.
+-- that of the texts of a domain and of streams, with candidates for the cycle time if they are given; or the line of the first fault: of the
+-- domain, of the streams, of what no cycle time changes, and of the first access link that is full
+abbrev pub planning_parts : Limits → Option (List ℕ) → List ℕ → List ℕ → Result PlanSource (List ℕ)
+planning_parts limits given domain_text streams_text =
+    and_then (or_line network_line (open_network_of_text limits given domain_text)) (λ network.
+    and_then (or_line flows_line (network_streams_of_text streams_text)) (λ wanted.
     and_then (or_line unentered_line (edge_streams network wanted)) (λ edge.
     and_then (settled_edges network edge) (λ settled.
-    Ok (record { domain = network; streams = settled; times = edge.times; domain_text = parts.0; streams_text = parts.1 }))))))
+    Ok (record { domain = network; streams = settled; times = edge.times; domain_text = domain_text; streams_text = streams_text })))))
+
+-- that of an input with these two parts; or the line of the first fault
+abbrev pub planning_input : Limits → Option (List ℕ) → List ℕ → Result PlanSource (List ℕ)
+planning_input limits given input = and_then (two_parts (parts_of input)) (λ parts. planning_parts limits given parts.0 parts.1)
 
 -- when a talker's offers begin if the grid of its stream begins at a given instant at the edge bridge, the frames take at least a given time to
 -- that bridge, and the stream is offered in one of `every` cycles: the least such instant, less than `every` cycles
 abbrev pub offset_before : ℕ → ℕ → ℕ → ℕ → ℕ
 offset_before at_edge taken cycle_time every = (at_edge + every * cycle_time - taken % (every * cycle_time)) % (every * cycle_time)
 
--- where it was chosen in which cycles a stream is offered, by its traffic at its edge bridge
+-- if the cycles in which a stream is offered were chosen, by its traffic at its edge bridge
 abbrev pub taken_by : Option AccessTimes → ℕ
 taken_by None = 0
 taken_by (Some times) = times.least
@@ -106,44 +111,52 @@ pub record AreChoicesOf (cycle_time : ℕ) (streams : List SettledStream) (flows
         IsChoiceOf cycle_time stream flow taken one
 
 -- the text is that of the network that is planned: the file's own, with what was chosen
-pub record IsPlanText (source : PlanSource) (text : List ℕ) : Type 0 where
+pub record IsPlanText (search : Search) (source : PlanSource) (text : List ℕ) : Type 0 where
   pub domain : Domain
   pub flows : List FlowText
   pub filled : List FilledStream
-  pub planned : IsPlanned source.domain source.streams domain flows
+  pub planned : IsPlanned source.domain source.streams search domain flows
   pub chosen : AreChoicesOf domain.cycle_time source.streams flows source.times filled
   pub written : IsFilledText source.domain_text source.streams_text domain.cycle_time filled text
 
 -- the text is that of the table of all candidates
-pub record IsCandidatesText (source : PlanSource) (text : List ℕ) : Type 0 where
+pub record IsCandidatesText (tries : ℕ) (source : PlanSource) (text : List ℕ) : Type 0 where
   pub told : List Candidate
-  pub judged : AreJudgedBy source.domain source.streams source.domain.candidates told
+  pub judged : AreJudgedBy source.domain source.streams tries source.domain.candidates told
   pub written : text ≡ text_of_candidates (length source.streams) told
 
 -- the output for a network file: its plan, or the line that says that no candidate is good; or a table of the candidates
-abbrev pub IsToldOf : Bool → PlanSource → Result (List ℕ) (List ℕ) → Type 0
-IsToldOf true source (Ok text) = IsCandidatesText source text
-IsToldOf true source (Err line) = ⊥
-IsToldOf false source (Ok text) = IsPlanText source text
-IsToldOf false source (Err line) = IsUnplanned source.domain source.streams line
+abbrev pub IsToldOf : Bool → Search → PlanSource → Result (List ℕ) (List ℕ) → Type 0
+IsToldOf true search source (Ok text) = IsCandidatesText search.tries source text
+IsToldOf true search source (Err line) = ⊥
+IsToldOf false search source (Ok text) = IsPlanText search source text
+IsToldOf false search source (Err line) = IsUnplanned source.domain source.streams search.tries line
 
--- the end without an output: with status 1 and the line, or with status 3 if memory lacks
-pub record IsToldRefusal (table : Bool) (source : PlanSource) (stop : Stop) : Type 0 where
+-- the end without an output: with status 1 and the line, or with status 3 if an allocation fails
+pub record IsToldRefusal (table : Bool) (search : Search) (source : PlanSource) (stop : Stop) : Type 0 where
   pub statuses : (stop.status ≡ 1) ⊎ (stop.status ≡ 3)
-  pub line : stop.status ≡ 1 → IsToldOf table source (Err stop.text.items)
+  pub line : stop.status ≡ 1 → IsToldOf table search source (Err stop.text.items)
   pub memory : stop.status ≡ 3 → stop.text.items ≡ []
 
 -- the output for what was read; for an input that is refused, the line of the first fault
-abbrev pub IsPlannedOf : Bool → Result PlanSource (List ℕ) → Result (List ℕ) (List ℕ) → Type 0
-IsPlannedOf table (Ok source) found = IsToldOf table source found
-IsPlannedOf table (Err line) found = Err line ≡ found
+abbrev pub IsPlannedOf : Bool → Search → Result PlanSource (List ℕ) → Result (List ℕ) (List ℕ) → Type 0
+IsPlannedOf table search (Ok source) found = IsToldOf table search source found
+IsPlannedOf table search (Err line) found = Err line ≡ found
 
--- the output for an input
-abbrev pub IsPlanOf : Limits → Bool → Option (List ℕ) → List ℕ → Result (List ℕ) (List ℕ) → Type 0
-IsPlanOf limits table given input found = IsPlannedOf table (planning_input limits given input) found
+-- the output for the texts of a domain and of streams, and for an input
+abbrev pub IsPlanOfParts : Limits → Bool → Search → Option (List ℕ) → List ℕ → List ℕ → Result (List ℕ) (List ℕ) → Type 0
+IsPlanOfParts limits table search given domain_text streams_text found = IsPlannedOf table search (planning_parts limits given domain_text streams_text) found
 
--- the input is refused, with status 1 and the line that says why; or memory lacks, with status 3
-pub record IsPlanRefusal (limits : Limits) (table : Bool) (given : Option (List ℕ)) (input : List ℕ) (stop : Stop) : Type 0 where
+abbrev pub IsPlanOf : Limits → Bool → Search → Option (List ℕ) → List ℕ → Result (List ℕ) (List ℕ) → Type 0
+IsPlanOf limits table search given input found = IsPlannedOf table search (planning_input limits given input) found
+
+-- the texts are refused, and the input is: with status 1 and the line that says why; or an allocation fails, with status 3
+pub record IsPartsRefusal (limits : Limits) (table : Bool) (search : Search) (given : Option (List ℕ)) (domain_text streams_text : List ℕ) (stop : Stop) : Type 0 where
   pub statuses : (stop.status ≡ 1) ⊎ (stop.status ≡ 3)
-  pub line : stop.status ≡ 1 → IsPlanOf limits table given input (Err stop.text.items)
+  pub line : stop.status ≡ 1 → IsPlanOfParts limits table search given domain_text streams_text (Err stop.text.items)
+  pub memory : stop.status ≡ 3 → stop.text.items ≡ []
+
+pub record IsPlanRefusal (limits : Limits) (table : Bool) (search : Search) (given : Option (List ℕ)) (input : List ℕ) (stop : Stop) : Type 0 where
+  pub statuses : (stop.status ≡ 1) ⊎ (stop.status ≡ 3)
+  pub line : stop.status ≡ 1 → IsPlanOf limits table search given input (Err stop.text.items)
   pub memory : stop.status ≡ 3 → stop.text.items ≡ []

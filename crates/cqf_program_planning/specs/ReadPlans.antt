@@ -34,9 +34,10 @@ use Rattle.cqf_program_plans.specs.Reserving.{first_lack, planned_octets}
 use Rattle.cqf_program_offers.specs.OffersOutput.{asked_in, sender_of}
 use Rattle.cqf_program_placing.specs.Placing.{is_chosen_on}
 use Rattle.cqf_program_placing.specs.Settled.{SettledStream}
+use Rattle.cqf_program_planning.specs.declared.choosing.Search.{Search}
 use Rattle.cqf_program_planning.specs.Choosing.{IsPlanned, IsUnplanned}
 use Rattle.cqf_program_planning.specs.PlanLaws.{ReservesEnough, deadlines_of}
-use Rattle.cqf_program_planning.specs.PlanOutput.{IsPlanText, PlanSource, planning_input}
+use Rattle.cqf_program_planning.specs.PlanOutput.{IsPlanText, PlanSource, planning_input, planning_parts}
 
 -- a text's table isn't nested deeper than the reader allows
 abbrev pub IsShallow : List ℕ → Type 0
@@ -53,7 +54,7 @@ pub record ReadsAs (limits : Limits) (text : List ℕ) (network : NetworkDomain)
   pub requests_are : streams_of_text text ≡ Ok (map (λ (one : NetworkFlowText). unpaced one.flow.0.0) found)
 
 -- the traffic at the edge bridge of a stream that is read and whose cycles were chosen is the traffic that was placed, but its grid begins at the
--- same place of any round of its cycles, and its jitter may be less
+-- same instant of any round of its cycles, and its jitter may be less
 pub record ComesInRound (round : ℕ) (placed there : TrafficText) : Type 0 where
   pub interval : there.interval ≡ placed.interval
   pub frames : there.frames ≡ placed.frames
@@ -105,35 +106,36 @@ pub record IsReadPlan (limits : Limits) (streams : List SettledStream) (d : Doma
   pub strict : and_then (plan_from network edge) (latency_from_talkers true)
       ≡ Ok (text_of_latency (latencies_from d (held_in d good.entries 0) edge.deadlines edge.times))
 
--- each text that `plan` writes is read so, if the tables of its file aren't nested deeper than the reader allows. Candidates for the cycle time
--- that are given have to be in their range, and at least one and at most 1,000
+-- each text that `plan` writes for the texts of a domain and of streams is read so, if their tables aren't nested deeper than the reader allows.
+-- Candidates for the cycle time that are given have to be in their range, and at least one and at most 1,000
 abbrev pub ToldPlansReadBack : Type 0
 ToldPlansReadBack =
-    (limits : Limits) (given : Option (List ℕ)) (input text : List ℕ) (source : PlanSource) → IfSome given AreCandidates →
-    planning_input limits given input ≡ Ok source → IsShallow source.domain_text → IsShallow source.streams_text → (plan : IsPlanText source text) →
+    (limits : Limits) (search : Search) (given : Option (List ℕ)) (domain_text streams_text text : List ℕ) (source : PlanSource) → IfSome given AreCandidates →
+    planning_parts limits given domain_text streams_text ≡ Ok source → IsShallow source.domain_text → IsShallow source.streams_text → (plan : IsPlanText search source text) →
     IsReadPlan limits source.streams plan.domain plan.flows text
 
 -- the offers at its edge bridge of a plan's stream whose phase was chosen are in the cycles in which the stream reserves, for every
 -- seed and without one. This holds by the talker's clock, and by the edge bridge's, which may differ from it by as much as the domain's `sync`
 abbrev pub ChosenStreamsComeInTurns : Type 0
 ChosenStreamsComeInTurns =
-    (network : NetworkDomain) (streams : List SettledStream) (d : Domain) (flows there : List FlowText) (place : ℕ) (stream : SettledStream) (one : FlowText)
-    (until : ℕ) (seed : Option ℕ) (x : Offer) → IsPlanned network streams d flows → ComeAsPlaced d.cycle_time streams flows there →
+    (network : NetworkDomain) (streams : List SettledStream) (search : Search) (d : Domain) (flows there : List FlowText) (place : ℕ) (stream : SettledStream) (one : FlowText)
+    (until : ℕ) (seed : Option ℕ) (x : Offer) → IsPlanned network streams search d flows → ComeAsPlaced d.cycle_time streams flows there →
     slice_get streams place ≡ Some stream → slice_get there place ≡ Some one → is_chosen_on d.cycle_time stream ≡ true →
     Contains (offers_named one.0.0.name (offers_before until seed (map (sender_of d) there))) x → (at : ℕ) → x.at.0 ≤ at + d.sync → at ≤ x.at.0 + d.sync →
     is_turn (pace_of (asked_in one)) 0 (cycle_of d at) ≡ true
 
--- an input is planned as a text says: it is a network file that has a plan, and the text of each of its plans has the same table as the given one
+-- an input is planned as a text says, by every search: it is a network file that has a plan, and the text of each of its plans has the
+-- same table as the given one
 pub record PlansTo (limits : Limits) (input text : List ℕ) : Type 0 where
   pub source : PlanSource
   pub is_input : planning_input limits None input ≡ Ok source
-  pub some_plan : (line : List ℕ) → IsUnplanned source.domain source.streams line → ⊥
-  pub same_table : (again : List ℕ) → IsPlanText source again → table_of again ≡ table_of text
+  pub some_plan : (tries : ℕ) (line : List ℕ) → IsUnplanned source.domain source.streams tries line → ⊥
+  pub same_table : (search : Search) (again : List ℕ) → IsPlanText search source again → table_of again ≡ table_of text
 
--- a plan plans to itself: `plan` finds a plan for each text that it wrote, as both parts of an input, and writes it with the same table. The
+-- a plan is planned as itself: `plan` finds a plan for each text that it wrote, as both parts of an input, and writes it with the same table. The
 -- tables of the first file aren't nested deeper than the reader allows
 abbrev pub PlansPlanThemselves : Type 0
 PlansPlanThemselves =
-    (limits : Limits) (given : Option (List ℕ)) (input text : List ℕ) (source : PlanSource) → IfSome given AreCandidates →
-    planning_input limits given input ≡ Ok source → IsShallow source.domain_text → IsShallow source.streams_text → IsPlanText source text →
+    (limits : Limits) (search : Search) (given : Option (List ℕ)) (domain_text streams_text text : List ℕ) (source : PlanSource) → IfSome given AreCandidates →
+    planning_parts limits given domain_text streams_text ≡ Ok source → IsShallow source.domain_text → IsShallow source.streams_text → IsPlanText search source text →
     (own : List ℕ) → two_parts (parts_of own) ≡ Ok (text, text) → PlansTo limits own text

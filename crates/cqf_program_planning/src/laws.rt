@@ -38,7 +38,7 @@ pub fn networks_are_placed_where_there_is_room()
 
 /// Every command reads the text of a written plan as the network with the chosen cycle time, and as streams that come to their edge bridges as
 /// they were placed: with the same octets, cycles and paths, and with the same rest of their deadlines. The grid of a stream whose cycles were
-/// chosen begins at the same place of a round of these cycles, and its jitter is no more. So all streams that are read are admitted before
+/// chosen begins at the same instant of a round of these cycles, and its jitter is no more. So all streams that are read are admitted before
 /// cycle 0, each reserves what its talker needs in a cycle, and none may have a frame that misses its deadline: `latency --strict` succeeds.
 pub fn told_plans_read_back()
     ensures { ToldPlansReadBack }
@@ -47,7 +47,7 @@ pub fn told_plans_read_back()
     filled_networks_read_back();
 }
 
-/// A plan plans to itself: for the text of a written plan, `plan` finds a plan again, and the text of that plan has the same table.
+/// A plan is planned as itself: for the text of a written plan, `plan` finds a plan again, and the text of that plan has the same table.
 pub fn plans_plan_themselves()
     ensures { PlansPlanThemselves }
 {

@@ -9,16 +9,16 @@ ghost use Rattle.cqf_output.specs.Stops.{EndsWith, IsRefused, or_line};
 ghost use Rattle.cqf_network.specs.NetworkDomain.{AreCandidates, open_network_of_text};
 ghost use Rattle.cqf_network.specs.StreamsText.{network_streams_of_text, stream_text};
 ghost use Rattle.cqf_program_placing.specs.Placing.{BeginsEarly, outcome_value};
-ghost use Rattle.cqf_program_planning.specs.Choosing.{IsBad, line_of_best};
+ghost use Rattle.cqf_program_planning.specs.Choosing.{IsBad, line_of_nearest};
 ghost use Rattle.cqf_program_planning.specs.Judging.{flows_placed};
-ghost use Rattle.cqf_program_planning.specs.PlanOutput.{IsCandidatesText, IsPlanOf, IsPlanRefusal, IsPlanText, IsToldOf, IsToldRefusal};
-ghost use Rattle.cqf_program_planning.specs.PlanOutput.{planning_input, network_line, unentered_line, unsettled_line};
+ghost use Rattle.cqf_program_planning.specs.PlanOutput.{IsCandidatesText, IsPartsRefusal, IsPlanOf, IsPlanOfParts, IsPlanRefusal, IsPlanText, IsToldOf, IsToldRefusal};
+ghost use Rattle.cqf_program_planning.specs.PlanOutput.{planning_input, planning_parts, network_line, unentered_line, unsettled_line};
 ghost use Rattle.cqf_program_planning.specs.Steps.{AreSettled, AreTurned};
 ghost use Rattle.cqf_program_planning.specs.Writing.{IsTriedText, IsWritable, source_of};
 
 use crate::candidates::Candidate;
-use crate::choosing::{Choice, choose};
-use crate::plans::{choices_of, flows_placed, line_of_best};
+use crate::choosing::{Choice, Search, choose};
+use crate::plans::{choices_of, flows_placed, line_of_nearest};
 use crate::table::text_of_candidates;
 use crate::trying::{Tried, judge_all};
 use cqf_edge::{AccessTimes, EdgeFault, EdgeStreams, TalkerFault, edge_streams};
@@ -46,7 +46,7 @@ fn network_stop(alloc: Global, fault: NetworkFault) -> Stop
 
 /// Returns the domain of a network file's part that is read within some limits. Returns `Err` with status 1 and the line of its first
 /// fault; with status 3 if an allocation fails.
-fn open_network_part(
+pub fn open_network_part(
     alloc: Global,
     limits: Limits,
     text: &[u8],
@@ -181,23 +181,23 @@ fn refuse_full(alloc: Global, full: Option<Name>) -> Result<(), Stop>
     }
 }
 
-/// Returns the domain and the settled streams of the input, read within some limits.
+/// Returns the domain and the settled streams of two texts, read within some limits.
 ///
 /// # Errors
-/// With status 1 and the line of the first fault: of its parts, of the domain, of the streams, of what no cycle time changes, or of the
-/// access links; with status 3 if an allocation fails.
-fn read_source(
+/// With status 1 and the line of the first fault: of the domain, of the streams, of what no cycle time changes, or of the access links; with
+/// status 3 if an allocation fails.
+fn read_parts<'t>(
     alloc: Global,
     limits: Limits,
     given: Option<Vec<u32>>,
-    input: &[u8],
-) -> Result<PlanInput<'_>, Stop>
+    domain_text: &'t [u8],
+    streams_text: &'t [u8],
+) -> Result<PlanInput<'t>, Stop>
     requires { IfSome given (λ cycles. AreCandidates cycles.items) }
-    ensures ok { let said = option_map (λ cycles. cycles.items) given in IfOk result (λ found. planning_input limits said input.now ≡ Ok (source_of found)) }
+    ensures ok { let said = option_map (λ cycles. cycles.items) given in IfOk result (λ found. planning_parts limits said domain_text.now streams_text.now ≡ Ok (source_of found)) }
     ensures settled { IfOk result (λ found. AreSettled found.domain (map settled_value found.streams.items)) }
-    ensures err { let said = option_map (λ cycles. cycles.items) given in IfErr result (IsRefused (planning_input limits said input.now)) }
+    ensures err { let said = option_map (λ cycles. cycles.items) given in IfErr result (IsRefused (planning_parts limits said domain_text.now streams_text.now)) }
 {
-    let (domain_text, streams_text) = two_parts(alloc, input)?;
     let domain = open_network_part(alloc, limits, domain_text, given)?;
     let wanted = wanted_part(alloc, streams_text)?;
     let edge = edges_wanted(alloc, &domain, wanted)?;
@@ -212,13 +212,33 @@ fn read_source(
     })
 }
 
+/// Returns the domain and the settled streams of the input, read within some limits.
+///
+/// # Errors
+/// With status 1 and the line of the first fault: of its parts, or those of [`read_parts`]; with status 3 if an allocation fails.
+fn read_source(
+    alloc: Global,
+    limits: Limits,
+    given: Option<Vec<u32>>,
+    input: &[u8],
+) -> Result<PlanInput<'_>, Stop>
+    requires { IfSome given (λ cycles. AreCandidates cycles.items) }
+    ensures ok { let said = option_map (λ cycles. cycles.items) given in IfOk result (λ found. planning_input limits said input.now ≡ Ok (source_of found)) }
+    ensures settled { IfOk result (λ found. AreSettled found.domain (map settled_value found.streams.items)) }
+    ensures err { let said = option_map (λ cycles. cycles.items) given in IfErr result (IsRefused (planning_input limits said input.now)) }
+{
+    let (domain_text, streams_text) = two_parts(alloc, input)?;
+    let found = read_parts(alloc, limits, given, domain_text, streams_text)?;
+    Ok(found)
+}
+
 /// Returns the table of a network file's candidates.
-fn table_of(alloc: Global, given: &PlanInput<'_>) -> Result<Vec<u8>, Memory>
+fn table_of(alloc: Global, tries: u32, given: &PlanInput<'_>) -> Result<Vec<u8>, Memory>
     requires { AreSettled given.now.domain (map settled_value given.now.streams.items) }
-    ensures { IfOk result (λ text. IsCandidatesText (source_of given.now) text.items) }
+    ensures { IfOk result (λ text. IsCandidatesText tries (source_of given.now) text.items) }
 {
     let streams = given.streams.as_slice();
-    let told = judge_all(alloc, &given.domain, streams)?;
+    let told = judge_all(alloc, &given.domain, streams, tries)?;
     let text = text_of_candidates(alloc, streams.len(), told.as_slice())?;
     Ok(text)
 }
@@ -246,30 +266,30 @@ fn network_text(alloc: Global, given: &PlanInput<'_>, tried: &Tried) -> Result<V
 }
 
 /// Returns the end if none of `count` candidates is good.
-fn unplanned_stop(alloc: Global, count: usize, best: &Candidate) -> Stop
-    requires { IsBad best.now }
-    ensures { EndsWith 1 (line_of_best count (Some best.now)) result }
+fn unplanned_stop(alloc: Global, count: usize, nearest: &Candidate) -> Stop
+    requires { IsBad nearest.now }
+    ensures { EndsWith 1 (line_of_nearest count (Some nearest.now)) result }
 {
-    Stop::with_text(alloc, REFUSED, line_of_best(alloc, count, best))
+    Stop::with_text(alloc, REFUSED, line_of_nearest(alloc, count, nearest))
 }
 
 /// Returns the text of a network file's plan.
 ///
 /// # Errors
 /// With status 1 and the line that says why none of its candidates is good; with status 3 if an allocation fails.
-fn plan_of(alloc: Global, given: &PlanInput<'_>) -> Result<Vec<u8>, Stop>
+fn plan_of(alloc: Global, search: Search, given: &PlanInput<'_>) -> Result<Vec<u8>, Stop>
     requires settled { AreSettled given.now.domain (map settled_value given.now.streams.items) }
     requires written { IsWritable (source_of given.now) }
-    ensures ok { IfOk result (λ text. IsPlanText (source_of given.now) text.items) }
-    ensures err { IfErr result (IsToldRefusal false (source_of given.now)) }
+    ensures ok { IfOk result (λ text. IsPlanText search (source_of given.now) text.items) }
+    ensures err { IfErr result (IsToldRefusal false search (source_of given.now)) }
 {
-    match choose(alloc, &given.domain, given.streams.as_slice()) {
+    match choose(alloc, &given.domain, given.streams.as_slice(), search) {
         Ok(Choice::Planned(tried)) => match network_text(alloc, given, &tried) {
             Ok(text) => Ok(text),
             Err(_) => Err(Stop::memory(alloc)),
         },
-        Ok(Choice::Unplanned(best)) => {
-            Err(unplanned_stop(alloc, given.domain.candidates().len(), &best))
+        Ok(Choice::Unplanned(nearest)) => {
+            Err(unplanned_stop(alloc, given.domain.candidates().len(), &nearest))
         }
         Err(_) => Err(Stop::memory(alloc)),
     }
@@ -279,19 +299,45 @@ fn plan_of(alloc: Global, given: &PlanInput<'_>) -> Result<Vec<u8>, Stop>
 ///
 /// # Errors
 /// As [`plan_of`]; for the table, only with status 3 if an allocation fails.
-fn told_of(alloc: Global, table: bool, given: &PlanInput<'_>) -> Result<Vec<u8>, Stop>
+fn told_of(
+    alloc: Global,
+    table: bool,
+    search: Search,
+    given: &PlanInput<'_>,
+) -> Result<Vec<u8>, Stop>
     requires settled { AreSettled given.now.domain (map settled_value given.now.streams.items) }
     requires written { IsWritable (source_of given.now) }
-    ensures ok { IfOk result (λ text. IsToldOf table (source_of given.now) (Ok text.items)) }
-    ensures err { IfErr result (IsToldRefusal table (source_of given.now)) }
+    ensures ok { IfOk result (λ text. IsToldOf table search (source_of given.now) (Ok text.items)) }
+    ensures err { IfErr result (IsToldRefusal table search (source_of given.now)) }
 {
     if !table {
-        return plan_of(alloc, given);
+        return plan_of(alloc, search, given);
     }
-    match table_of(alloc, given) {
+    match table_of(alloc, search.tries, given) {
         Ok(text) => Ok(text),
         Err(_) => Err(Stop::memory(alloc)),
     }
+}
+
+/// Returns the output of `plan` for the texts of a domain and of streams, as [`plan_output`] does for an input that has them.
+///
+/// # Errors
+/// As [`plan_output`], except that there are no parts.
+pub fn plan_of_parts(
+    alloc: Global,
+    limits: Limits,
+    table: bool,
+    search: Search,
+    given: Option<Vec<u32>>,
+    domain_text: &[u8],
+    streams_text: &[u8],
+) -> Result<Vec<u8>, Stop>
+    requires { IfSome given (λ cycles. AreCandidates cycles.items) }
+    ensures ok { let said = option_map (λ cycles. cycles.items) given in IfOk result (λ text. IsPlanOfParts limits table search said domain_text.now streams_text.now (Ok text.items)) }
+    ensures err { let said = option_map (λ cycles. cycles.items) given in IfErr result (IsPartsRefusal limits table search said domain_text.now streams_text.now) }
+{
+    let found = read_parts(alloc, limits, given, domain_text, streams_text)?;
+    told_of(alloc, table, search, &found)
 }
 
 /// Returns the output of `plan` for an input that is read within some limits: the text of a plan, or of a table of the candidates.
@@ -299,19 +345,19 @@ fn told_of(alloc: Global, table: bool, given: &PlanInput<'_>) -> Result<Vec<u8>,
 ///
 /// # Errors
 /// With status 1 and the line of the first fault: of the input's parts, of the domain, of the streams, or of what no cycle time changes; or
-/// else, if no table is requested and no candidate is good, of the one on which most streams are placed. With status 3 if an allocation
-/// fails.
+/// else, if no table is requested and no candidate is good, of the nearest. With status 3 if an allocation fails.
 pub fn plan_output(
     alloc: Global,
     limits: Limits,
     table: bool,
+    search: Search,
     given: Option<Vec<u32>>,
     input: &[u8],
 ) -> Result<Vec<u8>, Stop>
     requires { IfSome given (λ cycles. AreCandidates cycles.items) }
-    ensures ok { IfOk result (λ text. IsPlanOf limits table (option_map (λ cycles. cycles.items) given) input.now (Ok text.items)) }
-    ensures err { IfErr result (IsPlanRefusal limits table (option_map (λ cycles. cycles.items) given) input.now) }
+    ensures ok { IfOk result (λ text. IsPlanOf limits table search (option_map (λ cycles. cycles.items) given) input.now (Ok text.items)) }
+    ensures err { IfErr result (IsPlanRefusal limits table search (option_map (λ cycles. cycles.items) given) input.now) }
 {
     let found = read_source(alloc, limits, given, input)?;
-    told_of(alloc, table, &found)
+    told_of(alloc, table, search, &found)
 }

@@ -6,7 +6,7 @@ ghost use Rattle.cqf_program_placing.specs.Placing.{BeginsEarly, outcome_value};
 ghost use Rattle.cqf_program_placing.specs.Settled.{settled_value};
 ghost use Rattle.cqf_traffic.specs.FlowsText.{flow_text};
 ghost use Rattle.cqf_traffic.specs.Keys.{bound_of};
-ghost use Rattle.cqf_program_planning.specs.Choosing.{IsBad, line_of_best};
+ghost use Rattle.cqf_program_planning.specs.Choosing.{IsBad, line_of_nearest};
 ghost use Rattle.cqf_program_planning.specs.Judging.{flow_of, flows_placed, traffic_told};
 ghost use Rattle.cqf_program_planning.specs.PlanOutput.{AreChoicesOf, offset_before, offset_told, taken_by};
 ghost use Rattle.cqf_program_planning.specs.Steps.{AreTurned, IsTurned, flows_by};
@@ -175,15 +175,19 @@ pub(crate) fn choices_of(
     Ok(filled)
 }
 
-/// Returns the line that says why none of `count` candidates is good, by the best of them.
-pub(crate) fn line_of_best(alloc: Global, count: usize, best: &Candidate) -> Result<String, Memory>
-    requires { IsBad best.now }
-    ensures { IfOk result (λ line. string_bytes line ≡ line_of_best count (Some best.now)) }
+/// Returns the line that says why none of `count` candidates is good, by the nearest of them.
+pub(crate) fn line_of_nearest(
+    alloc: Global,
+    count: usize,
+    nearest: &Candidate,
+) -> Result<String, Memory>
+    requires { IsBad nearest.now }
+    ensures { IfOk result (λ line. string_bytes line ≡ line_of_nearest count (Some nearest.now)) }
 {
-    let Some(fault) = &best.fault else {
+    let Some(fault) = &nearest.fault else {
         unreachable!();
     };
-    let cycle_time = best.cycle_time;
+    let cycle_time = nearest.cycle_time;
     if count == 1 {
         let line = format!(in alloc; "cqf: plan: {fault}\n")?;
         return Ok(line);

@@ -2,13 +2,14 @@
 ghost use Rattle.std.specs.Prelude.{IfOk, map};
 ghost use Rattle.cqf_program_placing.specs.Placing.{ArePlaced};
 ghost use Rattle.cqf_program_placing.specs.Settled.{settled_value};
-ghost use Rattle.cqf_program_planning.specs.Judging.{AreJudgedBy, IsJudgedBy};
+ghost use Rattle.cqf_program_planning.specs.Orders.{AreJudgedBy, IsJudgedBy};
 ghost use Rattle.cqf_program_planning.specs.Steps.{AreSettled};
 ghost use Rattle.cqf_program_planning.specs.Trying.{IsTried, IsTriedBy};
 ghost use Rattle.cqf_network.specs.NetworkDomain.{IsCycleTime, IsOpenCycle};
 
 use crate::candidates::Candidate;
 use crate::judging::candidate_of;
+use crate::searching::search;
 use cqf_network::NetworkDomain;
 use cqf_program_placing::{Placing, PlacingOutcome, Settled, place};
 use cqf_topology::Domain;
@@ -43,25 +44,32 @@ fn tried_of(alloc: Global, streams: &[Settled], placing: Placing) -> Result<Trie
     })
 }
 
-/// Places settled streams of a network file on an open cycle time.
+/// Places settled streams of a network file on an open cycle time, in the order of the file. If one finds no room so, tries at most `tries` other
+/// orders, and takes the first in which all are placed and none may be late.
 pub(crate) fn try_cycle(
     alloc: Global,
     network: &NetworkDomain,
     streams: &[Settled],
+    tries: u32,
     cycle_time: u32,
 ) -> Result<Tried, Memory>
     requires open { IsOpenCycle network.now cycle_time }
     requires settled { AreSettled network.now (map settled_value streams.now) }
-    ensures { IfOk result (IsTried network.now (map settled_value streams.now) cycle_time) }
+    ensures { IfOk result (IsTried network.now (map settled_value streams.now) tries cycle_time) }
 {
     let placing = place(alloc, network, cycle_time, streams)?;
-    let tried = tried_of(alloc, streams, placing)?;
-    Ok(tried)
+    let first = tried_of(alloc, streams, placing)?;
+    let outcomes = first.outcomes.as_slice();
+    let found = search(alloc, network, streams, cycle_time, tries, outcomes)?;
+    match found {
+        Some(tried) => Ok(tried),
+        None => Ok(first),
+    }
 }
 
 /// Returns the verdict on a cycle time, in nanoseconds, for settled streams of a network file. If the cycle time isn't longer than every
-/// guard band, nothing is placed. Else the verdict says how many streams are placed, how much of the links' budgets is held, how tight
-/// deadlines are, and, if it isn't good, why.
+/// guard band, nothing is placed. Else at most `tries` other orders of placing are tried if a stream finds no room in the order of the file. The
+/// verdict says how many streams are placed, how much of the links' budgets is held, how tight deadlines are, and, if it isn't good, why.
 ///
 /// # Errors
 /// `Memory` if an allocation fails.
@@ -69,16 +77,17 @@ pub fn judge(
     alloc: Global,
     network: &NetworkDomain,
     streams: &[Settled],
+    tries: u32,
     cycle_time: u32,
 ) -> Result<Candidate, Memory>
     requires range { IsCycleTime cycle_time }
     requires settled { AreSettled network.now (map settled_value streams.now) }
-    ensures { IfOk result (IsJudgedBy network.now (map settled_value streams.now) cycle_time) }
+    ensures { IfOk result (IsJudgedBy network.now (map settled_value streams.now) tries cycle_time) }
 {
     if cycle_time <= network.longest_guard() {
         return Ok(Candidate::shut(cycle_time));
     }
-    let tried = try_cycle(alloc, network, streams, cycle_time)?;
+    let tried = try_cycle(alloc, network, streams, tries, cycle_time)?;
     Ok(tried.candidate)
 }
 
@@ -87,13 +96,14 @@ pub(crate) fn judge_all(
     alloc: Global,
     network: &NetworkDomain,
     streams: &[Settled],
+    tries: u32,
 ) -> Result<Vec<Candidate>, Memory>
     requires { AreSettled network.now (map settled_value streams.now) }
-    ensures { IfOk result (λ told. AreJudgedBy network.now (map settled_value streams.now) network.now.candidates told.items) }
+    ensures { IfOk result (λ told. AreJudgedBy network.now (map settled_value streams.now) tries network.now.candidates told.items) }
 {
     let mut told = Vec::new(alloc);
     for cycle_time in network.candidates() {
-        let candidate = judge(alloc, network, streams, *cycle_time)?;
+        let candidate = judge(alloc, network, streams, tries, *cycle_time)?;
         told.push(candidate)?;
     }
     Ok(told)

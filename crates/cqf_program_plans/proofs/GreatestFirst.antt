@@ -1,31 +1,14 @@
 -- A stable sort by how much a figure is less than a bound has the greatest figure first.
-use Rattle.std.proofs.Common.{ℕ, ◌≡◌, ◌-◌, ◌+◌, ◌<◌, ◌==◌, ◌∙◌, ◌&&◌, Bool, true, false, not, List, [], ◌∷◌, filter, get_or, length, nat_lt, refl, sym, ap, inl, inr, arith, subst}
+use Rattle.std.proofs.Common.{ℕ, ◌≡◌, ◌-◌, ◌+◌, ◌<◌, ◌==◌, ◌∙◌, Bool, true, List, [], ◌∷◌, filter, get_or, length, refl, sym, ap, arith, subst}
 use Rattle.std.specs.List.Sorted.{IsStableByKey, IsNonDecreasingBy, ties}
 use Rattle.std.specs.Ordering.{is_lt, nat_cmp}
-use Rattle.std.proofs.lemmas.Bool.{cases_order, eq-eqb, eqb-true, le-ltb, lt-ltb, ne_eqb}
+use Rattle.std.proofs.lemmas.Bool.{eqb-true}
 use Rattle.std.proofs.lemmas.List.Elements.{filter_agree, filter_passes}
 use Rattle.cqf_lists.specs.Lists.{each_below}
 use Rattle.cqf_lists.proofs.EachBelow.{same_below}
 use Rattle.cqf_lists.proofs.Keys.{by_key}
+use Rattle.cqf_lists.proofs.Sorted.{ties_equal}
 use Rattle.cqf_program_plans.specs.Load.Streams.{greatest_first}
-
--- neither number is below the other if and only if they are equal
-ties_equal : (a b : ℕ) → (not (is_lt (nat_cmp a b)) && not (is_lt (nat_cmp b a))) ≡ (b == a)
-ties_equal a b = elim (cases_order a b) [
-  | inl same ↦
-      let ab : nat_lt a b ≡ false = le-ltb a b (omega arith) in
-      let ba : nat_lt b a ≡ false = le-ltb b a (omega arith) in
-      rw (ab, ba, eq-eqb a b same, eq-eqb b a (sym same)) refl
-  | inr other ↦ elim other [
-    | inl lt ↦
-        let ab : nat_lt a b ≡ true = lt-ltb a b lt in
-        rw (ab, ne_eqb b a (λ e. omega (arith, e, lt))) refl
-    | inr gt ↦
-        let ab : nat_lt a b ≡ false = le-ltb a b (omega arith) in
-        let ba : nat_lt b a ≡ true = lt-ltb b a gt in
-        rw (ab, ba, ne_eqb a b (λ e. omega (arith, e, gt)), ne_eqb b a (λ e. omega (arith, e, gt))) refl
-  ]
-]
 
 module _ {X : Type 0} where
   -- what passes a test and comes first passes it

@@ -26,7 +26,7 @@ use cqf_topology::{
 };
 use std::alloc::Global;
 
-/// The end where the domain of a network is refused.
+/// Returns the end if the domain of a network is refused.
 fn domain_stop(alloc: Global, fault: &NetworkFault) -> Stop
     ensures refused { fault.now ≢ NetworkFault.Domain DomainFault.Memory → EndsWith 1 (domain_line fault.now) result }
     ensures memory { fault.now ≡ NetworkFault.Domain DomainFault.Memory → EndsWith 3 [] result }
@@ -70,8 +70,8 @@ fn table_stop(alloc: Global, part: &str, fault: TableFault) -> Stop
     }
 }
 
-/// The network of a part that is read within some limits, whose cycle time isn't open. `Err` with status 1 and the line of its first fault,
-/// and with status 3 for want of memory.
+/// Returns the network of a part that is read within some limits, whose cycle time isn't open. Returns `Err` with status 1 and the line of
+/// its first fault, and with status 3 if an allocation fails.
 pub fn network_part(alloc: Global, limits: Limits, text: &[u8]) -> Result<NetworkDomain, Stop>
     ensures ok { IfOk result (λ network. network_of_part limits text.now ≡ Ok network) }
     ensures err { IfErr result (IsRefused (network_of_part limits text.now)) }
@@ -82,7 +82,8 @@ pub fn network_part(alloc: Global, limits: Limits, text: &[u8]) -> Result<Networ
     }
 }
 
-/// The domain of a network whose cycle time isn't open: its bridges, and the links that begin at them. `Err` with status 3 for want of memory.
+/// Returns the domain of a network whose cycle time isn't open: its bridges, and the links that begin at them. Returns `Err` with status 3 if
+/// an allocation fails.
 pub fn domain_of(alloc: Global, network: &NetworkDomain) -> Result<Domain, Stop>
     ensures ok { IfOk result (λ domain. domain ≡ domain_of network.now) }
     ensures err { IfErr result (EndsWith 3 []) }
@@ -93,7 +94,7 @@ pub fn domain_of(alloc: Global, network: &NetworkDomain) -> Result<Domain, Stop>
     }
 }
 
-/// The domain of a part that is read within some limits. `Err` as [`network_part`].
+/// Returns the domain of a part that is read within some limits. Errors are those of [`network_part`].
 pub fn domain_part(alloc: Global, limits: Limits, text: &[u8]) -> Result<Domain, Stop>
     ensures ok { IfOk result (λ domain. domain_of_part limits text.now ≡ Ok domain) }
     ensures err { IfErr result (IsRefused (domain_of_part limits text.now)) }

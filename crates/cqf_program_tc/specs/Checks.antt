@@ -12,7 +12,7 @@ agree_text =
 -- if the gates are in a chain other than 0, only a jump in chain 0 leads to them
 abbrev pub jump_text : List ℕ
 jump_text =
-    codes "# where CHAIN isn't 0, a filter of chain 0 at the interface $2, which is $1, has to go on to it\njump() {\n"
+    codes "# if CHAIN isn't 0, a filter of chain 0 at the interface $2, which is $1, has to go on to it\njump() {\n"
     ++ (codes "    if [ \"$chain\" = 0 ] || [ \"$tc\" = echo ]; then return 0; fi\n"
     ++ (codes "    $tc filter show dev \"$2\" ingress chain 0 2>/dev/null | grep -Eq \"goto chain $chain( |\\$)\" ||\n"
     ++ codes "        refuse \"$1: no filter of chain 0 at $2 has goto chain $chain, so no frame would reach a gate: add one\"\n}\n\n"))
@@ -46,7 +46,7 @@ frames_text =
 -- no other filter has a required gate. The instant at which the lists begin is printed, and from here on a failure is undone
 abbrev pub ready_text : List ℕ
 ready_text =
-    codes "# no filter but those of an earlier plan may have a gate. From here on, what is set is taken back where a command fails\nready() {\n"
+    codes "# no filter but those of an earlier plan may have a gate. From here on, what is set is taken back if a command fails\nready() {\n"
     ++ (codes "    for index in $gates; do\n        shown=$($tc actions get action gate index \"$index\" 2>/dev/null || :)\n        case $shown in\n"
     ++ (codes "        *gate-state*) shown=${shown##* ref } ;;\n        *) continue ;;\n        esac\n"
     ++ (codes "        [ \"${shown%% *}\" = \"$(printf '%s\\n' \"$old\" | grep -c \"^pref $index \")\" ] || refuse \"gate $index belongs to another"

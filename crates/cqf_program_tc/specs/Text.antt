@@ -33,17 +33,17 @@ usage_text d rows =
     ++ (codes " at or\n#             after it, which the script prints. An even cycle begins there\n"
     ++ (codes "#   TC, IP and CHAIN   may be set: commands in place of tc and ip, the filter chain of the gates. TC=echo shows what would be\n"
     ++ (codes "#             done; interfaces are then looked up only if IP is set\n"
-    ++ (codes "# A variable has _ for each - of a name. Where an earlier link or stream has the same, _N and the own number follow, as in\n"
+    ++ (codes "# A variable has _ for each - of a name. If an earlier link or stream has the same, _N with its own number follows, as in\n"
     ++ (codes "# OUT_A_B_N7; each variable is explained where it is used.\n"
-    ++ (codes "# An interface has one neighbour. So OUT_A_B and IN_B_A may be the same, TALKER_R and TALKER_S where one talker has both\n"
-    ++ (codes "# streams, OUT_A_B and TALKER_S where B is the talker of S; no others may.\n"
-    ++ (codes "# All of this is checked before anything is changed. Where a command fails then, what this run has set is taken back; what it\n"
+    ++ (codes "# An interface has one neighbour. So OUT_A_B and IN_B_A may be the same, TALKER_R and TALKER_S if one talker has both\n"
+    ++ (codes "# streams, OUT_A_B and TALKER_S if B is the talker of S; no others may.\n"
+    ++ (codes "# All of this is checked before anything is changed. If a command fails then, what this run has set is taken back; what it\n"
     ++ codes "# replaced is gone.\n# Forwarding is yours: a stream may leave a bridge by the interfaces that its line here names, and by no others.\n"))))))))))))))
 
 -- the notes on the gates of Linux
 abbrev pub offload_notes : List ℕ
 offload_notes =
-    codes "# A gate in software doesn't give frames the class in its list (IPV), so the filters are for hardware alone (skip_sw). Where\n"
+    codes "# A gate in software doesn't give frames the class in its list (IPV), so the filters are for hardware alone (skip_sw). If\n"
     ++ codes "# an interface can't offload taprio, the script fails, and it undoes what it has set.\n"
 
 abbrev pub software_notes : List ℕ
@@ -57,7 +57,7 @@ notes_text software =
     ++ (codes "# the header's 14, the tag's 4 and the FCS's 4: frames of 1500, 1500 and 64 octets pass a gate of 3000. One that it drops counts.\n"
     ++ ((if software then software_notes else offload_notes)
     ++ (codes "# What the bridge itself sends, as IPv6 neighbour discovery and MLD, may have class 7: keep it off these interfaces.\n"
-    ++ codes "# Where CHAIN isn't 0, only a filter of yours in chain 0 with goto chain CHAIN leads frames to the gates.\n")))
+    ++ codes "# If CHAIN isn't 0, only a filter of yours in chain 0 with goto chain CHAIN leads frames to the gates.\n")))
 
 -- the names of the bridges, each after a space
 abbrev pub name_text : Domain → ℕ → List ℕ
@@ -71,7 +71,7 @@ abbrev pub opening_text : Domain → List ℕ
 opening_text d =
     codes "set -euf\nexport LC_ALL=C\ntc=${TC:-tc} ip=${IP:-} chain=${CHAIN:-0} bridges=\""
     ++ (names_text d
-    ++ (codes " \"\nused=\"\" ways=\"\" old=\"\" streams=\"\" gates=\"\" undo=\"\" object=\"\"\n\n# ends the script where nothing is changed yet\nrefuse() {\n"
+    ++ (codes " \"\nused=\"\" ways=\"\" old=\"\" streams=\"\" gates=\"\" undo=\"\" object=\"\"\n\n# ends the script before anything is changed\nrefuse() {\n"
     ++ codes "    printf '%s\\n' \"$*\" >&2\n    exit 1\n}\n\n"))
 
 -- a bridge and an instant must be given; the lists begin at the next such multiple, which is below 2^63

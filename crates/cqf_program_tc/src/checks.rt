@@ -22,7 +22,7 @@ fn put_jump<W: Sink>(writer: &mut Writer<'_, W>)
     ensures { Puts W.contents writer.old writer.new jump_text }
 {
     writer.put(
-        b"# where CHAIN isn't 0, a filter of chain 0 at the interface $2, which is $1, has to go on to it\njump() {\n",
+        b"# if CHAIN isn't 0, a filter of chain 0 at the interface $2, which is $1, has to go on to it\njump() {\n",
     );
     writer.put(b"    if [ \"$chain\" = 0 ] || [ \"$tc\" = echo ]; then return 0; fi\n");
     writer.put(
@@ -98,7 +98,7 @@ fn put_ready<W: Sink>(writer: &mut Writer<'_, W>)
     ensures { Puts W.contents writer.old writer.new ready_text }
 {
     writer.put(
-        b"# no filter but those of an earlier plan may have a gate. From here on, what is set is taken back where a command fails\nready() {\n",
+        b"# no filter but those of an earlier plan may have a gate. From here on, what is set is taken back if a command fails\nready() {\n",
     );
     writer.put(
         b"    for index in $gates; do\n        shown=$($tc actions get action gate index \"$index\" 2>/dev/null || :)\n        case $shown in\n",

@@ -54,15 +54,15 @@ pub(crate) fn put_usage<W: Sink>(writer: &mut Writer<'_, W>, domain: &Domain, ro
     );
     writer.put(b"#             done; interfaces are then looked up only if IP is set\n");
     writer.put(
-        b"# A variable has _ for each - of a name. Where an earlier link or stream has the same, _N and the own number follow, as in\n",
+        b"# A variable has _ for each - of a name. If an earlier link or stream has the same, _N with its own number follows, as in\n",
     );
     writer.put(b"# OUT_A_B_N7; each variable is explained where it is used.\n");
     writer.put(
-        b"# An interface has one neighbour. So OUT_A_B and IN_B_A may be the same, TALKER_R and TALKER_S where one talker has both\n",
+        b"# An interface has one neighbour. So OUT_A_B and IN_B_A may be the same, TALKER_R and TALKER_S if one talker has both\n",
     );
-    writer.put(b"# streams, OUT_A_B and TALKER_S where B is the talker of S; no others may.\n");
+    writer.put(b"# streams, OUT_A_B and TALKER_S if B is the talker of S; no others may.\n");
     writer.put(
-        b"# All of this is checked before anything is changed. Where a command fails then, what this run has set is taken back; what it\n",
+        b"# All of this is checked before anything is changed. If a command fails then, what this run has set is taken back; what it\n",
     );
     writer.put(
         b"# replaced is gone.\n# Forwarding is yours: a stream may leave a bridge by the interfaces that its line here names, and by no others.\n",
@@ -74,7 +74,7 @@ fn put_offload_notes<W: Sink>(writer: &mut Writer<'_, W>)
     ensures { Puts W.contents writer.old writer.new offload_notes }
 {
     writer.put(
-        b"# A gate in software doesn't give frames the class in its list (IPV), so the filters are for hardware alone (skip_sw). Where\n",
+        b"# A gate in software doesn't give frames the class in its list (IPV), so the filters are for hardware alone (skip_sw). If\n",
     );
     writer.put(
         b"# an interface can't offload taprio, the script fails, and it undoes what it has set.\n",
@@ -119,7 +119,7 @@ pub(crate) fn put_notes<W: Sink>(writer: &mut Writer<'_, W>, software: bool)
         b"# What the bridge itself sends, as IPv6 neighbour discovery and MLD, may have class 7: keep it off these interfaces.\n",
     );
     writer.put(
-        b"# Where CHAIN isn't 0, only a filter of yours in chain 0 with goto chain CHAIN leads frames to the gates.\n",
+        b"# If CHAIN isn't 0, only a filter of yours in chain 0 with goto chain CHAIN leads frames to the gates.\n",
     );
 }
 
@@ -147,7 +147,7 @@ pub(crate) fn put_opening<W: Sink>(writer: &mut Writer<'_, W>, domain: &Domain)
     writer.put(b"set -euf\nexport LC_ALL=C\ntc=${TC:-tc} ip=${IP:-} chain=${CHAIN:-0} bridges=\"");
     put_names(writer, domain);
     writer.put(
-        b" \"\nused=\"\" ways=\"\" old=\"\" streams=\"\" gates=\"\" undo=\"\" object=\"\"\n\n# ends the script where nothing is changed yet\nrefuse() {\n",
+        b" \"\nused=\"\" ways=\"\" old=\"\" streams=\"\" gates=\"\" undo=\"\" object=\"\"\n\n# ends the script before anything is changed\nrefuse() {\n",
     );
     writer.put(b"    printf '%s\\n' \"$*\" >&2\n    exit 1\n}\n\n");
 }

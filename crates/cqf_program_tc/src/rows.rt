@@ -90,7 +90,7 @@ fn note_row(
 }
 
 /// Returns, for each bridge of a domain by number, the indices of the rows whose streams leave it, in order. The time grows with the hops
-/// of all rows.
+/// of all rows. Returns `Memory` if an allocation fails.
 pub fn places_by_bridge(
     alloc: Global,
     domain: &Domain,

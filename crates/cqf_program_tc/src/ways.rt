@@ -8,7 +8,7 @@ use cqf_compile::first_hop;
 use cqf_model::Row;
 use cqf_topology::Domain;
 
-/// Returns whether no stream was seen to arrive this way.
+/// Returns whether no stream was noted that arrives this way.
 fn is_unseen(seen: &[bool; 65536], way: Option<u16>) -> bool
     ensures value { result ≡ is_unseen seen.now way }
     ensures range { (link : ℕ) → way ≡ Some link → link < 65536 }

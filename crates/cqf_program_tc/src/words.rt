@@ -46,7 +46,7 @@ fn gate_words_of(alloc: Global, cycle_time: u32) -> Result<String, AllocError>
 /// Returns the words of `tc` that set the list of a stream's gate, in the script's function whose fifth parameter is the reservation in
 /// octets. For each of two cycles, of `cycle_time` nanoseconds, there are `sched-entry open`, the cycle's length, the internal priority
 /// value and that parameter, each after a space. With the octets of a reservation they are read back as the list to which the gate of a
-/// stream that is offered in each cycle is compiled (man tc-gate).
+/// stream that is offered in each cycle is compiled (man tc-gate). Returns `Memory` if an allocation fails.
 pub fn write_gate_words(alloc: Global, cycle_time: u32) -> Result<Vec<u8>, Memory>
     ensures words { IfOk result (λ words. words.items ≡ gate_words cycle_time) }
     ensures again { IfOk result (λ words. (octets : ℕ) → gate_of_words octets words.items ≡ Some (reserved_spans cycle_time octets each_cycle 0)) }

@@ -1,4 +1,5 @@
 pub mod WordLemmas
+mod LinkLemmas
 pub mod Growing
 pub mod Ranges
 mod Reading

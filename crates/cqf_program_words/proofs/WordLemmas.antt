@@ -13,16 +13,17 @@ use Rattle.clap.specs.declared.error.kind.ErrorKind.{ErrorKind}
 use Rattle.clap.specs.declared.error.kind.ErrorKind.TheVariants.{DisplayHelp, DisplayVersion, InvalidValue, OutOfMemory}
 use Rattle.cqf_units.specs.declared.timing.Rate.{Rate}
 use Rattle.cqf_program_words.specs.declared.candidates.Candidates.{Candidates}
+use Rattle.cqf_program_words.specs.declared.plan_words.PlanOptions.{PlanOptions}
 use Rattle.cqf_program_words.specs.declared.words.Format.{Format}
 use Rattle.cqf_program_words.specs.declared.words.Job.{Job}
-use Rattle.cqf_program_words.specs.declared.words.Job.TheVariants.{Check, Compile, Deliveries, Hops, Latency, Line}
+use Rattle.cqf_program_words.specs.declared.words.Job.TheVariants.{Check, Compile, Deliveries, Diff, Hops, Latency, Line}
 use Rattle.cqf_program_words.specs.declared.words.Job.TheVariants.{Load, Offers, Plan, Port, Report, Run, Summary}
 use Rattle.cqf_output.specs.Stops.{EndsWith, line_of}
 use Rattle.cqf_output.specs.declared.stops.Stop.{Stop}
 use Rattle.cqf_program_words.specs.Candidates.{AreNamed}
 use Rattle.cqf_program_words.specs.Commands.{cqf_app}
 use Rattle.cqf_program_words.specs.Mistakes.{mistake_of}
-use Rattle.cqf_program_words.specs.Words.{app_for, ask_for_large, rate_text, IsJob, IsFormat, IsFormatOf, IsFreeIn, IsJobOf, IsNumberIn, AreGiven}
+use Rattle.cqf_program_words.specs.Words.{app_for, ask_for_large, rate_text, IsJob, IsFormat, IsFormatOf, IsFreeIn, IsJobOf, IsNumberIn, AreGiven, ArePlanOptions}
 use Rattle.cqf_program_words.specs.Words.{Mean, AskForHelp, EndsBy, EndsWords, TellsMistake}
 
 -- an option whose parser was set has the same rule except for the parser
@@ -54,7 +55,8 @@ only_port rows none (Check cycles) job = omega (arith, marked (codes "port") (co
 only_port rows none (Summary cycles) job = omega (arith, marked (codes "port") (codes "summary") job.0)
 only_port rows none (Offers cycles seed) job = omega (arith, marked (codes "port") (codes "offers") job.0)
 only_port rows none (Hops cycles stream frame) job = omega (arith, marked (codes "port") (codes "hops") job.0)
-only_port rows none (Plan table given verbose) job = omega (arith, marked (codes "port") (codes "plan") job.0)
+only_port rows none (Plan options) job = omega (arith, marked (codes "port") (codes "plan") job.0)
+only_port rows none (Diff quiet) job = omega (arith, marked (codes "port") (codes "diff") job.0)
 
 -- and so of `compile`
 pub only_compile : (rows : List Row) → ((format : Format) (edge_gates : Bool) → ¬ IsJobOf (Compile format edge_gates) (codes "compile") rows) →
@@ -71,7 +73,8 @@ only_compile rows none (Check cycles) job = omega (arith, marked (codes "compile
 only_compile rows none (Summary cycles) job = omega (arith, marked (codes "compile") (codes "summary") job.0)
 only_compile rows none (Offers cycles seed) job = omega (arith, marked (codes "compile") (codes "offers") job.0)
 only_compile rows none (Hops cycles stream frame) job = omega (arith, marked (codes "compile") (codes "hops") job.0)
-only_compile rows none (Plan table given verbose) job = omega (arith, marked (codes "compile") (codes "plan") job.0)
+only_compile rows none (Plan options) job = omega (arith, marked (codes "compile") (codes "plan") job.0)
+only_compile rows none (Diff quiet) job = omega (arith, marked (codes "compile") (codes "diff") job.0)
 
 -- of `offers`
 pub only_offers : (rows : List Row) → ((cycles : ℕ) (seed : Option ℕ) → ¬ IsJobOf (Offers cycles seed) (codes "offers") rows) →
@@ -88,7 +91,8 @@ only_offers rows none (Check cycles) job = omega (arith, marked (codes "offers")
 only_offers rows none (Summary cycles) job = omega (arith, marked (codes "offers") (codes "summary") job.0)
 only_offers rows none (Offers cycles seed) job = none cycles seed job
 only_offers rows none (Hops cycles stream frame) job = omega (arith, marked (codes "offers") (codes "hops") job.0)
-only_offers rows none (Plan table given verbose) job = omega (arith, marked (codes "offers") (codes "plan") job.0)
+only_offers rows none (Plan options) job = omega (arith, marked (codes "offers") (codes "plan") job.0)
+only_offers rows none (Diff quiet) job = omega (arith, marked (codes "offers") (codes "diff") job.0)
 
 -- of `hops`
 pub only_hops : (rows : List Row) →
@@ -106,10 +110,11 @@ only_hops rows none (Check cycles) job = omega (arith, marked (codes "hops") (co
 only_hops rows none (Summary cycles) job = omega (arith, marked (codes "hops") (codes "summary") job.0)
 only_hops rows none (Offers cycles seed) job = omega (arith, marked (codes "hops") (codes "offers") job.0)
 only_hops rows none (Hops cycles stream frame) job = none cycles stream frame job
-only_hops rows none (Plan table given verbose) job = omega (arith, marked (codes "hops") (codes "plan") job.0)
+only_hops rows none (Plan options) job = omega (arith, marked (codes "hops") (codes "plan") job.0)
+only_hops rows none (Diff quiet) job = omega (arith, marked (codes "hops") (codes "diff") job.0)
 
 -- and of `plan`
-pub only_plan : (rows : List Row) → ((table : Bool) (given : Option Candidates) (verbose : Bool) → ¬ IsJobOf (Plan table given verbose) (codes "plan") rows) →
+pub only_plan : (rows : List Row) → ((options : PlanOptions) → ¬ IsJobOf (Plan options) (codes "plan") rows) →
     (job : Job) → ¬ IsJobOf job (codes "plan") rows
 only_plan rows none (Port until rate) job = omega (arith, marked (codes "plan") (codes "port") job.0)
 only_plan rows none (Line cycles) job = omega (arith, marked (codes "plan") (codes "line") job.0)
@@ -123,7 +128,8 @@ only_plan rows none (Check cycles) job = omega (arith, marked (codes "plan") (co
 only_plan rows none (Summary cycles) job = omega (arith, marked (codes "plan") (codes "summary") job.0)
 only_plan rows none (Offers cycles seed) job = omega (arith, marked (codes "plan") (codes "offers") job.0)
 only_plan rows none (Hops cycles stream frame) job = omega (arith, marked (codes "plan") (codes "hops") job.0)
-only_plan rows none (Plan table given verbose) job = none table given verbose job
+only_plan rows none (Plan options) job = none options job
+only_plan rows none (Diff quiet) job = omega (arith, marked (codes "plan") (codes "diff") job.0)
 
 -- so without a number there is no job of `port`
 pub no_port-until : (rows : List Row) (text : Option Text) → text ≡ first_of (codes "until") rows → ((n : ℕ) → ¬ IsNumberIn 1 100000000 n text) → (job : Job) →
@@ -142,21 +148,22 @@ no_compile-format rows none = only_compile rows (λ format edge_gates job. none 
 
 -- without a number of cycles there is no job of a command that takes only these
 pub no_cycles : (name : Text) (rows : List Row) → name ≢ codes "port" → name ≢ codes "compile" → name ≢ codes "load" → name ≢ codes "latency" →
-    name ≢ codes "offers" → name ≢ codes "hops" → name ≢ codes "plan" → ((n : ℕ) → ¬ IsNumberIn 1 100000 n (first_of (codes "cycles") rows)) →
+    name ≢ codes "offers" → name ≢ codes "hops" → name ≢ codes "plan" → name ≢ codes "diff" → ((n : ℕ) → ¬ IsNumberIn 1 100000 n (first_of (codes "cycles") rows)) →
     (job : Job) → ¬ IsJobOf job name rows
-no_cycles name rows not_port not_compile not_load not_latency not_offers not_hops not_plan none (Port until rate) job = not_port job.0
-no_cycles name rows not_port not_compile not_load not_latency not_offers not_hops not_plan none (Line cycles) job = none cycles job.1
-no_cycles name rows not_port not_compile not_load not_latency not_offers not_hops not_plan none (Compile format edge_gates) job = not_compile job.0
-no_cycles name rows not_port not_compile not_load not_latency not_offers not_hops not_plan none (Load streams) job = not_load job.0
-no_cycles name rows not_port not_compile not_load not_latency not_offers not_hops not_plan none (Latency strict) job = not_latency job.0
-no_cycles name rows not_port not_compile not_load not_latency not_offers not_hops not_plan none (Run cycles threads) job = none cycles job.1
-no_cycles name rows not_port not_compile not_load not_latency not_offers not_hops not_plan none (Report cycles) job = none cycles job.1
-no_cycles name rows not_port not_compile not_load not_latency not_offers not_hops not_plan none (Deliveries cycles) job = none cycles job.1
-no_cycles name rows not_port not_compile not_load not_latency not_offers not_hops not_plan none (Check cycles) job = none cycles job.1
-no_cycles name rows not_port not_compile not_load not_latency not_offers not_hops not_plan none (Summary cycles) job = none cycles job.1
-no_cycles name rows not_port not_compile not_load not_latency not_offers not_hops not_plan none (Offers cycles seed) job = not_offers job.0
-no_cycles name rows not_port not_compile not_load not_latency not_offers not_hops not_plan none (Hops cycles stream frame) job = not_hops job.0
-no_cycles name rows not_port not_compile not_load not_latency not_offers not_hops not_plan none (Plan table given verbose) job = not_plan job.0
+no_cycles name rows not_port not_compile not_load not_latency not_offers not_hops not_plan not_diff none (Port until rate) job = not_port job.0
+no_cycles name rows not_port not_compile not_load not_latency not_offers not_hops not_plan not_diff none (Line cycles) job = none cycles job.1
+no_cycles name rows not_port not_compile not_load not_latency not_offers not_hops not_plan not_diff none (Compile format edge_gates) job = not_compile job.0
+no_cycles name rows not_port not_compile not_load not_latency not_offers not_hops not_plan not_diff none (Load streams) job = not_load job.0
+no_cycles name rows not_port not_compile not_load not_latency not_offers not_hops not_plan not_diff none (Latency strict) job = not_latency job.0
+no_cycles name rows not_port not_compile not_load not_latency not_offers not_hops not_plan not_diff none (Run cycles threads) job = none cycles job.1
+no_cycles name rows not_port not_compile not_load not_latency not_offers not_hops not_plan not_diff none (Report cycles) job = none cycles job.1
+no_cycles name rows not_port not_compile not_load not_latency not_offers not_hops not_plan not_diff none (Deliveries cycles) job = none cycles job.1
+no_cycles name rows not_port not_compile not_load not_latency not_offers not_hops not_plan not_diff none (Check cycles) job = none cycles job.1
+no_cycles name rows not_port not_compile not_load not_latency not_offers not_hops not_plan not_diff none (Summary cycles) job = none cycles job.1
+no_cycles name rows not_port not_compile not_load not_latency not_offers not_hops not_plan not_diff none (Offers cycles seed) job = not_offers job.0
+no_cycles name rows not_port not_compile not_load not_latency not_offers not_hops not_plan not_diff none (Hops cycles stream frame) job = not_hops job.0
+no_cycles name rows not_port not_compile not_load not_latency not_offers not_hops not_plan not_diff none (Plan options) job = not_plan job.0
+no_cycles name rows not_port not_compile not_load not_latency not_offers not_hops not_plan not_diff none (Diff quiet) job = not_diff job.0
 
 -- without a number of cycles there is no job of `offers`
 pub no_offers-cycles : (rows : List Row) → ((n : ℕ) → ¬ IsNumberIn 1 100000 n (first_of (codes "cycles") rows)) → (job : Job) →
@@ -178,10 +185,9 @@ pub no_hops-frame : (rows : List Row) → ((frame : Option ℕ) → ¬ IsFreeIn 
     ¬ IsJobOf job (codes "hops") rows
 no_hops-frame rows none = only_hops rows (λ cycles stream frame job. none frame job.3)
 
--- with something else than candidates there is no job of `plan`
-pub no_plan-given : (rows : List Row) → ((given : Option Candidates) → ¬ AreGiven given (first_of (codes "cycle") rows)) → (job : Job) →
-    ¬ IsJobOf job (codes "plan") rows
-no_plan-given rows none = only_plan rows (λ table given verbose job. none given job.2)
+-- without its options there is no job of `plan`
+pub no_plan : (rows : List Row) → ((options : PlanOptions) → ¬ ArePlanOptions options rows) → (job : Job) → ¬ IsJobOf job (codes "plan") rows
+no_plan rows none = only_plan rows (λ options job. none options job.1)
 
 -- a number of a value is one of its text
 pub number_of-text : (least most number : ℕ) (text value : Option Text) → text ≡ value → IsNumberIn least most number text → IsNumberIn least most number value

@@ -6,12 +6,12 @@ use Rattle.clap.specs.Simple.{on_top}
 use Rattle.cqf_program_words.specs.declared.options.CommandOption.{CommandOption}
 use Rattle.cqf_program_words.specs.declared.options.CommandOption.TheVariants as options
 use Rattle.cqf_program_words.specs.declared.commands.Subcommand.{Subcommand}
-use Rattle.cqf_program_words.specs.declared.commands.Subcommand.TheVariants.{Port, Line, Compile, Load, Latency, Run, Report, Deliveries, Check, Summary, Hops, Offers, Plan}
+use Rattle.cqf_program_words.specs.declared.commands.Subcommand.TheVariants.{Port, Line, Compile, Load, Latency, Run, Report, Deliveries, Check, Summary, Hops, Offers, Plan, Diff}
 use Rattle.cqf_program_words.specs.Options.{gives_value, option_rule, rule_for}
 
 -- the commands
 abbrev pub all_commands : List Subcommand
-all_commands = Port ∷ Line ∷ Compile ∷ Load ∷ Latency ∷ Run ∷ Report ∷ Deliveries ∷ Check ∷ Summary ∷ Hops ∷ Offers ∷ Plan ∷ []
+all_commands = Port ∷ Line ∷ Compile ∷ Load ∷ Latency ∷ Run ∷ Report ∷ Deliveries ∷ Check ∷ Summary ∷ Hops ∷ Offers ∷ Plan ∷ Diff ∷ []
 
 -- their names
 abbrev pub name_of : Subcommand → Text
@@ -28,6 +28,7 @@ name_of Summary = codes "summary"
 name_of Hops = codes "hops"
 name_of Offers = codes "offers"
 name_of Plan = codes "plan"
+name_of Diff = codes "diff"
 
 -- their options: `port --until N [--rate RATE]`,
 -- `line --cycles N`,
@@ -41,7 +42,8 @@ name_of Plan = codes "plan"
 -- `summary --cycles N [--large]`,
 -- `hops --cycles N [--stream NAME] [--frame F] [--large]`,
 -- `offers --cycles N [--seed S] [--large]`,
--- `plan [--table] [--cycle WORD] [--verbose] [--large]`
+-- `plan [--table] [--cycle WORD] [--tries N] [--best] [--without LINK].. [--verbose] [--large]`,
+-- `diff [--quiet] [--large]`
 abbrev pub options_of : Subcommand → List CommandOption
 options_of Port = options.Until ∷ options.Rate ∷ []
 options_of Line = options.Cycles ∷ []
@@ -55,7 +57,8 @@ options_of Check = options.Cycles ∷ options.Large ∷ []
 options_of Summary = options.Cycles ∷ options.Large ∷ []
 options_of Hops = options.Cycles ∷ options.Stream ∷ options.Frame ∷ options.Large ∷ []
 options_of Offers = options.Cycles ∷ options.Seed ∷ options.Large ∷ []
-options_of Plan = options.Table ∷ options.Cycle ∷ options.Verbose ∷ options.Large ∷ []
+options_of Plan = options.Table ∷ options.Cycle ∷ options.Tries ∷ options.Best ∷ options.Without ∷ options.Verbose ∷ options.Large ∷ []
+options_of Diff = options.Quiet ∷ options.Large ∷ []
 
 -- the word is one of the command's options, and its value follows as a separate word
 abbrev pub does_want_value : Text → Subcommand → Bool

@@ -1,3 +1,5 @@
+pub mod Links
+pub mod Texts
 pub mod Options
 pub mod Commands
 pub mod Operands

@@ -1,10 +1,13 @@
 -- Which words of a command line name files.
-use Rattle.std.specs.Prelude.{◌≡◌, ◌==◌, ◌++◌, Bool, true, false, List, [], ◌∷◌, if◌then◌else◌, bytes_eq, codes, count_by, fold, map, nat_le}
+use Rattle.std.specs.Prelude.{ℕ, ◌≡◌, ◌==◌, ◌++◌, Bool, true, false, List, [], ◌∷◌, Option, Some, None, if◌then◌else◌, bytes_eq, codes, count_by, fold, length, map, nat_le}
 use Rattle.std.specs.List.{list_any}
 use Rattle.clap.specs.Words.{Text}
 use Rattle.cqf_program_words.specs.declared.operands.WordPlace.{WordPlace}
 use Rattle.cqf_program_words.specs.declared.operands.WordPlace.TheVariants.{Start, Free, Value, Behind, Other}
 use Rattle.cqf_program_words.specs.declared.operands.Operands.{Operands}
+use Rattle.cqf_program_words.specs.declared.words.Job.{Job}
+use Rattle.cqf_program_words.specs.declared.words.Job.TheVariants.{Diff}
+use Rattle.cqf_output.specs.Stops.{line_of}
 use Rattle.cqf_program_words.specs.Commands.{all_commands, cqf_app, does_want_value, name_of}
 use Rattle.cqf_program_words.specs.Options.{gives_value}
 
@@ -83,3 +86,20 @@ is_standard file = bytes_eq file (codes "-")
 
 abbrev pub is_standard_twice : List Text → Bool
 is_standard_twice files = nat_le 2 (count_by is_standard files)
+
+-- a number of files that the job takes: `diff` takes those of two networks, any other job takes any number
+abbrev pub takes_files : Job → ℕ → Bool
+takes_files (Diff quiet) count = count == 2
+takes_files job count = true
+
+-- the line if standard input is named twice, or else if the job doesn't take that number of files
+abbrev pub standard_twice_line : Text
+standard_twice_line = line_of (codes "cqf: words: - is named twice: standard input can be read only once")
+
+abbrev pub two_files_line : Text
+two_files_line = line_of (codes "cqf: words: diff takes two files: cqf diff OLD NEW")
+
+abbrev pub files_fault : Job → List Text → Option Text
+files_fault job files =
+    if is_standard_twice files then Some standard_twice_line
+    else (if takes_files job (length files) then None else Some two_files_line)

@@ -9,10 +9,11 @@ use Rattle.cqf_units.specs.Name.{is_name}
 use Rattle.cqf_units.specs.declared.timing.Rate.{Rate}
 use Rattle.cqf_units.specs.declared.timing.Rate.TheVariants.{Mb10, Mb100, Mb1000, Mb2500, Mb5000, Mb10000, Mb25000, Mb40000, Mb100000}
 use Rattle.cqf_program_words.specs.declared.candidates.Candidates.{Candidates}
+use Rattle.cqf_program_words.specs.declared.plan_words.PlanOptions.{PlanOptions}
 use Rattle.cqf_program_words.specs.declared.words.Format.{Format}
 use Rattle.cqf_program_words.specs.declared.words.Format.TheVariants as form
 use Rattle.cqf_program_words.specs.declared.words.Job.{Job}
-use Rattle.cqf_program_words.specs.declared.words.Job.TheVariants.{Check, Compile, Deliveries, Hops, Latency, Line}
+use Rattle.cqf_program_words.specs.declared.words.Job.TheVariants.{Check, Compile, Deliveries, Diff, Hops, Latency, Line}
 use Rattle.cqf_program_words.specs.declared.words.Job.TheVariants.{Load, Offers, Plan, Port, Report, Run, Summary}
 use Rattle.cqf_output.specs.Stops.{line_of}
 use Rattle.cqf_output.specs.declared.stops.Stop.{Stop}
@@ -20,7 +21,9 @@ use Rattle.cqf_model.specs.declared.limits.Limits.{Limits}
 use Rattle.cqf_model.specs.Limits.{large, limits_where, most_cycles}
 use Rattle.cqf_program_words.specs.Candidates.{AreNamed}
 use Rattle.cqf_program_words.specs.Commands.{cqf_app}
+use Rattle.cqf_program_words.specs.Links.{AreLinks}
 use Rattle.cqf_program_words.specs.Mistakes.{mistake_of}
+use Rattle.cqf_program_words.specs.Texts.{texts_of}
 
 -- whether words request large plans: one of them is `--large`
 abbrev pub is_large_word : Text → Bool
@@ -89,6 +92,15 @@ abbrev pub AreGiven : Option Candidates → Option Text → Type 0
 AreGiven None value = value ≡ None
 AreGiven (Some given) value = AreNamedBy value given
 
+-- the options of `plan`
+pub record ArePlanOptions (options : PlanOptions) (rows : List Row) : Type 0 where
+  pub table : IsFlagGiven options.table (first_of (codes "table") rows)
+  pub given : AreGiven options.given (first_of (codes "cycle") rows)
+  pub tries : IsNumberIn 0 1000 options.tries (first_of (codes "tries") rows)
+  pub best : IsFlagGiven options.best (first_of (codes "best") rows)
+  pub without : AreLinks (texts_of (codes "without") rows) options.without.items
+  pub verbose : IsFlagGiven options.verbose (first_of (codes "verbose") rows)
+
 -- the job of a command with its values
 abbrev pub IsJobOf : Job → Text → List Row → Type 0
 IsJobOf (Port until rate) name rows = (name ≡ codes "port")
@@ -121,15 +133,17 @@ IsJobOf (Hops cycles stream frame) name rows = (name ≡ codes "hops")
     × IsNumberIn 1 most_cycles cycles (first_of (codes "cycles") rows)
     × (option_map string_bytes stream ≡ first_of (codes "stream") rows)
     × IsFreeIn 1 large.rows frame (first_of (codes "frame") rows)
-IsJobOf (Plan table given verbose) name rows = (name ≡ codes "plan")
-    × IsFlagGiven table (first_of (codes "table") rows)
-    × AreGiven given (first_of (codes "cycle") rows)
-    × IsFlagGiven verbose (first_of (codes "verbose") rows)
+IsJobOf (Plan options) name rows = (name ≡ codes "plan")
+    × ArePlanOptions options rows
+IsJobOf (Diff quiet) name rows = (name ≡ codes "diff")
+    × IsFlagGiven quiet (first_of (codes "quiet") rows)
 
--- whether the input of a job begins with a domain, followed by its streams
+-- whether the input of a job begins with a domain, followed by its streams, and the first files may be those of one network. `diff` takes
+-- two networks
 abbrev pub takes_domain : Job → Bool
 takes_domain (Port until rate) = false
 takes_domain (Line cycles) = false
+takes_domain (Diff quiet) = false
 takes_domain job = true
 
 -- the job of the command that the words name, if they name one
@@ -150,13 +164,13 @@ AskForHelp words = IsAmong DisplayHelp (fault_of (app_for words) words) ⊎ IsAm
 abbrev pub ShowsNoHelp : ErrorKind → Type 0
 ShowsNoHelp kind = (kind ≢ DisplayHelp) × (kind ≢ DisplayVersion)
 
--- the words are a mistake: clap refuses them, and not for a request for help; or it takes them, and no job is read from them
+-- the words are a mistake: clap refuses them, and not for a request for help; or it accepts them, and no job is read from them
 abbrev pub AreMistaken : List Text → Type 0
 AreMistaken words = ((kind : ErrorKind) × IsAmong kind (fault_of (app_for words) words) × ShowsNoHelp kind)
     ⊎ ((fault_of (app_for words) words ≡ []) × ((job : Job) → ¬ IsJob job (subcommand_of (app_for words) words)))
 
--- how an error of clap's ends the run: a request for help with status 0, a mistake with status 2. If memory lacks, the status is 3, and
--- there is no text
+-- how an error of clap's ends the run: a request for help with status 0, a mistake with status 2. If an allocation fails, the status is
+-- 3, and there is no text
 pub record EndsBy (kind : ErrorKind) (stop : Stop) : Type 0 where
   pub statuses : (stop.status ≡ 0) ⊎ ((stop.status ≡ 2) ⊎ (stop.status ≡ 3))
   pub help : stop.status ≡ 0 → (kind ≡ DisplayHelp) ⊎ (kind ≡ DisplayVersion)
@@ -164,8 +178,8 @@ pub record EndsBy (kind : ErrorKind) (stop : Stop) : Type 0 where
   pub known : stop.status ≢ 3 → kind ≢ OutOfMemory
   pub memory : stop.status ≡ 3 → stop.text.items ≡ []
 
--- how words that mean no job end the run: with status 2 if they are a mistake, or with status 0 if they request help. If memory lacks, the
--- status is 3, and there is no text
+-- how words that mean no job end the run: with status 2 if they are a mistake, or with status 0 if they request help. If an allocation
+-- fails, the status is 3, and there is no text
 pub record EndsWords (words : List Text) (stop : Stop) : Type 0 where
   pub statuses : (stop.status ≡ 0) ⊎ ((stop.status ≡ 2) ⊎ (stop.status ≡ 3))
   pub no_job : stop.status ≢ 3 → (job : Job) → ¬ Mean words job
@@ -173,7 +187,7 @@ pub record EndsWords (words : List Text) (stop : Stop) : Type 0 where
   pub mistake : stop.status ≡ 2 → AreMistaken words
   pub memory : stop.status ≡ 3 → stop.text.items ≡ []
 
--- if clap takes the words, and they are a mistake, the line is the program's own: which value is wrong, and what is wanted
+-- if clap accepts the words, and they are a mistake, the line is the program's own: which value is wrong, and which are accepted
 abbrev pub TellsMistake : List Text → Stop → Type 0
 TellsMistake words stop = fault_of (app_for words) words ≡ [] → stop.status ≡ 2
     → stop.text.items ≡ line_of (codes "cqf: words: " ++ mistake_of (subcommand_of (app_for words) words))

@@ -4,8 +4,8 @@ ghost use Rattle.std.specs.Prelude.{◌≡◌, ◌≤◌, ◌<◌, ◌+◌, ◌*
 use cqf_units::Memory;
 use std::alloc::Global;
 
-/// Candidates for a cycle time, in nanoseconds: the first, each next one a step later, up to the last, which need not be one of them. There
-/// are 1 to 1,000.
+/// Candidates for a cycle time, in nanoseconds: the first, and then each one a step longer, up to `last`, which need not be one of them.
+/// There are 1 to 1,000, each 10,000 to 10,000,000.
 #[derive(Clone, Copy, Debug, PartialEq, Eq)]
 pub struct Candidates {
     pub first: u32,

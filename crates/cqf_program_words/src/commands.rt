@@ -8,9 +8,9 @@ ghost use Rattle.cqf_program_words.specs.Commands.{command_app, cqf_app, does_wa
 ghost use Rattle.cqf_program_words.specs.Operands.{is_command, wants_value};
 
 use crate::help::{
-    CHECK_INPUT, COMPILE_INPUT, DELIVERIES_INPUT, HOPS_INPUT, LATENCY_INPUT, LINE_INPUT,
-    LOAD_INPUT, MORE_WORDS, OFFERS_INPUT, PLAN_INPUT, PORT_INPUT, REPORT_INPUT, RUN_INPUT,
-    SUMMARY_INPUT,
+    CHECK_INPUT, COMPILE_INPUT, DELIVERIES_INPUT, DIFF_INPUT, HOPS_INPUT, LATENCY_INPUT,
+    LINE_INPUT, LOAD_INPUT, MORE_WORDS, OFFERS_INPUT, PLAN_INPUT, PORT_INPUT, REPORT_INPUT,
+    RUN_INPUT, SUMMARY_INPUT,
 };
 use crate::options::{CommandOption, argument};
 use clap::Command;
@@ -43,12 +43,14 @@ pub(crate) enum Subcommand {
     Hops,
     /// `offers --cycles N [--seed S] [--large]`.
     Offers,
-    /// `plan [--table] [--cycle WORD] [--verbose] [--large]`.
+    /// `plan [--table] [--cycle WORD] [--tries N] [--best] [--without LINK].. [--verbose] [--large]`.
     Plan,
+    /// `diff [--quiet] [--large]`.
+    Diff,
 }
 
 /// The commands, in the order of the help.
-const COMMANDS: [Subcommand; 13] = [
+const COMMANDS: [Subcommand; 14] = [
     Subcommand::Port,
     Subcommand::Line,
     Subcommand::Compile,
@@ -62,6 +64,7 @@ const COMMANDS: [Subcommand; 13] = [
     Subcommand::Hops,
     Subcommand::Offers,
     Subcommand::Plan,
+    Subcommand::Diff,
 ];
 
 impl Subcommand {
@@ -83,6 +86,7 @@ impl Subcommand {
             Subcommand::Hops => "hops",
             Subcommand::Offers => "offers",
             Subcommand::Plan => "plan",
+            Subcommand::Diff => "diff",
         }
     }
 
@@ -125,29 +129,33 @@ impl Subcommand {
             Subcommand::Plan => &[
                 CommandOption::Table,
                 CommandOption::Cycle,
+                CommandOption::Tries,
+                CommandOption::Best,
+                CommandOption::Without,
                 CommandOption::Verbose,
                 CommandOption::Large,
             ],
+            Subcommand::Diff => &[CommandOption::Quiet, CommandOption::Large],
         }
     }
 
     /// Returns what the command does, in a line of help.
     fn about(self) -> &'static str {
         match self {
-            Subcommand::Port => "the starts of one output port",
+            Subcommand::Port => "when the frames of one output port start",
             Subcommand::Line => "the book of one bridge with one stream",
             Subcommand::Compile => "the gate lists and stream gates of a domain and its streams",
-            Subcommand::Load => "what streams hold of each link, and what is left",
-            Subcommand::Latency => "bounds of the latency of each stream to each listener",
-            Subcommand::Run =>
-                "the history and the book of a domain, its streams, a script and offers",
+            Subcommand::Load => "how much of each link is reserved, and how much is left",
+            Subcommand::Latency => "bounds on the latency of each stream to each listener",
+            Subcommand::Run => "a simulation: the history of calls, and each transmission and drop",
             Subcommand::Report => "what each link carries in a run",
-            Subcommand::Deliveries => "the fate of each offered frame of a run, at each listener",
-            Subcommand::Check => "whether all offered frames of a run are delivered in time",
+            Subcommand::Deliveries => "the fate of each offered frame in a run, at each listener",
+            Subcommand::Check => "whether a run delivers all offered frames in time",
             Subcommand::Summary => "the deliveries, drops and latencies of each stream in a run",
-            Subcommand::Hops => "the book of a run by frame: when each is on which link",
-            Subcommand::Offers => "the offers that the streams of a plan make",
-            Subcommand::Plan => "a plan of a network: its cycle time, paths and reservations",
+            Subcommand::Hops => "the book of a run by frame: when each frame is on each link",
+            Subcommand::Offers => "offers for a run, made from the traffic of a plan's streams",
+            Subcommand::Plan => "a plan for a network: its cycle time, paths and reservations",
+            Subcommand::Diff => "what differs between two plans, by name",
         }
     }
 
@@ -167,6 +175,7 @@ impl Subcommand {
             Subcommand::Hops => HOPS_INPUT,
             Subcommand::Offers => OFFERS_INPUT,
             Subcommand::Plan => PLAN_INPUT,
+            Subcommand::Diff => DIFF_INPUT,
         }
     }
 

@@ -67,7 +67,7 @@ pub(crate) fn refused_by_clap(
     helped(alloc, command)
 }
 
-/// Returns the line of words that clap takes and from which no job is read.
+/// Returns the line about words that clap accepts and from which no job is read.
 fn line_of_mistake(alloc: Global, matches: &ArgMatches<'_>) -> Result<String, Memory>
     ensures { IfOk result (λ line. string_bytes line ≡ line_of (codes "cqf: words: " ++ mistake_of (subcommand_rows_of matches.now))) }
 {
@@ -76,7 +76,7 @@ fn line_of_mistake(alloc: Global, matches: &ArgMatches<'_>) -> Result<String, Me
     Ok(line)
 }
 
-/// Returns the end if clap takes the words and no job is read from them, with a line that says which value is wrong, and what is wanted.
+/// Returns the end if clap accepts the words and no job is read from them. Its line says which value is wrong, and which values are accepted.
 pub(crate) fn no_job(alloc: Global, matches: &ArgMatches<'_>) -> Stop
     ensures ends { EndsBy InvalidValue result }
     ensures line { EndsWith 2 (line_of (codes "cqf: words: " ++ mistake_of (subcommand_rows_of matches.now))) result }

@@ -1,10 +1,11 @@
-//! The line about words that clap takes and that mean no job: which value is wrong, and what is wanted.
+//! The line about words that clap accepts and that mean no job. It says which value is wrong, and which values are accepted.
 ghost use Rattle.std.specs.Prelude.{◌≡◌, option_map};
 ghost use Rattle.clap.specs.Words.{found_of, rows_of, subcommand_rows_of};
 ghost use Rattle.cqf_units.specs.Name.{is_name};
-ghost use Rattle.cqf_program_words.specs.Mistakes.{mistake_in, mistake_of, mistake_of_candidates, mistake_of_env, mistake_of_format, mistake_of_others};
+ghost use Rattle.cqf_program_words.specs.Mistakes.{mistake_in, mistake_of, mistake_of_candidates, mistake_of_env, mistake_of_format, mistake_of_link, mistake_of_others, mistake_of_plan};
 ghost use Rattle.cqf_program_words.specs.Mistakes.{is_form, mistake_of_rate, told_of, value_of};
 
+use crate::plan_words::first_wrong;
 use crate::words::text_of;
 use clap::ArgMatches;
 use cqf_units::Name;
@@ -33,6 +34,17 @@ fn mistake_of_rate(rate: &str) -> Mistake<'_>
     )
 }
 
+/// Returns the line of `plan`: the word names no link.
+fn mistake_of_link(word: &str) -> Mistake<'_>
+    ensures { told_of result ≡ mistake_of_link word.now }
+{
+    (
+        "--without ",
+        word,
+        " isn't a link: 'FROM>TO' in quotes, with the names of its ends",
+    )
+}
+
 /// Returns the line of `plan`: the word names no candidates.
 fn mistake_of_candidates(word: &str) -> Mistake<'_>
     ensures { told_of result ≡ mistake_of_candidates word.now }
@@ -40,8 +52,18 @@ fn mistake_of_candidates(word: &str) -> Mistake<'_>
     (
         "--cycle ",
         word,
-        " gives no cycle times: N, or FROM..TO/STEP with FROM up to TO and at most 1000 of them, in ns, 10000 to 10000000",
+        " isn't N or FROM..TO/STEP: cycle times of 10000 to 10000000 ns, FROM no greater than TO, at most 1000 in all",
     )
+}
+
+/// Returns the line of `plan`: one of the words names no link, or else the word names no candidates.
+fn mistake_of_plan<'v>(no_link: Option<&'v str>, cycle: &'v str) -> Mistake<'v>
+    ensures { told_of result ≡ mistake_of_plan (option_map (λ text. text.now) no_link.entry) cycle.now }
+{
+    match no_link {
+        Some(word) => mistake_of_link(word),
+        None => mistake_of_candidates(cycle),
+    }
 }
 
 /// Returns whether the text is one of the four formats.
@@ -71,7 +93,7 @@ fn mistake_of_env(bridge: Option<&str>) -> Mistake<'_>
         Some(bridge) => (
             "--bridge ",
             bridge,
-            " isn't a name: 1 to 32 of a to z, 0 to 9, - and _",
+            " isn't a name: 1 to 32 characters, each a to z, 0 to 9, - or _",
         ),
     }
 }
@@ -112,7 +134,7 @@ fn mistake_in<'v>(name: &str, values: &ArgMatches<'v>) -> Mistake<'v>
         return mistake_of_rate(value_of(values, "rate"));
     }
     if name == "plan" {
-        return mistake_of_candidates(value_of(values, "cycle"));
+        return mistake_of_plan(first_wrong(values), value_of(values, "cycle"));
     }
     if name == "compile" {
         return mistake_of_format(value_of(values, "format"), text_of(values, "bridge"));

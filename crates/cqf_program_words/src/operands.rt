@@ -1,9 +1,11 @@
 //! The files that the words of a command line name.
-ghost use Rattle.std.specs.Prelude.{◌≡◌, IfErr, IfOk, OnErr, OnOk, codes, false, map, string_bytes, true};
-ghost use Rattle.cqf_output.specs.Stops.{EndsWith, line_of};
-ghost use Rattle.cqf_program_words.specs.Operands.{behind_word, ends_options, is_option, is_standard, is_standard_twice, names_file};
+ghost use Rattle.std.specs.Prelude.{◌≡◌, IfErr, IfOk, None, OnOk, Some, map, string_bytes};
+ghost use Rattle.clap.specs.Words.{Text};
+ghost use Rattle.cqf_output.specs.Stops.{EndsWith};
+ghost use Rattle.cqf_program_words.specs.Operands.{behind_word, ends_options, files_fault, is_option, is_standard, is_standard_twice, names_file, takes_files};
 ghost use Rattle.cqf_program_words.specs.Operands.{split_of, split_so_far, with_word};
 
+use crate::Job;
 use crate::commands::{is_command, wants_value};
 use cqf_output::{Stop, USAGE};
 use std::alloc::{AllocError, Global};
@@ -149,18 +151,37 @@ fn is_standard_twice(files: &[&str]) -> bool
     files.iter().filter(|file| is_standard(file)).count() >= 2
 }
 
-/// Checks that at most one of the files is standard input, whose text can be read only once. Returns `Err` with status 2 and a line that
-/// says so if two are.
-pub fn check_files(alloc: Global, files: &[&str]) -> Result<(), Stop>
-    ensures ok { OnOk result (is_standard_twice (map (λ file. file.now) files.now) ≡ false) }
-    ensures twice { OnErr result (is_standard_twice (map (λ file. file.now) files.now) ≡ true) }
-    ensures err { IfErr result (EndsWith 2 (line_of (codes "cqf: words: - is named twice: standard input can be read only once"))) }
+/// Returns whether the job takes this number of files: `diff` takes two, any other job takes any number.
+fn takes_files(job: &Job, count: usize) -> bool
+    ensures { result ≡ takes_files job.now count }
+{
+    match *job {
+        Job::Diff { .. } => count == 2,
+        _ => true,
+    }
+}
+
+/// Checks that a job takes these files, at least one.
+///
+/// # Errors
+/// With status 2 and a line if standard input is named twice, since it can be read only once; or if the job takes two files and there are
+/// more or fewer. With status 3 if an allocation for the line fails.
+pub fn check_files(alloc: Global, job: &Job, files: &[&str]) -> Result<(), Stop>
+    ensures ok { OnOk result (files_fault job.now (map (λ file. file.now) files.now) ≡ None) }
+    ensures err { IfErr result (λ stop. (line : Text) × (files_fault job.now (map (λ file. file.now) files.now) ≡ Some line) × EndsWith 2 line stop) }
 {
     if is_standard_twice(files) {
         return Err(Stop::with_line(
             alloc,
             USAGE,
             "cqf: words: - is named twice: standard input can be read only once\n",
+        ));
+    }
+    if !takes_files(job, files.len()) {
+        return Err(Stop::with_line(
+            alloc,
+            USAGE,
+            "cqf: words: diff takes two files: cqf diff OLD NEW\n",
         ));
     }
     Ok(())

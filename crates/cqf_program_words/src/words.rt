@@ -5,19 +5,17 @@ ghost use Rattle.clap.specs.Words.{Text, first_of, found_of, rows_of, subcommand
 ghost use Rattle.cqf_program_words.specs.declared.words.Format.{Format};
 ghost use Rattle.cqf_program_words.specs.declared.words.Job.{Job};
 ghost use Rattle.cqf_program_words.specs.Words.{rate_text};
-ghost use Rattle.cqf_program_words.specs.Words.{AreGiven, IsFlagGiven, IsFormat, IsFormatOf, IsFreeIn, IsJob, IsJobOf, IsNumberIn, Mean};
-ghost use Rattle.cqf_program_words.specs.declared.candidates.Candidates.{Candidates};
+ghost use Rattle.cqf_program_words.specs.Words.{IsFlagGiven, IsFormat, IsFormatOf, IsFreeIn, IsJob, IsJobOf, IsNumberIn, Mean};
 ghost use Rattle.cqf_program_words.specs.Shown.{ShowsWords, are_printable};
 ghost use Rattle.cqf_program_words.specs.Words.{EndsWords, TellsMistake, is_of_bridge, takes_domain};
 ghost use Rattle.std.specs.List.{list_any};
 ghost use Rattle.cqf_model.specs.Limits.{large, most_cycles};
 ghost use Rattle.cqf_program_words.specs.Words.{ask_for_large, is_large_word, limits_of};
 
-use crate::candidates::Candidates;
 use crate::commands::commands;
 use crate::endings::{no_job, refused_by_clap};
-use crate::naming::candidates_named;
 use crate::options::LAST_SEED;
+use crate::plan_words::{PlanOptions, plan_job};
 use crate::shown::stop_of_words;
 use clap::ArgMatches;
 use cqf_model::{LARGE, LAST_UNTIL, Limits, MOST_CYCLES};
@@ -25,7 +23,7 @@ use cqf_output::Stop;
 use cqf_units::{Name, Rate};
 use std::alloc::{AllocError, Global};
 
-/// The form of a configuration.
+/// The format of a configuration, the output of `compile`.
 #[derive(Clone, Debug, Drop, PartialEq, Eq)]
 pub enum Format {
     /// The gate lists and stream gates, line by line.
@@ -50,7 +48,7 @@ pub enum Job {
     Line {
         cycles: u32,
     },
-    /// The configuration of a domain and its streams, in a form; if `edge_gates`, with stream gates only where streams enter.
+    /// The configuration of a domain and its streams, in a format; if `edge_gates`, with stream gates only at edge bridges.
     Compile {
         format: Format,
         edge_gates: bool,
@@ -59,7 +57,7 @@ pub enum Job {
     Load {
         streams: bool,
     },
-    /// How long the frames of each stream take to each listener. If strict, a deadline that isn't surely kept ends the run.
+    /// How long the frames of each stream take to each listener. If `strict`, a deadline that isn't certain to be kept ends the run.
     Latency {
         strict: bool,
     },
@@ -80,11 +78,11 @@ pub enum Job {
     Check {
         cycles: u32,
     },
-    /// The fates of the frames of each stream of a scenario at each of its listeners, counted.
+    /// Counts of what becomes of the frames of each stream of a scenario, at each of its listeners.
     Summary {
         cycles: u32,
     },
-    /// What the streams of a plan offer; with a seed, each block is late by chance.
+    /// The offers of a plan's streams. With a seed, the frames of each interval are late at random.
     Offers {
         cycles: u32,
         seed: Option<u32>,
@@ -95,22 +93,24 @@ pub enum Job {
         stream: Option<String>,
         frame: Option<u32>,
     },
-    /// A plan for the first good candidate of a network file, or the table of all of its candidates. Candidates may be given. If `verbose`,
-    /// notes on the plan are written even if standard error is no terminal.
+    /// A plan for a good candidate of a network file, or the table of all of its candidates.
     Plan {
-        table: bool,
-        given: Option<Candidates>,
-        verbose: bool,
+        options: PlanOptions,
+    },
+    /// What differs between two plans; if `quiet`, only whether something does.
+    Diff {
+        quiet: bool,
     },
 }
 
 impl Job {
-    /// Returns whether the input begins with a domain, followed by its streams.
+    /// Returns whether the input begins with a domain, followed by its streams, and the first files may be those of one network. `diff`
+    /// takes two networks.
     pub fn takes_domain(&self) -> bool
         ensures { result ≡ takes_domain self.now }
     {
         match *self {
-            Job::Port { .. } | Job::Line { .. } => false,
+            Job::Port { .. } | Job::Line { .. } | Job::Diff { .. } => false,
             Job::Compile { .. }
             | Job::Load { .. }
             | Job::Latency { .. }
@@ -127,7 +127,7 @@ impl Job {
 }
 
 /// Returns the number that the text writes, if it writes one from `least` to `most`, possibly after a plus.
-fn number_in(text: Option<&str>, least: u64, most: u64) -> Option<u64>
+pub(crate) fn number_in(text: Option<&str>, least: u64, most: u64) -> Option<u64>
     ensures { MatchOption result ((number : ℕ) → ¬ IsNumberIn least most number (option_map (λ text. text.now) text.entry))
         (λ number. IsNumberIn least most number (option_map (λ text. text.now) text.entry)) }
 {
@@ -359,37 +359,8 @@ fn hops_job(alloc: Global, values: &ArgMatches<'_>) -> Result<Option<Job>, Alloc
     }))
 }
 
-/// Returns the candidates of the command with these values, which may have none; `None` if something else is given.
-fn given_of(values: &ArgMatches<'_>) -> Option<Option<Candidates>>
-    ensures { MatchOption result ((given : Option Candidates) → ¬ AreGiven given (first_of (codes "cycle") (rows_of (found_of values.now))))
-        (λ given. AreGiven given (first_of (codes "cycle") (rows_of (found_of values.now)))) }
-{
-    match text_of(values, "cycle") {
-        None => Some(None),
-        Some(word) => match candidates_named(word) {
-            Some(given) => Some(Some(given)),
-            None => None,
-        },
-    }
-}
-
-/// Returns the job of the command `plan` with its values.
-fn plan_job(values: &ArgMatches<'_>) -> Option<Job>
-    ensures { MatchOption result ((job : Job) → ¬ IsJobOf job (codes "plan") (rows_of (found_of values.now)))
-        (λ job. IsJobOf job (codes "plan") (rows_of (found_of values.now))) }
-{
-    let Some(given) = given_of(values) else {
-        return None;
-    };
-    Some(Job::Plan {
-        table: is_given(values, "table"),
-        given,
-        verbose: is_given(values, "verbose"),
-    })
-}
-
 /// Returns whether the flag is given.
-fn is_given(values: &ArgMatches<'_>, id: &str) -> bool
+pub(crate) fn is_given(values: &ArgMatches<'_>, id: &str) -> bool
     ensures { IsFlagGiven result (first_of id.now (rows_of (found_of values.now))) }
 {
     match text_of(values, id) {
@@ -407,6 +378,7 @@ fn cycles_job(name: &str, values: &ArgMatches<'_>) -> Option<Job>
     requires not_offers { name.now ≢ codes "offers" }
     requires not_hops { name.now ≢ codes "hops" }
     requires not_plan { name.now ≢ codes "plan" }
+    requires not_diff { name.now ≢ codes "diff" }
     ensures { MatchOption result ((job : Job) → ¬ IsJobOf job name.now (rows_of (found_of values.now)))
         (λ job. IsJobOf job name.now (rows_of (found_of values.now))) }
 {
@@ -427,9 +399,10 @@ fn cycles_job(name: &str, values: &ArgMatches<'_>) -> Option<Job>
     }
 }
 
-/// Returns the job of the command that was named, if it isn't `hops`.
+/// Returns the job of the command that was named, if it is neither `hops` nor `plan`.
 fn job_by_name(name: &str, values: &ArgMatches<'_>) -> Option<Job>
-    requires { name.now ≢ codes "hops" }
+    requires not_hops { name.now ≢ codes "hops" }
+    requires not_plan { name.now ≢ codes "plan" }
     ensures { MatchOption result ((job : Job) → ¬ IsJobOf job name.now (rows_of (found_of values.now)))
         (λ job. IsJobOf job name.now (rows_of (found_of values.now))) }
 {
@@ -443,7 +416,9 @@ fn job_by_name(name: &str, values: &ArgMatches<'_>) -> Option<Job>
             strict: is_given(values, "strict"),
         }),
         "offers" => offers_job(values),
-        "plan" => plan_job(values),
+        "diff" => Some(Job::Diff {
+            quiet: is_given(values, "quiet"),
+        }),
         _ => cycles_job(name, values),
     }
 }
@@ -458,6 +433,7 @@ fn job_of(alloc: Global, matches: &ArgMatches<'_>) -> Result<Option<Job>, AllocE
     };
     match name {
         "hops" => hops_job(alloc, values),
+        "plan" => plan_job(alloc, values),
         _ => Ok(job_by_name(name, values)),
     }
 }

@@ -2,7 +2,7 @@
 //! was refused.
 //!
 //! `cqf_refused NAME` makes the trial with a name and writes its result; without a name it makes all trials and writes
-//! a line for each. A program that intercepts allocations refuses those between the marks (bench/refused); without one,
+//! a line for each. A program that intercepts allocations refuses those between the marks (tests/refused.py); without one,
 //! each call is answered as expected.
 #![tactic(auto)]
 

@@ -1,32 +1,68 @@
 //! Tests of reading words.
 use cqf_output::{DONE, USAGE};
-use cqf_program_words::{Format, Job, candidates_named, read_words};
+use cqf_program_words::{Format, Job, PlanOptions, candidates_named, link_named, read_words};
 use cqf_units::Rate;
 use std::alloc::Global;
 
 /// A job whose words name no stream, bridge or candidates: a job of `cqf_program_words` can have what a constant table
 /// can't.
 enum Meant {
-    Port { until: u64, rate: Rate },
-    Line { cycles: u32 },
+    Port {
+        until: u64,
+        rate: Rate,
+    },
+    Line {
+        cycles: u32,
+    },
     CompileList,
-    CompileTc { is_software: bool },
+    CompileTc {
+        is_software: bool,
+    },
     CompileJson,
     CompileEdges,
-    Load { streams: bool },
-    Latency { strict: bool },
-    Run { cycles: u32, threads: bool },
-    Report { cycles: u32 },
-    Deliveries { cycles: u32 },
-    Check { cycles: u32 },
-    Summary { cycles: u32 },
-    Offers { cycles: u32, seed: Option<u32> },
-    Hops { cycles: u32, frame: Option<u32> },
-    Plan { table: bool, verbose: bool },
+    Load {
+        streams: bool,
+    },
+    Latency {
+        strict: bool,
+    },
+    Run {
+        cycles: u32,
+        threads: bool,
+    },
+    Report {
+        cycles: u32,
+    },
+    Deliveries {
+        cycles: u32,
+    },
+    Check {
+        cycles: u32,
+    },
+    Summary {
+        cycles: u32,
+    },
+    Offers {
+        cycles: u32,
+        seed: Option<u32>,
+    },
+    Hops {
+        cycles: u32,
+        frame: Option<u32>,
+    },
+    Plan {
+        table: bool,
+        tries: u32,
+        best: bool,
+        verbose: bool,
+    },
+    Diff {
+        quiet: bool,
+    },
 }
 
-/// The job.
-fn job_of(meant: &Meant) -> Job {
+/// The job; one of `plan` has the candidates of the file and leaves out no link.
+fn job_of(alloc: Global, meant: &Meant) -> Job {
     match *meant {
         Meant::Port { until, rate } => Job::Port { until, rate },
         Meant::Line { cycles } => Job::Line { cycles },
@@ -59,11 +95,22 @@ fn job_of(meant: &Meant) -> Job {
             stream: None,
             frame,
         },
-        Meant::Plan { table, verbose } => Job::Plan {
+        Meant::Plan {
             table,
-            given: None,
+            tries,
+            best,
             verbose,
+        } => Job::Plan {
+            options: PlanOptions {
+                table,
+                given: None,
+                tries,
+                best,
+                without: Vec::new(alloc),
+                verbose,
+            },
         },
+        Meant::Diff { quiet } => Job::Diff { quiet },
     }
 }
 
@@ -83,6 +130,34 @@ const MOST_AT_THE_MIDDLE_RATE: Meant = Meant::Port {
 };
 
 const AS_SCRIPT: Meant = Meant::CompileTc { is_software: false };
+
+const FIRST_GOOD: Meant = Meant::Plan {
+    table: false,
+    tries: 50,
+    best: false,
+    verbose: false,
+};
+
+const AS_TABLE: Meant = Meant::Plan {
+    table: true,
+    tries: 50,
+    best: false,
+    verbose: false,
+};
+
+const BEST_OF_NO_TRIES: Meant = Meant::Plan {
+    table: false,
+    tries: 0,
+    best: true,
+    verbose: true,
+};
+
+const OF_MOST_TRIES: Meant = Meant::Plan {
+    table: false,
+    tries: 1_000,
+    best: false,
+    verbose: false,
+};
 
 const IN_SOFTWARE: Meant = Meant::CompileTc { is_software: true };
 
@@ -160,18 +235,8 @@ const CASES: &[(&[&str], Option<Meant>, u8)] = &[
     (&["--format", "tc", "compile"], None, USAGE),
     (&["load", "--format", "tc"], None, USAGE),
     (&["port", "--until", "5", "--format", "tc"], None, USAGE),
-    (
-        &["compile", "--edge-gates"],
-        Some(Meant::CompileEdges),
-        DONE,
-    ),
     (&["compile", "--edge-gates", "--edge-gates"], None, USAGE),
     (&["load"], Some(Meant::Load { streams: false }), DONE),
-    (
-        &["load", "--streams"],
-        Some(Meant::Load { streams: true }),
-        DONE,
-    ),
     (&["load", "--stream"], None, USAGE),
     (&["latency"], Some(Meant::Latency { strict: false }), DONE),
     (
@@ -304,30 +369,67 @@ const CASES: &[(&[&str], Option<Meant>, u8)] = &[
     ),
     (&["hops", "--cycles", "100001"], None, USAGE),
     (&["run", "--cycles", "5", "--frame", "1"], None, USAGE),
+];
+
+/// The same of options that few commands have, and of words that no command has.
+const MORE_CASES: &[(&[&str], Option<Meant>, u8)] = &[
+    (&["plan"], Some(FIRST_GOOD), DONE),
+    (&["plan", "--table"], Some(AS_TABLE), DONE),
+    (&["plan", "--tries", "50"], Some(FIRST_GOOD), DONE),
     (
-        &["plan"],
-        Some(Meant::Plan {
-            table: false,
-            verbose: false,
-        }),
+        &["plan", "--best", "--tries=0", "--verbose"],
+        Some(BEST_OF_NO_TRIES),
+        DONE,
+    ),
+    (&["plan", "--tries", "1000"], Some(OF_MOST_TRIES), DONE),
+    (&["plan", "--tries", "1001"], None, USAGE),
+    (&["plan", "--tries", "-1"], None, USAGE),
+    (&["plan", "--tries", "many"], None, USAGE),
+    (&["plan", "--tries"], None, USAGE),
+    (&["plan", "--tries", "5", "--tries", "5"], None, USAGE),
+    (&["plan", "--best=true"], None, USAGE),
+    (&["plan", "--verbose", "--verbose"], None, USAGE),
+    (&["plan", "--without"], None, USAGE),
+    (&["plan", "--without", "a"], None, USAGE),
+    (&["load", "--verbose"], None, USAGE),
+    (&["load", "--tries", "5"], None, USAGE),
+    (&["latency", "--best"], None, USAGE),
+    (&["load", "--without", "a>b"], None, USAGE),
+    // what streams hold of links is shown by `load` only
+    (
+        &["load", "--streams"],
+        Some(Meant::Load { streams: true }),
+        DONE,
+    ),
+    (&["load", "--streams", "--streams"], None, USAGE),
+    (&["latency", "--streams"], None, USAGE),
+    (&["hops", "--cycles", "5", "--streams"], None, USAGE),
+    // stream gates are those of `compile`
+    (
+        &["compile", "--edge-gates"],
+        Some(Meant::CompileEdges),
         DONE,
     ),
     (
-        &["plan", "--table"],
-        Some(Meant::Plan {
-            table: true,
-            verbose: false,
-        }),
+        &["compile", "--format", "list", "--edge-gates"],
+        Some(Meant::CompileEdges),
         DONE,
     ),
+    (&["compile", "--edge-gates=true"], None, USAGE),
+    (&["compile", "--edge-gates", "--bridge", "a"], None, USAGE),
+    (&["load", "--edge-gates"], None, USAGE),
+    // a letter or a word silences `diff`
+    (&["diff"], Some(Meant::Diff { quiet: false }), DONE),
+    (&["diff", "-q"], Some(Meant::Diff { quiet: true }), DONE),
     (
-        &["plan", "--verbose"],
-        Some(Meant::Plan {
-            table: false,
-            verbose: true,
-        }),
+        &["diff", "--quiet"],
+        Some(Meant::Diff { quiet: true }),
         DONE,
     ),
+    (&["diff", "-q", "--quiet"], None, USAGE),
+    (&["diff", "-qq"], None, USAGE),
+    (&["diff", "--cycles", "5"], None, USAGE),
+    (&["load", "-q"], None, USAGE),
     (&["plan", "--cycle"], None, USAGE),
     (&["plan", "--cycle", "9999"], None, USAGE),
     (&["plan", "--cycle", "10000..20000/0"], None, USAGE),
@@ -341,7 +443,7 @@ const CASES: &[(&[&str], Option<Meant>, u8)] = &[
 fn is_read(alloc: Global, words: &[&str], meant: &Option<Meant>, status: u8) -> bool {
     match read_words(alloc, words) {
         Ok(found) => match *meant {
-            Some(ref meant) => found == job_of(meant),
+            Some(ref meant) => found == job_of(alloc, meant),
             None => false,
         },
         Err(stop) => meant.is_none() && stop.status == status,
@@ -351,6 +453,13 @@ fn is_read(alloc: Global, words: &[&str], meant: &Option<Meant>, status: u8) -> 
 #[test]
 fn words_mean_a_job_or_are_misuse(rt: HostRuntime) {
     for (words, meant, status) in CASES {
+        assert!(rt; is_read(rt.alloc(), words, meant, *status));
+    }
+}
+
+#[test]
+fn words_of_few_commands_mean_a_job_or_are_misuse(rt: HostRuntime) {
+    for (words, meant, status) in MORE_CASES {
         assert!(rt; is_read(rt.alloc(), words, meant, *status));
     }
 }
@@ -424,8 +533,16 @@ fn variables_are_of_a_bridge(rt: HostRuntime) {
 const MISTAKES: &[(&[&str], &str)] = &[
     (
         &["plan", "--cycle", "125us"],
-        "cqf: words: --cycle 125us gives no cycle times: N, or FROM..TO/STEP with FROM up to TO and at most 1000 of them, in ns, \
-            10000 to 10000000\n",
+        "cqf: words: --cycle 125us isn't N or FROM..TO/STEP: cycle times of 10000 to 10000000 ns, FROM no greater than TO, \
+            at most 1000 in all\n",
+    ),
+    (
+        &["plan", "--without", "a", "--cycle", "125us"],
+        "cqf: words: --without a isn't a link: 'FROM>TO' in quotes, with the names of its ends\n",
+    ),
+    (
+        &["plan", "--without=a>b", "--without", "A>b", "--without=>"],
+        "cqf: words: --without A>b isn't a link: 'FROM>TO' in quotes, with the names of its ends\n",
     ),
     (
         &["port", "--until", "5", "--rate", "20"],
@@ -445,7 +562,7 @@ const MISTAKES: &[(&[&str], &str)] = &[
     ),
     (
         &["compile", "--bridge", "A", "--format", "env"],
-        "cqf: words: --bridge A isn't a name: 1 to 32 of a to z, 0 to 9, - and _\n",
+        "cqf: words: --bridge A isn't a name: 1 to 32 characters, each a to z, 0 to 9, - or _\n",
     ),
     (
         &["compile", "--bridge", "a", "--software", "--format", "env"],
@@ -517,16 +634,13 @@ fn words_name_candidates(rt: HostRuntime) {
 
 /// Returns how many candidates the word for `plan` gives, with the first and the last.
 fn given_by(alloc: Global, word: &str) -> Option<(usize, u32, u32)> {
-    let Ok(
-        Job::Plan {
-            table: true,
-            given: Some(given),
-            ..
-        },
-    ) = read_words(alloc, &["plan", "--table", "--cycle", word])
-    else {
+    let Ok(Job::Plan { options }) = read_words(alloc, &["plan", "--table", "--cycle", word]) else {
         return None;
     };
+    if !options.table {
+        return None;
+    }
+    let given = options.given?;
     match given.list(alloc) {
         Ok(times) => Some((times.len(), *times.first()?, *times.last()?)),
         Err(_) => None,
@@ -540,6 +654,84 @@ fn a_plan_is_given_at_most_1000_candidates(rt: HostRuntime) {
     assert!(rt; given_by(alloc, "10000..10999/1") == Some((1_000, 10_000, 10_999)));
     assert!(rt; given_by(alloc, "10000..10000000/10000") == Some((1_000, 10_000, 10_000_000)));
     assert!(rt; given_by(alloc, "10000..11000/1").is_none());
+}
+
+/// Words for a link, and the names of its ends, if they name one.
+const LINKS: &[(&str, Option<(&str, &str)>)] = &[
+    ("a>b", Some(("a", "b"))),
+    ("edge-1>sink_2", Some(("edge-1", "sink_2"))),
+    // a name has up to 32 characters, and `>` is none of them
+    (
+        "a>abcdefghijklmnopqrstuvwxyz012345",
+        Some(("a", "abcdefghijklmnopqrstuvwxyz012345")),
+    ),
+    ("a>abcdefghijklmnopqrstuvwxyz0123456", None),
+    ("", None),
+    (">", None),
+    ("a", None),
+    ("a>", None),
+    (">b", None),
+    ("a>b>c", None),
+    ("a>>b", None),
+    ("a> b", None),
+    ("A>b", None),
+    ("a-b", None),
+];
+
+/// Whether the word names the link between these ends.
+fn names_link(word: &str, wanted: Option<(&str, &str)>) -> bool {
+    match (link_named(word), wanted) {
+        (Some(link), Some((from, to))) => link.from.as_str() == from && link.to.as_str() == to,
+        (None, None) => true,
+        _ => false,
+    }
+}
+
+#[test]
+fn words_name_links(rt: HostRuntime) {
+    for (word, wanted) in LINKS {
+        assert!(rt; names_link(word, *wanted));
+    }
+}
+
+/// Whether the words mean a plan without the links between these ends, in this order.
+fn leaves_out(alloc: Global, words: &[&str], ends: &[(&str, &str)]) -> bool {
+    let Ok(Job::Plan { options }) = read_words(alloc, words) else {
+        return false;
+    };
+    let links = options.without.as_slice();
+    if links.len() != ends.len() {
+        return false;
+    }
+    for place in 0..ends.len() {
+        let (from, to) = ends[place];
+        if links[place].from.as_str() != from || links[place].to.as_str() != to {
+            return false;
+        }
+    }
+    true
+}
+
+#[test]
+fn a_plan_leaves_out_links(rt: HostRuntime) {
+    let alloc = rt.alloc();
+    assert!(rt; leaves_out(alloc, &["plan"], &[]));
+    assert!(rt; leaves_out(alloc, &["plan", "--without", "a>b"], &[("a", "b")]));
+    assert!(rt;
+        leaves_out(
+            alloc,
+            &[
+                "plan",
+                "--without=b>a",
+                "--table",
+                "--without",
+                "a>b",
+                "--without",
+                "b>a"
+            ],
+            &[("b", "a"), ("a", "b"), ("b", "a")]
+        )
+    );
 }
 
 /// Whether the help that the words request contains this text.
@@ -574,7 +766,7 @@ const HELP: &[(&[&str], &str)] = &[
     (&["run", "--help"], "--threads "),
     (
         &["run", "--help"],
-        "The output is the history of the calls, a line of %%, and the book of every\n",
+        "The output is the history of the calls, a line of %%, and the book, which has\n",
     ),
     (
         &["report", "--help"],
@@ -617,6 +809,12 @@ const HELP: &[(&[&str], &str)] = &[
     ),
     (&["plan", "--help"], "Usage: cqf plan [OPTIONS]\n"),
     (&["plan", "--help"], "cqf plan network.toml\n"),
+    (&["plan", "--help"], "--tries <N> "),
+    (&["plan", "--help"], "--without <LINK> "),
+    (&["load", "--help"], "--streams "),
+    (&["compile", "--help"], "--edge-gates "),
+    (&["diff", "--help"], "-q, --quiet "),
+    (&["diff", "--help"], "cqf diff old.toml new.toml\n"),
 ];
 
 #[test]

@@ -1,10 +1,16 @@
-use Rattle.std.proofs.Common.{◌∙◌, List, ℕ, ap, map, subst}
+use Rattle.std.proofs.Common.{◌∙◌, Bool, List, ℕ, ap, false, map, subst}
 use Rattle.cqf_program_engine.specs.Edge.{reading}
 use Rattle.cqf_output.specs.Edge.{writing}
+use Rattle.cqf_program_engine.specs.Prepared.{status_after}
 use Rattle.cqf_program_engine.specs.Run.{HandsOver, TellsStop, input_of}
 use Rattle.cqf_program_threads.specs.ThreadsOutput.{EndsThreads, IsThreadsOutput}
-use Rattle.cqf_program_engine.proofs.RunLemmas.{Ends-ran, Ends-stopped, HasRun-threads, IsStopped-threads}
+use Rattle.cqf_program_engine.proofs.RunLemmas.{Ends-ran, Ends-stopped, HasRun-threads, IsStopped-threads, threads_within}
 use Rattle.cqf_program_engine.proofs.runs.engine.Goals as goal
+
+pub prepare_threads-requires-after_bounds : goal.prepare_threads-requires-after_bounds
+prepare_threads-requires-after_bounds g c κs within =
+    let input = reading g.R.Read.remaining c.args.input.now c.run_unless_threaded.new.input in
+    threads_within (map (λ word. word.now) c.args.words.now) input.bytes c.in-Err.threaded c.in-Err.ensures.left.is_run
 
 pub returns-in-Ok-prepare_threads : goal.returns-in-Ok-prepare_threads
 returns-in-Ok-prepare_threads g c =
@@ -13,15 +19,19 @@ returns-in-Ok-prepare_threads g c =
     let threaded = c.in-Err.threaded in
     let told = c.in-Ok-prepare_threads.ensures.ok in
     let of_input = subst (λ (bytes : List ℕ). IsThreadsOutput threaded.limits threaded.cycles bytes told.0) (c.input_of.ensures ∙ ap (input_of words) c.bytes.ensures) told.2 in
-    let written = subst (λ before. HandsOver told.0 (writing g.O.Write.contents before c.tell_output.new.output)
+    let told_with = subst (λ (of_diff : Bool). HandsOver (status_after of_diff told.0) told.0
+    (writing g.O.Write.contents c.run_unless_threaded.new.output c.tell_output.new.output)
     (writing g.F.Write.contents c.run_unless_threaded.new.faults c.tell_output.new.faults) c.tell_output.result)
-    c.in-Err.ensures.output (c.tell_output.ensures told.0 told.1) in
-    let all_written = subst (λ before. HandsOver told.0 (writing g.O.Write.contents c.args.output.now c.tell_output.new.output)
+    c.in-Ok-prepare_threads.ensures.of_diff (c.tell_output.ensures told.0 told.1) in
+    let written = subst (λ before. HandsOver 0 told.0 (writing g.O.Write.contents before c.tell_output.new.output)
+    (writing g.F.Write.contents c.run_unless_threaded.new.faults c.tell_output.new.faults) c.tell_output.result)
+    c.in-Err.ensures.output told_with in
+    let all_written = subst (λ before. HandsOver 0 told.0 (writing g.O.Write.contents c.args.output.now c.tell_output.new.output)
     (writing g.F.Write.contents before c.tell_output.new.faults) c.tell_output.result)
     c.in-Err.ensures.faults written in
     Ends-ran g.R.Source.fails g.O.Sink.refuses words input (writing g.O.Write.contents c.args.output.now c.tell_output.new.output)
     (writing g.F.Write.contents c.args.faults.now c.tell_output.new.faults) c.run_unless_threaded.new.input.may_fail c.tell_output.new.output.may_refuse
-    told.0 c.tell_output.result c.run_unless_threaded.ensures.heard c.run_unless_threaded.ensures.behind_words
+    false told.0 c.tell_output.result c.run_unless_threaded.ensures.heard c.run_unless_threaded.ensures.behind_words
     (HasRun-threads words input threaded told.0 c.in-Err.ensures.left of_input) all_written
 
 pub returns-in-Err-prepare_threads : goal.returns-in-Err-prepare_threads

@@ -1,7 +1,7 @@
 use Rattle.std.proofs.Common.{◌≤◌, Bool, List, ℕ, inl, length, map, subst, subst₂}
 use Rattle.std.proofs.lemmas.Result.{IfErr-weaker, IfOk-weaker}
 use Rattle.cqf_program_engine.specs.Edge.{reading}
-use Rattle.cqf_program_engine.specs.Run.{IsAsking, IsOutput, IsRefusal}
+use Rattle.cqf_program_engine.specs.Run.{IsAsking, IsRefusal, IsResult}
 use Rattle.cqf_model.specs.declared.limits.Limits.{Limits}
 use Rattle.cqf_program_engine.proofs.RunLemmas.{Begins-weaker, HasRun-given, IsStopped-by_given, IsStopped-by_words, IsWithin-means, LeavesThreads-given}
 use Rattle.cqf_program_engine.proofs.runs.run_given.Goals as goal
@@ -19,8 +19,8 @@ returns-clause-ok g c =
     let short = subst (λ (most : ℕ). length c.read_input.new.input.bytes ≤ most) c.most_bytes.ensures.value c.in_default.ensures.short in
     IfOk-weaker c.output_of.result _ _
     (λ begun told. Begins-weaker begun
-    (λ text is. HasRun-given words input text c.in-Ok.job c.requires.given c.in_default.ensures.sound c.in_default.ensures.end short c.in-Ok.ensures.ok
-    (subst₂ (λ (limits : Limits) (bytes : List ℕ). IsOutput limits c.in-Ok.job bytes text) c.limits_of.ensures c.bytes.ensures is))
+    (λ text status is. HasRun-given words input text status c.in-Ok.job c.requires.given c.in_default.ensures.sound c.in_default.ensures.end short c.in-Ok.ensures.ok
+    (subst₂ (λ (limits : Limits) (bytes : List ℕ). IsResult limits c.in-Ok.job bytes text status) c.limits_of.ensures c.bytes.ensures is))
     (λ threaded is. LeavesThreads-given words input c.limits_of.result c.in-Ok.job threaded c.requires.given c.in_default.ensures.sound c.in_default.ensures.end
     short c.in-Ok.ensures.ok c.limits_of.ensures is)
     told)

@@ -33,7 +33,7 @@ returns-clause-ok g c =
     let words : HasWords c.args.bytes.now = record { text = subst IsUtf8 c.split_first_line.ensures.line c.in-Ok.ensures.cases.1; short = subst (λ (text : List ℕ). length text ≤ most_line) line c.if-line-gt-MOST_LINE.false } in
     IfOk-weaker c.output_of.result _ _
     (λ begun told. Begins-weaker begun
-    (λ text is. IsDone-by_line c.args.bytes.now _ text (map (λ word. word.now) c.as_slice.result.now) _ c.in-Ok-read_line.job c.requires
+    (λ text status is. IsDone-by_line c.args.bytes.now _ text status (map (λ word. word.now) c.as_slice.result.now) _ c.in-Ok-read_line.job c.requires
     words same (c.limits_of.ensures ∙ ap limits_of again) c.split_first_line.ensures.rest c.in-Ok-read_line.ensures.ok is)
     (λ threaded is. IsThreadedRun-by_line c.args.bytes.now (map (λ word. word.now) c.as_slice.result.now) c.limits_of.result c.in-Ok-read_line.job threaded
     c.requires words same (c.limits_of.ensures ∙ ap limits_of again) c.in-Ok-read_line.ensures.ok is)

@@ -1,7 +1,7 @@
 use Rattle.std.proofs.Common.{map, subst}
 use Rattle.cqf_program_engine.specs.Edge.{reading}
 use Rattle.cqf_output.specs.Edge.{writing}
-use Rattle.cqf_program_engine.specs.Prepared.{Begins, HasText}
+use Rattle.cqf_program_engine.specs.Prepared.{Begins, HasResult, is_of_diff}
 use Rattle.cqf_program_engine.specs.Run.{HasRun, LeavesThreads}
 use Rattle.cqf_program_engine.specs.declared.begun.Begun.{Begun}
 use Rattle.cqf_program_engine.proofs.RunLemmas.{Ends-ran, Ends-stopped}
@@ -11,11 +11,11 @@ pub returns-in-Ok-Ready-clause-ended : goal.returns-in-Ok-Ready-clause-ended
 returns-in-Ok-Ready-clause-ended g c =
     let words = map (λ word. word.now) c.args.words.now in
     let input = reading g.R.Read.remaining c.args.input.now c.run.new.input in
-    let told : HasText (HasRun words input) c.in-Ok-Ready.prepared =
+    let told : HasResult (HasRun words input) c.in-Ok-Ready.prepared =
     subst (λ (begun : Begun). Begins (HasRun words input) (LeavesThreads words input) begun) c.in-Ok-Ready.field-0-is c.in-Ok-Ready.ensures.ok in
     Ends-ran g.R.Source.fails g.O.Sink.refuses words input (writing g.O.Write.contents c.args.output.now c.tell_output.new.output)
     (writing g.F.Write.contents c.args.faults.now c.tell_output.new.faults) c.run.new.input.may_fail c.tell_output.new.output.may_refuse
-    told.0 c.tell_output.result c.run.ensures.heard c.run.ensures.behind_words told.2 (c.tell_output.ensures told.0 told.1)
+    (is_of_diff c.in-Ok-Ready.prepared) told.0 c.tell_output.result c.run.ensures.heard c.run.ensures.behind_words told.2 (c.tell_output.ensures told.0 told.1)
 
 pub returns-in-Ok-Threads-clause-ends : goal.returns-in-Ok-Threads-clause-ends
 returns-in-Ok-Threads-clause-ends g c =

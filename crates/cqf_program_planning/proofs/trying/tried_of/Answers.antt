@@ -3,7 +3,7 @@ use Rattle.std.proofs.lemmas.List.{length-map}
 use Rattle.cqf_admission.specs.Turns.{AreOfGoodPaces}
 use Rattle.cqf_program_placing.specs.Placing.{outcome_value}
 use Rattle.cqf_program_placing.specs.Settled.{settled_value}
-use Rattle.cqf_program_planning.proofs.TriedLemmas.{length-placed}
+use Rattle.cqf_program_planning.proofs.TriedLemmas.{each_placed, length-placed}
 use Rattle.cqf_program_planning.proofs.trying.tried_of.Goals as goal
 
 -- each stream has an outcome
@@ -13,7 +13,8 @@ candidate_of-requires-clause-each c =
     ap length c.as_slice-2.ensures.value
     ∙ sym (length-map c.in_ok-domain.outcomes.items outcome_value)
     ∙ ap length c.in_ok-domain.ensures.outcomes
-    ∙ length-placed placed.domain [] (map settled_value c.args.streams.now) placed.outcomes placed.entries c.requires
+    ∙ length-placed placed.domain (map settled_value c.args.streams.now) placed.outcomes
+    (each_placed placed.domain [] (map settled_value c.args.streams.now) placed.outcomes placed.entries c.requires)
     ∙ length-map c.args.streams.now settled_value
 
 -- its rows have good paces

@@ -1,0 +1,6 @@
+mod Steps
+mod Held
+mod Files
+mod Own
+mod Described
+mod Alike

@@ -1,0 +1,13 @@
+pub mod Element
+pub mod Kinds
+pub mod Changes
+pub mod Texts
+pub mod Network
+pub mod Streams
+pub mod StreamValues
+pub mod Figures
+pub mod FigureValues
+pub mod DescriptionValues
+pub mod Description
+pub mod Output
+pub mod Alike

@@ -1,0 +1,12 @@
+use Rattle.std.proofs.Common.{option_map}
+use Rattle.cqf_program_planning.specs.Writing.{source_of}
+use Rattle.cqf_program_planning.proofs.Inputs.{parts_input, writable}
+use Rattle.cqf_program_planning.proofs.plan_command.plan_of_parts.Goals as goal
+
+-- what was read may be written
+pub told_of-requires-clause-written : goal.told_of-requires-clause-written
+told_of-requires-clause-written c =
+    let said = option_map (λ cycles. cycles.items) c.args.given in
+    let source = source_of c.in_ok-found.found in
+    writable c.args.limits said source
+    (parts_input c.args.limits said c.args.domain_text.now c.args.streams_text.now source c.in_ok-found.ensures.ok)

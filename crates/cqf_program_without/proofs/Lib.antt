@@ -1,0 +1,9 @@
+mod Taking
+mod LinkLists
+mod StreamLists
+mod Branches
+mod Keys
+mod Outs
+mod LinksRead
+mod UsedLinks
+mod KeptOff

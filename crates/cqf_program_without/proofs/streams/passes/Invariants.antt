@@ -1,0 +1,7 @@
+use Rattle.std.proofs.Common.{◌≡◌, drop, map, string_bytes}
+use Rattle.cqf_program_without.specs.Streams.{passes}
+use Rattle.cqf_program_without.proofs.streams.passes.Given as goal
+
+-- the branch doesn't pass the link before the index
+abbrev pub invariant-loop-place : goal.invariant-loop-place
+invariant-loop-place l = passes l.link (map string_bytes (drop l.place l.path)) ≡ passes l.link (map string_bytes l.path)
