@@ -318,6 +318,37 @@ fn report_no_way(
     )?)
 }
 
+/// Reports a stream whose path isn't apart from that of another one.
+fn report_not_apart(
+    given: &CommandInput<'_>,
+    reported: &mut ReportedLines,
+    item: &WrittenItem<'_>,
+    other: &str,
+) -> Result<(), AllocError> {
+    let (place, label) = (item.place_of("apart"), item.label(given.alloc)?);
+    if item.get("path").is_some() || item.get("paths").is_some() {
+        return reported.report(format!(in given.alloc;
+            "{place}: {label}: its path has a link or an inner bridge of {other}'s: give it another, or give from and to alone"
+        )?);
+    }
+    reported.report(format!(in given.alloc;
+        "{place}: {label}: no path is apart from {other}'s: give {other} a path that leaves one, or add links"
+    )?)
+}
+
+/// Reports a stream that is to be apart from one that isn't before it.
+fn report_not_before(
+    given: &CommandInput<'_>,
+    reported: &mut ReportedLines,
+    item: &WrittenItem<'_>,
+    other: &str,
+) -> Result<(), AllocError> {
+    let (place, label) = (item.place_of("apart"), item.label(given.alloc)?);
+    reported.report(format!(in given.alloc;
+        "{place}: {label}: no stream {other} is above it: put {other} first, and leave apart to the later one"
+    )?)
+}
+
 /// Reports a stream whose found paths have too many links together.
 fn report_wide(
     given: &CommandInput<'_>,
@@ -458,6 +489,8 @@ fn report_unplaced(
 ) -> Result<(), AllocError> {
     match unplaced.fault {
         "NoWay" => report_no_way(given, reported, item, unplaced.value),
+        "NotApart" => report_not_apart(given, reported, item, unplaced.value),
+        "NotBefore" => report_not_before(given, reported, item, unplaced.value),
         "TooSoon" => report_too_soon(given, reported, item),
         "TooMuch" | "TooLittle" => report_needs(given, reported, item, unplaced),
         "BadInStep" => report_out_of_step(given, reported, item, cycle),

@@ -130,8 +130,8 @@ on_path network d (AlongText paths) path talkers same e =
 on_path network d (BetweenText from to) path talkers same e =
     let (entrance, entered, rest) = and_then-Ok (ok_or (entrance_at network (node_named d from)) fault.NoTalker) _ path e in
     let (stations, named, more) = and_then-Ok (stations_by_name d to) _ path rest in
-    let parts = refuse-Ok (first_apart d entrance.bridge to) fault.NoWay (Ok (Between entrance.bridge stations)) path more in
-    let is : Between entrance.bridge stations ≡ path = let h = parts.1 in cc in
+    let parts = refuse-Ok (first_apart d entrance.bridge to) fault.NoWay (Ok (Between entrance.bridge stations [])) path more in
+    let is : Between entrance.bridge stations [] ≡ path = let h = parts.1 in cc in
     subst (IsOnPath d) is (
       entrance_there network d from entrance talkers same (ok_or-Ok _ fault.NoTalker entrance entered),
       stations_reached d entrance.bridge to stations named parts.0,
@@ -161,6 +161,7 @@ pub record IsSettledBy (network : NetworkDomain) (d : Domain) (before : List (Li
   pub octets_are : stream.octets ≡ one.octets
   pub pacing_is : stream.pacing ≡ one.pacing
   pub traffic_is : stream.traffic ≡ one.traffic
+  pub none_beside : one.apart ≡ []
 
 pub settled_by : (network : NetworkDomain) (d : Domain) (before : List (List ℕ)) (stream : StreamText) (one : SettledStream) →
     settled_next network d before stream ≡ Ok one → IsSettledBy network d before stream one
@@ -174,7 +175,7 @@ settled_by network d before stream one e =
     let (stands, e5) = refuse-Ok (refusal_after d before stream.name) fault.Refused _ one e4 in
     let (deadline, deadline_is, e6) = and_then-Ok (deadline_of_stream network d stream) _ one e5 in
     let made : SettledStream =
-    record { name = stream.name; octets = stream.octets; pacing = stream.pacing; path = path; deadline = deadline; traffic = stream.traffic } in
+    record { name = stream.name; octets = stream.octets; pacing = stream.pacing; path = path; deadline = deadline; traffic = stream.traffic; apart = [] } in
     let same : made ≡ one = cc in
     record {
       named = not_not (is_name stream.name) (not_so (not (is_name stream.name)) unnamed);
@@ -189,6 +190,7 @@ settled_by network d before stream one e =
       octets_are = ap (λ (s : SettledStream). s.octets) same;
       pacing_is = ap (λ (s : SettledStream). s.pacing) same;
       traffic_is = ap (λ (s : SettledStream). s.traffic) same;
+      none_beside = ap (λ (s : SettledStream). s.apart) (sym same);
     }
 
 -- a stream of this name may follow those of other names: its name isn't one of theirs, and there are fewer than are allowed

@@ -1,13 +1,14 @@
 -- Streams and the outcome for each, one after the other.
 use Rattle.std.proofs.Common.{◌≡◌, ◌∙◌, ℕ, ◌+◌, ◌≤◌, ◌<◌, ◌++◌, ◌∷◌, [], All, List, Option, Some, None, ap, append_assoc, arith, drop, get_or, length, map, refl, subst, sym}
 use Rattle.std.proofs.lemmas.List.{drop_all, drop_more, get_or-map, length-map, map-append}
+use Rattle.cqf_lists.specs.Lists.{or_else}
 use Rattle.cqf_model.specs.History.{Asked}
 use Rattle.cqf_program_placing.specs.declared.outcomes.PlacingOutcome.{PlacingOutcome}
 use Rattle.cqf_program_placing.specs.declared.settled.Settled.{Settled}
 use Rattle.cqf_program_placing.specs.Placing.{BeginsEarly, PlacedOr, Placed, Unplaced, outcome_value}
 use Rattle.cqf_program_placing.specs.Settled.{SettledStream, settled_value}
 use Rattle.cqf_program_planning.specs.declared.candidates.CandidateFault.{CandidateFault}
-use Rattle.cqf_program_planning.specs.Judging.{first_unplaced, those_placed}
+use Rattle.cqf_program_planning.specs.Judging.{first_touched_in, first_unplaced, those_placed, touched_of}
 use Rattle.cqf_program_planning.specs.Steps.{those_by}
 
 -- those that are placed, from an index on; and the first that isn't
@@ -16,6 +17,9 @@ those_from streams outcomes k = those_placed (map settled_value (drop k streams)
 
 abbrev pub unplaced_from : List Settled → List PlacingOutcome → ℕ → Option CandidateFault
 unplaced_from streams outcomes k = first_unplaced (map settled_value (drop k streams)) (map outcome_value (drop k outcomes))
+
+abbrev pub touched_from : List PlacedOr → List Settled → List PlacingOutcome → ℕ → Option CandidateFault
+touched_from all streams outcomes k = first_touched_in all (map settled_value (drop k streams)) (map outcome_value (drop k outcomes))
 
 -- one and then the others
 those_one : (stream : SettledStream) (streams : List SettledStream) (become : PlacedOr) (outcomes : List PlacedOr) →
@@ -76,12 +80,32 @@ module _ (streams : List Settled) (outcomes : List PlacingOutcome) (k : ℕ) (st
       unplaced_from streams outcomes k ≡ unplaced_from streams outcomes (k + 1)
   unplaced_later h = unplaced_next ∙ h
 
+  -- the first that is touched likewise
+  touched_next : (all : List PlacedOr) → touched_from all streams outcomes k
+      ≡ or_else (touched_of all (settled_value stream) (outcome_value outcome)) (touched_from all streams outcomes (k + 1))
+  touched_next all = λ i. first_touched_in all (map settled_value (streams_rest i)) (map outcome_value (outcomes_rest i))
+
+  pub touched_here : (all : List PlacedOr) (found : CandidateFault) → touched_of all (settled_value stream) (outcome_value outcome) ≡ Some found →
+      touched_from all streams outcomes k ≡ Some found
+  touched_here all found h =
+      touched_next all ∙ ap (λ (o : Option CandidateFault). or_else o (touched_from all streams outcomes (k + 1))) h
+
+  pub touched_later : (all : List PlacedOr) → touched_of all (settled_value stream) (outcome_value outcome) ≡ None →
+      touched_from all streams outcomes k ≡ touched_from all streams outcomes (k + 1)
+  touched_later all h =
+      touched_next all ∙ ap (λ (o : Option CandidateFault). or_else o (touched_from all streams outcomes (k + 1))) h
+
 -- after the last there is none
 pub made_end : {X : Type 0} (value : (SettledStream × Asked) → X) (streams : List Settled) (outcomes : List PlacingOutcome) (k : ℕ) →
     length streams ≤ k →
     map value (those_from streams outcomes k) ≡ []
 made_end value streams outcomes k over =
     ap (λ (xs : List Settled). map value (those_placed (map settled_value xs) (map outcome_value (drop k outcomes)))) (drop_all k streams over)
+
+pub touched_end : (all : List PlacedOr) (streams : List Settled) (outcomes : List PlacingOutcome) (k : ℕ) → length streams ≤ k →
+    touched_from all streams outcomes k ≡ None
+touched_end all streams outcomes k over =
+    ap (λ (xs : List Settled). first_touched_in all (map settled_value xs) (map outcome_value (drop k outcomes))) (drop_all k streams over)
 
 pub unplaced_end : (streams : List Settled) (outcomes : List PlacingOutcome) (k : ℕ) → length streams ≤ k → unplaced_from streams outcomes k ≡ None
 unplaced_end streams outcomes k over =
