@@ -22,6 +22,7 @@ mod file_faults;
 mod forms;
 mod given;
 mod hints;
+mod key_faults;
 mod lexer;
 mod lines;
 mod link_faults;
